@@ -1,0 +1,3 @@
+-- The theorems about document 01's definitions.
+pub mod Lists
+pub mod Examples

@@ -1,0 +1,190 @@
+-- Laws of the lists, answers and tests of `Basics`.
+use mathlib.Core.Path.{_≡_, refl, ap, ap₂, sym, _∙_, subst}
+use mathlib.Core.Logic.{_⊎_, inl, inr, ⊎-elim, _↔_}
+use Prim.Native.Nat.{ℕ, zero, suc, _+_, _<_, _≤_}
+use mathlib.Core.Bool.{Bool, true, false, _||_, _&&_, not, true≢false, false≢true}
+use mathlib.Core.List.{List, [], _∷_, _++_, map, List·Memᴰ, List·Memᴰ·head, List·Memᴰ·tail, List·Memᴰ·cases-cons, List·Memᴰ·not-nil, List·Memᴰ·append-cases, Memᴰ·append-left, Memᴰ·append-right}
+use mathlib.Core.Option.{Option, none, some}
+use native.Mathlib.Omega.{arith}
+use lib.ListN.{length}
+use lib.Dec.{eqb, eqb→eq, eqb-refl, T}
+use Rattle.meaning.specs.Basics.{choose, keep, each, countFrom, upTo, isIn, every, All, _∈_, andThen, join, guard, AllO}
+
+-- Tests as types and as equations
+pub T-true : {b : Bool} → T b → b ≡ true
+T-true {b = true} t = refl
+T-true {b = false} t = absurd t
+
+pub true-T : {b : Bool} → b ≡ true → T b
+true-T e = subst T (sym e) tt
+
+pub not-T : {b : Bool} → (T b → ⊥) → b ≡ false
+not-T {b = true} f = absurd (f tt)
+not-T {b = false} f = refl
+
+pub false-not : {b : Bool} → b ≡ false → T b → ⊥
+false-not e t = subst T e t
+
+pub and-T : (a b : Bool) → T (a && b) → T a × T b
+and-T true b t = (tt, t)
+and-T false b t = absurd t
+
+pub T-and : (a b : Bool) → T a → T b → T (a && b)
+T-and true b s t = t
+T-and false b s t = absurd s
+
+pub eqb-self : (n : ℕ) → eqb n n ≡ true
+eqb-self n = T-true (eqb-refl n)
+
+pub eqb-eq : (m n : ℕ) → eqb m n ≡ true → m ≡ n
+eqb-eq m n e = eqb→eq m n (true-T e)
+
+pub eqb-other : (m n : ℕ) → (m ≡ n → ⊥) → eqb m n ≡ false
+eqb-other m n f = not-T (λ t. f (eqb→eq m n t))
+
+-- By cases on a test that is kept as an equation
+pub by-test : {A : Type 0} (b : Bool) → (b ≡ true → A) → (b ≡ false → A) → A
+by-test true f g = f refl
+by-test false f g = g refl
+
+pub choose-true : {A : Type 0} {b : Bool} (x y : A) → b ≡ true → choose b x y ≡ x
+choose-true {A} x y e = ap (λ (c : Bool). choose c x y) e
+
+pub choose-false : {A : Type 0} {b : Bool} (x y : A) → b ≡ false → choose b x y ≡ y
+choose-false {A} x y e = ap (λ (c : Bool). choose c x y) e
+
+-- Membership
+pub mem-map : {A B : Type 0} (f : A → B) {x : A} {xs : List A} → x ∈ xs → f x ∈ map f xs
+mem-map f (List·Memᴰ·head e) = List·Memᴰ·head (ap f e)
+mem-map f (List·Memᴰ·tail m) = List·Memᴰ·tail (mem-map f m)
+
+pub map-mem : {A B : Type 0} (f : A → B) (y : B) (xs : List A) → y ∈ map f xs → (x : A) × (x ∈ xs) × (y ≡ f x)
+map-mem f y [] m = absurd (List·Memᴰ·not-nil m)
+map-mem {A} {B} f y (x ∷ xs) m = go (map-mem f y xs) (List·Memᴰ·cases-cons m)
+  where
+    go : (y ∈ map f xs → (x : A) × (x ∈ xs) × (y ≡ f x)) → (y ≡ f x) ⊎ (y ∈ map f xs) → (z : A) × (z ∈ (x ∷ xs)) × (y ≡ f z)
+    go ih (inl e) = (x, List·Memᴰ·head refl, e)
+    go ih (inr q) = let r = ih q in (r .0, List·Memᴰ·tail (r .1), r .2)
+
+pub mem-keep : {A : Type 0} (p : A → Bool) (x : A) (xs : List A) → x ∈ xs → p x ≡ true → x ∈ keep p xs
+mem-keep p x [] m e = m
+mem-keep {A} p x (y ∷ ys) m e = go (p y) refl (λ q. mem-keep p x ys q e) (List·Memᴰ·cases-cons m)
+  where
+    go : (b : Bool) → p y ≡ b → (x ∈ ys → x ∈ keep p ys) → (x ≡ y) ⊎ (x ∈ ys) → x ∈ choose b (y ∷ keep p ys) (keep p ys)
+    go true q ih (inl h) = List·Memᴰ·head h
+    go true q ih (inr h) = List·Memᴰ·tail (ih h)
+    go false q ih (inl h) = absurd (true≢false (sym e ∙ ap p h ∙ q))
+    go false q ih (inr h) = ih h
+
+pub keep-mem : {A : Type 0} (p : A → Bool) (x : A) (xs : List A) → x ∈ keep p xs → (x ∈ xs) × (p x ≡ true)
+keep-mem p x [] m = absurd (List·Memᴰ·not-nil m)
+keep-mem {A} p x (y ∷ ys) m = go (p y) refl (keep-mem p x ys) m
+  where
+    under : (x ∈ ys) × (p x ≡ true) → (x ∈ (y ∷ ys)) × (p x ≡ true)
+    under r = (List·Memᴰ·tail (r .0), r .1)
+
+    go : (b : Bool) → p y ≡ b → (x ∈ keep p ys → (x ∈ ys) × (p x ≡ true)) → x ∈ choose b (y ∷ keep p ys) (keep p ys) → (x ∈ (y ∷ ys)) × (p x ≡ true)
+    go true q ih h = ⊎-elim (λ (e : x ≡ y). (List·Memᴰ·head e, ap p e ∙ q)) (λ k. under (ih k)) (List·Memᴰ·cases-cons h)
+    go false q ih h = under (ih h)
+
+pub mem-each : {A B : Type 0} (f : A → List B) (x : A) (y : B) (xs : List A) → x ∈ xs → y ∈ f x → y ∈ each f xs
+mem-each f x y [] m h = absurd (List·Memᴰ·not-nil m)
+mem-each {A} {B} f x y (z ∷ zs) m h = go (λ k. mem-each f x y zs k h) (List·Memᴰ·cases-cons m)
+  where
+    go : (x ∈ zs → y ∈ each f zs) → (x ≡ z) ⊎ (x ∈ zs) → y ∈ (f z ++ each f zs)
+    go ih (inl e) = Memᴰ·append-left (each f zs) (subst (λ (w : A). y ∈ f w) e h)
+    go ih (inr k) = Memᴰ·append-right (f z) (ih k)
+
+pub each-mem : {A B : Type 0} (f : A → List B) (y : B) (xs : List A) → y ∈ each f xs → (x : A) × (x ∈ xs) × (y ∈ f x)
+each-mem f y [] m = absurd (List·Memᴰ·not-nil m)
+each-mem {A} {B} f y (z ∷ zs) m = go (each-mem f y zs) (List·Memᴰ·append-cases (f z) m)
+  where
+    go : (y ∈ each f zs → (x : A) × (x ∈ zs) × (y ∈ f x)) → (y ∈ f z) ⊎ (y ∈ each f zs) → (x : A) × (x ∈ (z ∷ zs)) × (y ∈ f x)
+    go ih (inl h) = (z, List·Memᴰ·head refl, h)
+    go ih (inr h) = let r = ih h in (r .0, List·Memᴰ·tail (r .1), r .2)
+
+pub isIn-mem : (m : ℕ) (xs : List ℕ) → isIn m xs ≡ true → m ∈ xs
+isIn-mem m [] e = absurd (false≢true e)
+isIn-mem m (x ∷ xs) e = go (eqb m x) refl (isIn-mem m xs) e
+  where
+    go : (b : Bool) → eqb m x ≡ b → (isIn m xs ≡ true → m ∈ xs) → (b || isIn m xs) ≡ true → m ∈ (x ∷ xs)
+    go true q ih h = List·Memᴰ·head (eqb-eq m x q)
+    go false q ih h = List·Memᴰ·tail (ih h)
+
+pub mem-isIn : (m : ℕ) (xs : List ℕ) → m ∈ xs → isIn m xs ≡ true
+mem-isIn m [] h = absurd (List·Memᴰ·not-nil h)
+mem-isIn m (x ∷ xs) h = go (eqb m x) refl (mem-isIn m xs) (List·Memᴰ·cases-cons h)
+  where
+    go : (b : Bool) → eqb m x ≡ b → (m ∈ xs → isIn m xs ≡ true) → (m ≡ x) ⊎ (m ∈ xs) → (b || isIn m xs) ≡ true
+    go true q ih k = refl
+    go false q ih (inl k) = absurd (false≢true (sym q ∙ ap (eqb m) (sym k) ∙ eqb-self m))
+    go false q ih (inr k) = ih k
+
+pub not-isIn : (m : ℕ) (xs : List ℕ) → (m ∈ xs → ⊥) → isIn m xs ≡ false
+not-isIn m xs f = not-T (λ t. f (isIn-mem m xs (T-true t)))
+
+pub mem-countFrom : (k n m : ℕ) → k ≤ m → m < k + n → m ∈ countFrom k n
+mem-countFrom k zero m h g = absurd (omega arith)
+mem-countFrom k (suc n) m h g =
+    by-test (eqb m k) (λ e. List·Memᴰ·head (eqb-eq m k e)) (λ e. List·Memᴰ·tail (mem-countFrom (suc k) n m (strict e) (omega arith)))
+  where
+    strict : eqb m k ≡ false → suc k ≤ m
+    strict e = let d : (m ≡ k → ⊥) = λ q. false≢true (sym e ∙ ap (λ (x : ℕ). eqb x k) q ∙ eqb-self k) in omega arith
+
+pub countFrom-mem : (k n m : ℕ) → m ∈ countFrom k n → (k ≤ m) × (m < k + n)
+countFrom-mem k zero m h = absurd (List·Memᴰ·not-nil h)
+countFrom-mem k (suc n) m h = go (countFrom-mem (suc k) n m) (List·Memᴰ·cases-cons h)
+  where
+    go : (m ∈ countFrom (suc k) n → (suc k ≤ m) × (m < suc k + n)) → (m ≡ k) ⊎ (m ∈ countFrom (suc k) n) → (k ≤ m) × (m < k + suc n)
+    go ih (inl e) = omega arith
+    go ih (inr q) = let r = ih q in omega arith
+
+pub mem-upTo : (n m : ℕ) → m < n → m ∈ upTo n
+mem-upTo n m h = mem-countFrom 0 n m (omega arith) (omega arith)
+
+pub upTo-mem : (n m : ℕ) → m ∈ upTo n → m < n
+upTo-mem n m h = let r = countFrom-mem 0 n m h in omega arith
+
+-- Every element
+pub all-mem : {A : Type 0} (P : A → Type 0) (x : A) (xs : List A) → All P xs → x ∈ xs → P x
+all-mem P x [] a m = absurd (List·Memᴰ·not-nil m)
+all-mem P x (y ∷ ys) a m = ⊎-elim (λ (e : x ≡ y). subst P (sym e) (a .0)) (λ k. all-mem P x ys (a .1) k) (List·Memᴰ·cases-cons m)
+
+pub mem-all : {A : Type 0} (P : A → Type 0) (xs : List A) → ((x : A) → x ∈ xs → P x) → All P xs
+mem-all P [] f = tt
+mem-all P (x ∷ xs) f = (f x (List·Memᴰ·head refl), mem-all P xs (λ y m. f y (List·Memᴰ·tail m)))
+
+pub all-append : {A : Type 0} (P : A → Type 0) (xs ys : List A) → All P xs → All P ys → All P (xs ++ ys)
+all-append P [] ys a b = b
+all-append P (x ∷ xs) ys a b = (a .0, all-append P xs ys (a .1) b)
+
+pub append-all : {A : Type 0} (P : A → Type 0) (xs ys : List A) → All P (xs ++ ys) → All P xs × All P ys
+append-all P [] ys a = (tt, a)
+append-all P (x ∷ xs) ys a = let r = append-all P xs ys (a .1) in ((a .0, r .0), r .1)
+
+pub every-all : {A : Type 0} (p : A → Bool) (xs : List A) → T (every p xs) → All (λ x. p x ≡ true) xs
+every-all p [] t = tt
+every-all p (x ∷ xs) t = let r = and-T (p x) (every p xs) t in (T-true (r .0), every-all p xs (r .1))
+
+pub all-every : {A : Type 0} (p : A → Bool) (xs : List A) → All (λ x. p x ≡ true) xs → T (every p xs)
+all-every p [] a = tt
+all-every p (x ∷ xs) a = T-and (p x) (every p xs) (true-T (a .0)) (all-every p xs (a .1))
+
+-- Answers
+pub join-in : {A : Type 0} (P : A → Type 0) (x y : Option (List A)) → AllO P x → AllO P y → AllO P (join x y)
+join-in P none y h g = h
+join-in P (some x) none h g = g
+join-in P (some x) (some y) h g = all-append P x y h g
+
+pub join-out : {A : Type 0} (P : A → Type 0) (x y : Option (List A)) → AllO P (join x y) → AllO P x × AllO P y
+join-out P none y h = absurd h
+join-out P (some x) none h = absurd h
+join-out P (some x) (some y) h = append-all P x y h
+
+pub guard-in : {A : Type 0} (P : A → Type 0) (b : Bool) (w : Option (List A)) → T b → AllO P w → AllO P (guard b w)
+guard-in P true w t h = h
+guard-in P false w t h = absurd t
+
+pub guard-out : {A : Type 0} (P : A → Type 0) (b : Bool) (w : Option (List A)) → AllO P (guard b w) → T b × AllO P w
+guard-out P true w h = (tt, h)
+guard-out P false w h = absurd h

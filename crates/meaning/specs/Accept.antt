@@ -1,0 +1,34 @@
+-- The checks after reading, and acceptance: "A problem is accepted when none of 1 to 14 applies."
+use Prim.Native.Nat.{ℕ}
+use mathlib.Core.Bool.{Bool, true, false, _&&_, _||_, not}
+use mathlib.Core.List.{List, [], _∷_}
+use mathlib.Core.Option.{Option, none, some}
+use lib.ListN.{length}
+use lib.Dec.{ltb}
+use Rattle.meaning.specs.Limits.{metavariableCount, maxFunctions, maxFaceNodes}
+use Rattle.meaning.specs.Basics.{choose, every, upTo, isSome}
+use Rattle.meaning.specs.Term.{one, size}
+use Rattle.meaning.specs.Problem.{Problem, isFunction, isPlain, functions}
+use Rattle.meaning.specs.Face.{faces}
+use Rattle.meaning.specs.Row.{faceOf}
+use Rattle.meaning.specs.Field.{Bytes}
+use Rattle.meaning.specs.Read.{Answer, refused, got, after, readProblem}
+
+-- "12 a metavariable both as function and not"
+unfoldable pub bothWays : Problem → Bool
+bothWays p = not (every (λ m. not (isFunction p m && isPlain p m)) (upTo metavariableCount))
+
+-- "14 a face over 64 nodes", "if shapes agree"
+unfoldable pub overlarge : Problem → Bool
+overlarge p = isSome (faces p) && not (every (λ f. not (ltb maxFaceNodes (size (one (faceOf p f))))) (functions p))
+
+-- "after reading: 12; 13 over 8 functions", then "faces, if shapes agree: 14"
+unfoldable pub checkProblem : Problem → Answer Problem
+checkProblem p =
+    choose (bothWays p) (refused 12)
+    (choose (ltb maxFunctions (length (functions p))) (refused 13)
+    (choose (overlarge p) (refused 14)
+    (got p)))
+
+unfoldable pub accept : Bytes → Answer Problem
+accept s = after (readProblem s) checkProblem

@@ -1,0 +1,75 @@
+-- Lists, answers and tests that the definitions share.
+--   choose   if .. then .. else
+--   keep     the elements that pass a test, in order
+--   each     a list for each element, joined in order
+--   upTo     0, 1, .., n - 1
+--   All, Any every element, some element
+use mathlib.Core.Path.{_≡_}
+use Prim.Native.Nat.{ℕ, zero, suc}
+use mathlib.Core.Bool.{Bool, true, false, _||_, _&&_}
+use mathlib.Core.List.{List, [], _∷_, _++_, List·Memᴰ}
+use mathlib.Core.Option.{Option, none, some}
+use lib.Dec.{eqb}
+
+abbrev pub choose : {A : Type 0} → Bool → A → A → A
+choose true a b = a
+choose false a b = b
+
+abbrev pub keep : {A : Type 0} → (A → Bool) → List A → List A
+keep p [] = []
+keep p (x ∷ xs) = choose (p x) (x ∷ keep p xs) (keep p xs)
+
+abbrev pub each : {A B : Type 0} → (A → List B) → List A → List B
+each f [] = []
+each f (x ∷ xs) = f x ++ each f xs
+
+abbrev pub countFrom : ℕ → ℕ → List ℕ
+countFrom k zero = []
+countFrom k (suc n) = k ∷ countFrom (suc k) n
+
+abbrev pub upTo : ℕ → List ℕ
+upTo n = countFrom 0 n
+
+abbrev pub isIn : ℕ → List ℕ → Bool
+isIn m [] = false
+isIn m (x ∷ xs) = eqb m x || isIn m xs
+
+abbrev pub every : {A : Type 0} → (A → Bool) → List A → Bool
+every p [] = true
+every p (x ∷ xs) = p x && every p xs
+
+abbrev pub All : {A : Type 0} → (A → Type 0) → List A → Type 0
+All P [] = Unit {0}
+All P (x ∷ xs) = P x × All P xs
+
+abbrev pub _∈_ : {A : Type 0} → A → List A → Type 0
+x ∈ xs = List·Memᴰ x xs
+
+infix 40 _∈_
+-- An answer that may be missing, and what follows from it
+abbrev pub andThen : {A B : Type 0} → Option A → (A → Option B) → Option B
+andThen none f = none
+andThen (some a) f = f a
+
+abbrev pub orNone : {A : Type 0} → Option (List A) → List A
+orNone none = []
+orNone (some xs) = xs
+
+abbrev pub isSome : {A : Type 0} → Option A → Bool
+isSome none = false
+isSome (some a) = true
+
+-- Two answers that are lists: both must be there
+abbrev pub join : {A : Type 0} → Option (List A) → Option (List A) → Option (List A)
+join none y = none
+join (some x) none = none
+join (some x) (some y) = some (x ++ y)
+
+abbrev pub guard : {A : Type 0} → Bool → Option A → Option A
+guard true w = w
+guard false w = none
+
+-- Every element of a list that is there
+abbrev pub AllO : {A : Type 0} → (A → Type 0) → Option (List A) → Type 0
+AllO P none = ⊥
+AllO P (some xs) = All P xs

@@ -1,0 +1,139 @@
+-- The starred examples of document 01 as problems with what each must give.
+--   Case    a problem, by its constraints, and the solutions' texts in order
+-- Notation for terms as they are written in document 01: capitals are metavariables, P and Q functions.
+use Prim.Native.Nat.{ℕ}
+use mathlib.Core.List.{List, [], _∷_}
+use lib.ListN.{length}
+use Rattle.meaning.specs.Term.{nil, one, symbol, variable, application, binder, own, slot, metavariable, function, hole, NamedTerm}
+use Rattle.meaning.specs.Problem.{Constraint, Problem, forestOf}
+use Rattle.meaning.specs.Filling.{Entry, leftOpen, value, body}
+use Rattle.meaning.specs.Text.{Item}
+
+pub record Case : Type 0 where
+  pub problem : Problem
+  pub texts : List (List Item)
+
+abbrev sym : ℕ → NamedTerm
+sym n = (own (symbol n), nil)
+
+abbrev var : ℕ → NamedTerm
+var x = (own (variable x), nil)
+
+abbrev app : List NamedTerm → NamedTerm
+app ts = (own (application (length ts)), forestOf ts)
+
+-- "∀x.t": binder 1
+abbrev all : ℕ → NamedTerm → NamedTerm
+all x t = (own (binder 1 x), one t)
+
+abbrev meta : ℕ → NamedTerm
+meta m = (slot (metavariable m), nil)
+
+abbrev call : ℕ → NamedTerm → NamedTerm
+call f t = (slot (function f), one t)
+
+abbrev box : NamedTerm
+box = (slot (hole 0), nil)
+
+abbrev infixed : ℕ → NamedTerm → NamedTerm → NamedTerm
+infixed op t u = app (sym op ∷ t ∷ u ∷ [])
+
+-- Equations, sums, inequations, conjunctions by the number of their symbol
+abbrev equals : NamedTerm → NamedTerm → NamedTerm
+equals t u = infixed 10 t u
+
+abbrev plus : NamedTerm → NamedTerm → NamedTerm
+plus t u = infixed 11 t u
+
+abbrev unequal : NamedTerm → NamedTerm → NamedTerm
+unequal t u = infixed 12 t u
+
+abbrev and : NamedTerm → NamedTerm → NamedTerm
+and t u = infixed 13 t u
+
+abbrev con : NamedTerm → NamedTerm → Constraint
+con p e = record { pattern = p; expression = e }
+
+abbrev P : NamedTerm → NamedTerm
+P t = call 0 t
+
+abbrev X : NamedTerm
+X = meta 1
+
+abbrev Y : NamedTerm
+Y = meta 2
+
+abbrev bodyP : NamedTerm → Item
+bodyP t = (0, body t)
+
+abbrev isX : NamedTerm → Item
+isX t = (1, value t)
+
+abbrev openX : Item
+openX = (1, leftOpen)
+
+abbrev isY : NamedTerm → Item
+isY t = (2, value t)
+
+-- "no constraint: one solution, empty text"
+abbrev pub noConstraint : Case
+noConstraint = record { problem = []; texts = [] ∷ [] }
+
+-- "(P(X), s), s symbol 5, P 0, X 1"
+abbrev pub oneSymbol : Case
+oneSymbol = record {
+  problem = con (P X) (sym 5) ∷ [];
+  texts = (bodyP box ∷ isX (sym 5) ∷ []) ∷ (bodyP (sym 5) ∷ openX ∷ []) ∷ [];
+}
+
+-- "(X, a), (X, b): none"
+abbrev pub twoValues : Case
+twoValues = record { problem = con X (sym 6) ∷ con X (sym 7) ∷ []; texts = [] }
+
+-- "(P(1), 1+1): □+□, □+1, 1+□, 1+1, in this order"
+abbrev pub onePlusOne : Case
+onePlusOne = record {
+  problem = con (P (sym 1)) (plus (sym 1) (sym 1)) ∷ [];
+  texts = (bodyP (plus box box) ∷ []) ∷ (bodyP (plus box (sym 1)) ∷ []) ∷ (bodyP (plus (sym 1) box) ∷ []) ∷ (bodyP (plus (sym 1) (sym 1)) ∷ []) ∷ [];
+}
+
+-- "001's example 3, (P(1)∧P(2), 0≠1∧0≠2): only 0≠□"
+abbrev pub twoApplications : Case
+twoApplications = record {
+  problem = con (and (P (sym 1)) (P (sym 2))) (and (unequal (sym 0) (sym 1)) (unequal (sym 0) (sym 2))) ∷ [];
+  texts = (bodyP (unequal (sym 0) box) ∷ []) ∷ [];
+}
+
+-- "(∀x.X, ∀y.y): none"
+abbrev pub boundValue : Case
+boundValue = record { problem = con (all 3 X) (all 4 (var 4)) ∷ []; texts = [] }
+
+-- "(∀x.P(x), ∀y.a): only the body a"
+abbrev pub unusedVariable : Case
+unusedVariable = record { problem = con (all 3 (P (var 3))) (all 4 (sym 6)) ∷ []; texts = (bodyP (sym 6) ∷ []) ∷ [] }
+
+-- "(P(X), ∀y.y=z): holes at the root, at =, at z, none"
+abbrev pub underBinder : Case
+underBinder = record {
+  problem = con (P X) (all 4 (equals (var 4) (var 5))) ∷ [];
+  texts =
+      (bodyP box ∷ isX (all 4 (equals (var 4) (var 5))) ∷ [])
+      ∷ (bodyP (all 4 (app (box ∷ var 4 ∷ var 5 ∷ []))) ∷ isX (sym 10) ∷ [])
+      ∷ (bodyP (all 4 (equals (var 4) box)) ∷ isX (var 5) ∷ [])
+      ∷ (bodyP (all 4 (equals (var 4) (var 5))) ∷ openX ∷ [])
+      ∷ [];
+}
+
+-- "the same with (P(Y), ∀w.w=y): two, root and z; Y is y, not caught"
+abbrev pub notCaught : Case
+notCaught = record {
+  problem = con (P X) (all 4 (equals (var 4) (var 5))) ∷ con (P Y) (all 6 (equals (var 6) (var 4))) ∷ [];
+  texts =
+      (bodyP box ∷ isX (all 4 (equals (var 4) (var 5))) ∷ isY (all 6 (equals (var 6) (var 4))) ∷ [])
+      ∷ (bodyP (all 4 (equals (var 4) box)) ∷ isX (var 5) ∷ isY (var 4) ∷ [])
+      ∷ [];
+}
+
+abbrev pub starred : List Case
+starred =
+    noConstraint ∷ oneSymbol ∷ twoValues ∷ onePlusOne ∷ twoApplications ∷ boundValue ∷ unusedVariable ∷ underBinder ∷ notCaught ∷ []

@@ -1,0 +1,148 @@
+-- Choices: which nodes of a face become holes.
+--   Marks     one mark for each node of the face in preorder: none, or the place of the argument whose hole the node becomes
+--   Owner     a binder outside a node, seen from the face: a node of the face, or a binder above the face (0 the innermost)
+--   punch     "the face with these nodes as holes"
+use mathlib.Core.Path.{_≡_}
+use Prim.Native.Nat.{ℕ, zero, suc, _+_, _<_}
+use mathlib.Core.Bool.{Bool, true, false, _&&_, _||_, not}
+use mathlib.Core.List.{List, [], _∷_, _++_, map}
+use mathlib.Core.Option.{Option, none, some}
+use lib.ListN.{length, drop, getElem?}
+use lib.Dec.{eqb}
+use Rattle.meaning.specs.Basics.{choose, keep, each, upTo, every}
+use Rattle.meaning.specs.Term.{Forest, nil, cons, Tree, one, size, Own, symbol, variable, application, binder, Label, own, slot, hole, Nameless, Terms, Term}
+use Rattle.meaning.specs.Equal.{Seen, seenFree, inside, outside, View, view, sameView}
+
+abbrev pub Mark : Type 0
+Mark = Option ℕ
+
+abbrev pub Marks : Type 0
+Marks = List Mark
+
+abbrev pub mark : Marks → Mark
+mark [] = none
+mark (m ∷ ms) = m
+
+abbrev pub rest : Marks → Marks
+rest [] = []
+rest (m ∷ ms) = ms
+
+-- "The body of a choice is the face with these nodes as holes"
+abbrev pub punchNode : {X B : Type 0} → Mark → Label X B → Forest (Label X B) → Forest (Label X B) → Forest (Label X B)
+punchNode none l c s = cons l c s
+punchNode (some i) l c s = cons (slot (hole i)) nil s
+
+abbrev pub punch : {X B : Type 0} → Marks → Forest (Label X B) → Forest (Label X B)
+punch ms nil = nil
+punch ms (cons l c s) = punchNode (mark ms) l (punch (rest ms) c) (punch (drop (size c) (rest ms)) s)
+
+-- The holes of a set: "a body's number of holes is the size of its set"
+abbrev pub holeCount : Marks → ℕ
+holeCount [] = 0
+holeCount (none ∷ ms) = holeCount ms
+holeCount (some i ∷ ms) = suc (holeCount ms)
+
+-- Which binder an index that reaches out of a node belongs to; above the node stand these binders of the face, the innermost first
+pub data Owner : Type 0 where
+  nodeOfFace : ℕ → Owner
+  aboveFace : ℕ → Owner
+
+abbrev pub ownerOf : List ℕ → ℕ → Owner
+ownerOf [] i = aboveFace i
+ownerOf (b ∷ bs) zero = nodeOfFace b
+ownerOf (b ∷ bs) (suc i) = ownerOf bs i
+
+abbrev pub sameOwner : Owner → Owner → Bool
+sameOwner (nodeOfFace m) (nodeOfFace n) = eqb m n
+sameOwner (nodeOfFace m) (aboveFace n) = false
+sameOwner (aboveFace m) (nodeOfFace n) = false
+sameOwner (aboveFace m) (aboveFace n) = eqb m n
+
+-- The binders above the children of node n
+abbrev pub below : ℕ → Nameless → List ℕ → List ℕ
+below n (own (symbol m)) bs = bs
+below n (own (variable v)) bs = bs
+below n (own (application m)) bs = bs
+below n (own (binder b x)) bs = n ∷ bs
+below n (slot z) bs = bs
+
+-- Each node's subexpression as it is seen from outside it, in preorder; n is the number of the first
+abbrev pub viewsFrom : List ℕ → ℕ → Terms → List (View Owner)
+viewsFrom bs n nil = []
+viewsFrom bs n (cons l c s) =
+    view (ownerOf bs) (one (l, c)) ∷ (viewsFrom (below n l bs) (suc n) c ++ viewsFrom bs (suc n + size c) s)
+
+abbrev pub views : Term → List (View Owner)
+views face = viewsFrom [] 0 (one face)
+
+-- Whether a view has a variable that is "bound inside the face above it"
+abbrev pub ofFace : Seen Owner → Bool
+ofFace (seenFree x) = false
+ofFace (inside i) = false
+ofFace (outside (nodeOfFace n)) = true
+ofFace (outside (aboveFace j)) = false
+
+abbrev pub usesLabel : Label (Seen Owner) (Unit {0}) → Bool
+usesLabel (own (symbol n)) = false
+usesLabel (own (variable v)) = ofFace v
+usesLabel (own (application n)) = false
+usesLabel (own (binder b x)) = false
+usesLabel (slot z) = false
+
+abbrev pub usesFace : View Owner → Bool
+usesFace nil = false
+usesFace (cons l c s) = usesLabel l || (usesFace c || usesFace s)
+
+-- "A choice for a function is a set of nodes of its face whose subexpressions are all equal. A node that uses a variable bound inside
+-- the face above it is in no choice." With n places: equal among the nodes of one place
+pub record Choice (n : ℕ) (face : Term) (ms : Marks) : Type 0 where
+  pub long : length ms ≡ size (one face)
+  pub places : (k i : ℕ) → getElem? ms k ≡ some (some i) → i < n
+  pub equal : (j k i : ℕ) → getElem? ms j ≡ some (some i) → getElem? ms k ≡ some (some i) → getElem? (views face) j ≡ getElem? (views face) k
+  pub unbound : (k i : ℕ) (u : View Owner) → getElem? ms k ≡ some (some i) → getElem? (views face) k ≡ some u → usesFace u ≡ false
+
+-- The same as a test. The views of the nodes that become hole i
+abbrev pub isPlace : ℕ → Mark → Bool
+isPlace i none = false
+isPlace i (some j) = eqb i j
+
+abbrev pub chosen : ℕ → Marks → List (View Owner) → List (View Owner)
+chosen i [] us = []
+chosen i (m ∷ ms) [] = []
+chosen i (m ∷ ms) (u ∷ us) = choose (isPlace i m) (u ∷ chosen i ms us) (chosen i ms us)
+
+abbrev pub sameOwned : View Owner → View Owner → Bool
+sameOwned u v = sameView sameOwner u v
+
+abbrev pub allSame : List (View Owner) → Bool
+allSame [] = true
+allSame (u ∷ us) = every (sameOwned u) us
+
+abbrev pub fitsPlace : List (View Owner) → Marks → ℕ → Bool
+fitsPlace us ms i = allSame (chosen i ms us) && every (λ u. not (usesFace u)) (chosen i ms us)
+
+abbrev pub isChoice : ℕ → Term → Marks → Bool
+isChoice n face ms = every (fitsPlace (views face) ms) (upTo n)
+
+-- "Of two choices the earlier is the one that has the lowest node in which they differ": a hole comes before none, and the hole of an
+-- earlier place before that of a later one
+abbrev pub Before : Mark → Mark → Type 0
+Before none m = ⊥
+Before (some i) none = Unit {0}
+Before (some i) (some j) = i < j
+
+pub data Earlier : Marks → Marks → Type 0 where
+  here : {m m′ : Mark} {ms ms′ : Marks} → Before m m′ → Earlier (m ∷ ms) (m′ ∷ ms′)
+  later : {m : Mark} {ms ms′ : Marks} → Earlier ms ms′ → Earlier (m ∷ ms) (m ∷ ms′)
+
+-- All ways to mark so many nodes, in that order
+abbrev pub marksOf : ℕ → List Mark
+marksOf n = map some (upTo n) ++ (none ∷ [])
+
+abbrev pub allMarks : ℕ → ℕ → List Marks
+allMarks n zero = [] ∷ []
+allMarks n (suc size) = each (λ (m : Mark). map (λ (ms : Marks). m ∷ ms) (allMarks n size)) (marksOf n)
+
+-- The choices of a face in order
+abbrev pub choices : ℕ → Term → List Marks
+choices n face = keep (isChoice n face) (allMarks n (size (one face)))

@@ -1,0 +1,34 @@
+-- The limits of document 01, each named once.
+use Prim.Native.Nat.{ℕ}
+
+-- "of at most 4,096 bytes" (refusal 1)
+unfoldable pub maxInput : ℕ
+maxInput = 4096
+
+-- "A problem is 0 to 16 constraints" (refusal 11)
+unfoldable pub maxConstraints : ℕ
+maxConstraints = 16
+
+-- "a term directly inside another has one more, at most 32" (refusals 5 and 20)
+unfoldable pub maxDepth : ℕ
+maxDepth = 32
+
+-- "number 0 to 31": how many metavariables there can be (refusals 10 and 20)
+unfoldable pub metavariableCount : ℕ
+metavariableCount = 32
+
+-- "over 8 functions" (refusal 13)
+unfoldable pub maxFunctions : ℕ
+maxFunctions = 8
+
+-- "A face has at most 64 nodes" (refusal 14)
+unfoldable pub maxFaceNodes : ℕ
+maxFaceNodes = 64
+
+-- "text over 8,192 bytes" (refusal 19)
+unfoldable pub maxText : ℕ
+maxText = 8192
+
+-- The places of a function: m(t) has one argument, and a body has holes for that one.
+unfoldable pub placeCount : ℕ
+placeCount = 1

@@ -1,0 +1,65 @@
+-- Which problems have bytes: the limits and content rules of "Fields of a problem" as conditions on terms.
+--   NodeFits      what the table of tags says of one node: where it may stand, its numbers, how many inner terms it has
+--   Readable      every node fits, and no term is deeper than the levels that are left
+--   WithinLimits  a problem that can be read
+--   Accepted      "A problem is accepted when none of 1 to 14 applies", said of the problem itself
+use mathlib.Core.Path.{_≡_}
+use Prim.Native.Nat.{ℕ, zero, suc, _<_, _≤_, _^_}
+use mathlib.Core.List.{List}
+use lib.ListN.{length}
+use Rattle.meaning.specs.Limits.{maxInput, maxConstraints, maxDepth, metavariableCount, placeCount}
+use Rattle.meaning.specs.Basics.{All}
+use Rattle.meaning.specs.Term.{Forest, nil, cons, one, trees, symbol, variable, application, binder, own, slot, metavariable, function, hole, Named}
+use Rattle.meaning.specs.Problem.{Constraint, Problem}
+use Rattle.meaning.specs.Field.{encodeProblem}
+use Rattle.meaning.specs.Read.{got, Context, inPattern, inArgument, inExpression, inBody, contextBelow}
+use Rattle.meaning.specs.Accept.{checkProblem}
+
+-- Where tags 5, 6 and 10 may stand
+abbrev pub MetavariableAt : Context → Type 0
+MetavariableAt inPattern = Unit {0}
+MetavariableAt inArgument = Unit {0}
+MetavariableAt inExpression = ⊥
+MetavariableAt inBody = ⊥
+
+abbrev pub FunctionAt : Context → Type 0
+FunctionAt inPattern = Unit {0}
+FunctionAt inArgument = ⊥
+FunctionAt inExpression = ⊥
+FunctionAt inBody = ⊥
+
+abbrev pub HoleAt : Context → Type 0
+HoleAt inPattern = ⊥
+HoleAt inArgument = ⊥
+HoleAt inExpression = ⊥
+HoleAt inBody = Unit {0}
+
+-- "number, 2 bytes"
+abbrev pub TwoBytes : ℕ → Type 0
+TwoBytes n = n < 65536
+
+abbrev pub NodeFits : Context → Named → Forest Named → Type 0
+NodeFits ctx (own (symbol n)) c = TwoBytes n × (c ≡ nil)
+NodeFits ctx (own (variable x)) c = TwoBytes x × (c ≡ nil)
+NodeFits ctx (own (application n)) c = (n ≡ trees c) × (0 < n)
+NodeFits ctx (own (binder b x)) c = TwoBytes b × TwoBytes x × (trees c ≡ 1)
+NodeFits ctx (slot (metavariable m)) c = MetavariableAt ctx × (m < metavariableCount) × (c ≡ nil)
+NodeFits ctx (slot (function f)) c = FunctionAt ctx × (f < metavariableCount) × (trees c ≡ placeCount)
+NodeFits ctx (slot (hole i)) c = HoleAt ctx × (i < placeCount) × (c ≡ nil)
+
+abbrev pub Readable : ℕ → Context → Forest Named → Type 0
+Readable levels ctx nil = Unit {0}
+Readable zero ctx (cons l c s) = ⊥
+Readable (suc levels) ctx (cons l c s) = NodeFits ctx l c × Readable levels (contextBelow l ctx) c × Readable (suc levels) ctx s
+
+abbrev pub ReadableConstraint : Constraint → Type 0
+ReadableConstraint c = Readable maxDepth inPattern (one (c .pattern)) × Readable maxDepth inExpression (one (c .expression))
+
+pub record WithinLimits (p : Problem) : Type 0 where
+  pub constraints : All ReadableConstraint p
+  pub count : length p ≤ maxConstraints
+  pub input : length (encodeProblem p) ≤ maxInput
+
+pub record Accepted (p : Problem) : Type 0 where
+  pub within : WithinLimits p
+  pub checked : checkProblem p ≡ got p

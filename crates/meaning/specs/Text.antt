@@ -1,0 +1,123 @@
+-- Solution texts: what is written for a solution row, what a text says, and which texts pass.
+--   Item      a metavariable with what the text says of it: "8 (value), 9 (body), 11 (open)"
+--   textOf    the items written for a row: "one field for each metavariable that occurs, ascending"
+--   Says      the filling that a text names
+--   Passes    the checker says yes
+use mathlib.Core.Path.{_≡_}
+use Prim.Native.Nat.{ℕ, zero, suc}
+use mathlib.Core.Bool.{Bool, true, false}
+use mathlib.Core.List.{List, [], _∷_, _++_, map}
+use mathlib.Core.Option.{Option, none, some}
+use lib.ListN.{length, drop, getD}
+use lib.Dec.{eqb, ltb}
+use Rattle.meaning.specs.Limits.{maxDepth, maxText, metavariableCount}
+use Rattle.meaning.specs.Basics.{choose, each, orNone, _∈_}
+use Rattle.meaning.specs.Term.{nil, one, nodeAt, slot, hole, NamedTerm, Term}
+use Rattle.meaning.specs.Scope.{namelessTerm}
+use Rattle.meaning.specs.Problem.{Problem, namedExpressions, isFunction, functions, metavariables}
+use Rattle.meaning.specs.Filling.{Entry, absent, leftOpen, value, body, Filling}
+use Rattle.meaning.specs.Solution.{Solution}
+use Rattle.meaning.specs.Face.{Face, faces, firstFace}
+use Rattle.meaning.specs.Row.{Row, choiceIn, punchTerm}
+use Rattle.meaning.specs.Value.{Source, sources, lookup}
+use Rattle.meaning.specs.Field.{Bytes, field, encode}
+use Rattle.meaning.specs.Read.{Answer, refused, got, after, Context, inExpression, inBody, Parts, partsOf, readTerm}
+
+abbrev pub Item : Type 0
+Item = ℕ × Entry NamedTerm
+
+-- "Bodies and values are copied from the problem with its bound names": the term at a node of the expressions
+abbrev pub termOr : Option NamedTerm → NamedTerm
+termOr none = (slot (hole 0), nil)
+termOr (some t) = t
+
+abbrev pub termAt : Problem → ℕ → NamedTerm
+termAt p n = termOr (nodeAt n (namedExpressions p))
+
+abbrev pub faceNode : Option Face → ℕ
+faceNode none = 0
+faceNode (some x) = x .node
+
+abbrev pub writtenBody : Problem → Row → ℕ → Entry NamedTerm
+writtenBody p r f = body (punchTerm (choiceIn (functions p) r f) (termAt p (faceNode (firstFace f (orNone (faces p))))))
+
+abbrev pub writtenValue : Problem → Option Source → Entry NamedTerm
+writtenValue p none = leftOpen
+writtenValue p (some x) = value (termAt p (x .node))
+
+unfoldable pub entryOf : Problem → Row → ℕ → Entry NamedTerm
+entryOf p r m = choose (isFunction p m) (writtenBody p r m) (writtenValue p (lookup m (sources p r)))
+
+unfoldable pub textOf : Problem → Row → List Item
+textOf p r = map (λ m. (m, entryOf p r m)) (metavariables p)
+
+abbrev pub encodeEntry : ℕ → Entry NamedTerm → Bytes
+encodeEntry m absent = []
+encodeEntry m leftOpen = field 11 (m ∷ [])
+encodeEntry m (value t) = field 8 (m ∷ encode (one t))
+encodeEntry m (body t) = field 9 (m ∷ encode (one t))
+
+unfoldable pub encodeText : List Item → Bytes
+encodeText is = each (λ (i : Item). encodeEntry (i .0) (i .1)) is
+
+-- Reading a text: 19, then 20 for whatever is not as above
+abbrev pub orTwenty : {A : Type 0} → Answer A → Answer A
+orTwenty (refused r) = refused 20
+orTwenty (got a) = got a
+
+-- "8 (value: number, 1 byte, then an expression), 9 (body: number, 1 byte, then an expression in which 10 may stand for a term)"
+unfoldable pub readNumbered : Context → (NamedTerm → Entry NamedTerm) → Bytes → Answer Item
+readNumbered ctx says s =
+    choose (ltb 0 (length s))
+    (choose (ltb (getD s 0 0) metavariableCount)
+    (after (readTerm maxDepth ctx (drop 1 s)) (λ x. choose (eqb (length (x .1)) 0) (got (getD s 0 0, says (x .0))) (refused 20)))
+    (refused 20))
+    (refused 20)
+
+-- "11 (open: number, 1 byte)"
+unfoldable pub readOpen : Bytes → Answer Item
+readOpen s = choose (eqb (length s) 1) (choose (ltb (getD s 0 0) metavariableCount) (got (getD s 0 0, leftOpen)) (refused 20)) (refused 20)
+
+unfoldable pub readItem : Parts → Answer Item
+readItem p =
+    choose (eqb (p .tag) 8) (readNumbered inExpression value (p .content))
+    (choose (eqb (p .tag) 9) (readNumbered inBody body (p .content))
+    (choose (eqb (p .tag) 11) (readOpen (p .content))
+    (refused 20)))
+
+-- Each field has 3 bytes or more, so that as many items as there are bytes are enough
+unfoldable pub readItems : ℕ → Bytes → Answer (List Item)
+readItems zero s = got []
+readItems (suc n) s =
+    let more : Answer (List Item) = after (partsOf s) (λ p. after (readItem p) (λ i. after (readItems n (p .later)) (λ is. got (i ∷ is)))) in
+    choose (eqb (length s) 0) (got []) more
+
+-- "19 text over 8,192 bytes; 20 not fields 8, 9, 11 with contents as above, depth over 32 (its term has depth 1), or metavariable over 31"
+unfoldable pub readText : Bytes → Answer (List Item)
+readText s = choose (ltb maxText (length s)) (refused 19) (orTwenty (readItems (length s) s))
+
+-- What an item's term means
+abbrev pub meant : Entry NamedTerm → Entry Term
+meant absent = absent
+meant leftOpen = leftOpen
+meant (value t) = value (namelessTerm [] t)
+meant (body t) = body (namelessTerm [] t)
+
+abbrev pub said : List Item → Filling
+said [] m = absent
+said (i ∷ is) m = choose (eqb m (i .0)) (meant (i .1)) (said is m)
+
+-- No metavariable twice
+abbrev pub Distinct : List ℕ → Type 0
+Distinct [] = Unit {0}
+Distinct (m ∷ ms) = (m ∈ ms → ⊥) × Distinct ms
+
+-- "fields in any order, bound names free"; "A wrong, missing or double metavariable is a no."
+pub record Says (is : List Item) (σ : Filling) : Type 0 where
+  pub once : Distinct (map (λ (i : Item). i .0) is)
+  pub names : (m : ℕ) → σ m ≡ said is m
+
+pub record Passes (p : Problem) (is : List Item) : Type 0 where
+  pub filling : Filling
+  pub says : Says is filling
+  pub solution : Solution p filling

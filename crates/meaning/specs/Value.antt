@@ -1,0 +1,93 @@
+-- Where the values of a row come from, and the full list.
+--   Source     a metavariable, and a node of the expressions whose subexpression it stands for
+--   candidate  the one filling that a row can be the solution row of
+--   solves     whether it is a solution
+--   fullList   "its solution rows in row order, each with its one solution"
+use mathlib.Core.Path.{_≡_}
+use Prim.Native.Nat.{ℕ, zero, suc}
+use mathlib.Core.Bool.{Bool, true, false, _&&_}
+use mathlib.Core.List.{List, [], _∷_, _++_, map}
+use mathlib.Core.Option.{Option, none, some}
+use lib.Dec.{eqb}
+use Rattle.meaning.specs.Limits.{placeCount}
+use Rattle.meaning.specs.Basics.{choose, keep, each, every, upTo, andThen, orNone}
+use Rattle.meaning.specs.Term.{one, Slot, metavariable, function, hole, Terms, Term}
+use Rattle.meaning.specs.Shift.{lowerTerm, isClosed}
+use Rattle.meaning.specs.Equal.{sameTerms}
+use Rattle.meaning.specs.Problem.{Problem, patterns, expressions, isFunction, isPlain, metavariables}
+use Rattle.meaning.specs.Filling.{argument, Entry, absent, leftOpen, value, body, Filling, filled}
+use Rattle.meaning.specs.Face.{Face, walk, faces}
+use Rattle.meaning.specs.Row.{Row, rows, rowBody}
+
+pub record Source : Type 0 where
+  pub number : ℕ
+  pub node : ℕ
+  pub term : Term
+
+-- What a metavariable faces
+abbrev pub sourceAt : Slot → ℕ → Term → List Source
+sourceAt (metavariable m) n t = record { number = m; node = n; term = t } ∷ []
+sourceAt (function f) n t = []
+sourceAt (hole i) n t = []
+
+abbrev pub sourceOf : Face → List Source
+sourceOf x = sourceAt (x .what) (x .node) (x .term)
+
+-- "at the position of the body's lowest hole"
+abbrev pub isHole : ℕ → Slot → Bool
+isHole i (metavariable m) = false
+isHole i (function f) = false
+isHole i (hole j) = eqb i j
+
+abbrev pub lowestHole : ℕ → List Face → Option Face
+lowestHole i [] = none
+lowestHole i (x ∷ xs) = choose (isHole i (x .what)) (some x) (lowestHole i xs)
+
+-- The argument's metavariables against the subexpression at a hole h, without the binders of the body above it; k binders are above
+-- the application
+abbrev pub fromHole : ℕ → Term → Option Face → List Source
+fromHole k t none = []
+fromHole k t (some h) = each sourceOf (orNone (andThen (lowerTerm (h .under) (h .term)) (λ u. walk k (h .node) (one t) (one u))))
+
+-- "in the subexpression which this application faces", for each place in turn
+abbrev pub fromApplication : (ℕ → Term) → Face → Slot → List Source
+fromApplication b x (metavariable m) = []
+fromApplication b x (function f) =
+    each (λ i. fromHole (x .under) (argument (x .children) i) (lowestHole i (orNone (walk 0 (x .node) (one (b f)) (one (x .term)))))) (upTo placeCount)
+fromApplication b x (hole i) = []
+
+-- "A value comes from the metavariable's first occurrence outside arguments, else from the first application whose function has a hole
+-- and whose argument has that metavariable"
+abbrev pub sourcesIn : (ℕ → Term) → List Face → List Source
+sourcesIn b xs = each sourceOf xs ++ each (λ x. fromApplication b x (x .what)) xs
+
+abbrev pub sources : Problem → Row → List Source
+sources p r = sourcesIn (rowBody p r) (orNone (faces p))
+
+abbrev pub lookup : ℕ → List Source → Option Source
+lookup m [] = none
+lookup m (x ∷ xs) = choose (eqb m (x .number)) (some x) (lookup m xs)
+
+abbrev pub given : Option Source → Entry Term
+given none = leftOpen
+given (some x) = value (x .term)
+
+unfoldable pub candidate : Problem → Row → Filling
+candidate p r m = choose (isFunction p m) (body (rowBody p r m)) (choose (isPlain p m) (given (lookup m (sources p r))) absent)
+
+-- "Values and bodies have no variable bound outside themselves"
+abbrev pub isClosedEntry : Entry Term → Bool
+isClosedEntry absent = true
+isClosedEntry leftOpen = true
+isClosedEntry (value t) = isClosed 0 (one t)
+isClosedEntry (body b) = isClosed 0 (one b)
+
+unfoldable pub solves : Problem → Row → Bool
+solves p r =
+    sameTerms (filled (candidate p r) (patterns p)) (expressions p) && every (λ m. isClosedEntry (candidate p r m)) (metavariables p)
+
+unfoldable pub solutionRows : Problem → List Row
+solutionRows p = keep (solves p) (rows p)
+
+unfoldable pub fullList : Problem → List (Row × Filling)
+fullList p = map (λ r. (r, candidate p r)) (solutionRows p)
