@@ -1,3 +1,4 @@
 -- The theorems about document 01's definitions.
 pub mod Lists
+pub mod ShiftLaws
 pub mod Examples
