@@ -1,4 +1,5 @@
 -- The theorems about document 01's definitions.
 pub mod Lists
 pub mod ShiftLaws
+pub mod Punching
 pub mod Examples
