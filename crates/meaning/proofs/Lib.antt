@@ -2,4 +2,6 @@
 pub mod Lists
 pub mod ShiftLaws
 pub mod Punching
+pub mod Alike
+pub mod Lockstep
 pub mod Examples

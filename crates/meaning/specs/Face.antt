@@ -1,6 +1,7 @@
 -- The walk, and the faces that it finds.
 --   walk     pattern and expression "walked together from the top": none where they disagree
 --   Face     what a slot of the pattern faces: the number of binders above, the slot with its children, the node, the subexpression there
+--   Satisfied  a face whose slot is filled to just what it faces
 use mathlib.Core.Path.{_≡_}
 use Prim.Native.Nat.{ℕ, zero, suc, _+_}
 use mathlib.Core.Bool.{Bool, true, false}
@@ -11,6 +12,7 @@ use Rattle.meaning.specs.Basics.{choose, join, guard}
 use Rattle.meaning.specs.Term.{Forest, nil, cons, Tree, size, Own, Label, own, slot, Slot, metavariable, function, hole, Variable, Nameless, Terms, Term, inner}
 use Rattle.meaning.specs.Equal.{sameOwn, sameVariable}
 use Rattle.meaning.specs.Problem.{Problem, patterns, expressions}
+use Rattle.meaning.specs.Filling.{Handler, fill}
 
 pub record Face : Type 0 where
   pub under : ℕ
@@ -51,3 +53,7 @@ isApplication f (hole i) = false
 abbrev pub firstFace : ℕ → List Face → Option Face
 firstFace f [] = none
 firstFace f (x ∷ xs) = choose (isApplication f (x .what)) (some x) (firstFace f xs)
+
+-- A slot under so many binders, with its children filled, is what it faces
+abbrev pub Satisfied : Handler → Face → Type 0
+Satisfied h x = h (x .under) (x .what) (fill h (x .under) (x .children)) ≡ x .term
