@@ -4,4 +4,5 @@ pub mod ShiftLaws
 pub mod Punching
 pub mod Alike
 pub mod Lockstep
+pub mod Proper
 pub mod Examples

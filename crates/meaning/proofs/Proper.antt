@@ -1,0 +1,198 @@
+-- What an accepted problem is like: the facts that the theorems on solutions use.
+--   IsPattern    functions are applied to as many arguments as they have places, and there is none inside an argument
+--   Proper       expressions are expressions, patterns are patterns, and no metavariable is used both ways
+use mathlib.Core.Path.{_≡_, refl, ap, ap₂, sym, _∙_, subst}
+use mathlib.Core.Logic.{_⊎_, inl, inr, ⊎-elim, _↔_}
+use Prim.Native.Nat.{ℕ, zero, suc, _+_, _<_}
+use mathlib.Core.Bool.{Bool, true, false, _&&_, _||_, not, true≢false, false≢true}
+use mathlib.Core.List.{List, [], _∷_, _++_, map, List·Memᴰ·append-cases, List·Memᴰ·cases-cons, List·Memᴰ·not-nil}
+use native.Mathlib.Omega.{arith}
+use lib.ListN.{length}
+use lib.Dec.{T, ltb}
+use Rattle.meaning.specs.Limits.{metavariableCount, maxFunctions, placeCount, maxDepth}
+use Rattle.meaning.specs.Basics.{choose, keep, every, upTo, All, _∈_}
+use Rattle.meaning.specs.Term.{Forest, nil, cons, Tree, graft, one, trees, relabel, Own, symbol, variable, application, binder, Label, own, slot, metavariable, function, hole, Named, Nameless, NamedTerm, Terms, Term, ownLabel, IsExpression}
+use Rattle.meaning.specs.Scope.{enter, namelessLabel, nameless}
+use Rattle.meaning.specs.Problem.{Constraint, Problem, forestOf, patterns, expressions, plain, applied, isFunction, isPlain, functions, metavariables}
+use Rattle.meaning.specs.Filling.{bodyLabel, IsBody}
+use Rattle.meaning.specs.Read.{Answer, refused, got, Context, inPattern, inArgument, inExpression, inBody, contextBelow}
+use Rattle.meaning.specs.Accept.{bothWays, overlarge, checkProblem}
+use Rattle.meaning.specs.Readable.{NodeFits, Readable, ReadableConstraint, WithinLimits, Accepted}
+use Rattle.meaning.proofs.Lists.{T-true, true-T, by-test, choose-true, choose-false, mem-keep, keep-mem, isIn-mem, mem-isIn, mem-upTo, upTo-mem, all-mem, every-all}
+
+-- In an argument there are only metavariables besides the expression's own nodes
+abbrev pub argumentLabel : Nameless → Terms → Type 0
+argumentLabel (own o) c = Unit {0}
+argumentLabel (slot (metavariable m)) c = c ≡ nil
+argumentLabel (slot (function f)) c = ⊥
+argumentLabel (slot (hole i)) c = ⊥
+
+abbrev pub IsArgument : Terms → Type 0
+IsArgument nil = Unit {0}
+IsArgument (cons l c s) = argumentLabel l c × IsArgument c × IsArgument s
+
+abbrev pub patternLabel : Nameless → Terms → Type 0
+patternLabel (own o) c = Unit {0}
+patternLabel (slot (metavariable m)) c = c ≡ nil
+patternLabel (slot (function f)) c = (trees c ≡ placeCount) × IsArgument c
+patternLabel (slot (hole i)) c = ⊥
+
+abbrev pub IsPattern : Terms → Type 0
+IsPattern nil = Unit {0}
+IsPattern (cons l c s) = patternLabel l c × IsPattern c × IsPattern s
+
+pub record Proper (p : Problem) : Type 0 where
+  pub expression : IsExpression (expressions p)
+  pub pattern : IsPattern (patterns p)
+  pub separate : (m : ℕ) → m ∈ applied (patterns p) → m ∈ plain (patterns p) → ⊥
+  pub smallApplied : (m : ℕ) → m ∈ applied (patterns p) → m < metavariableCount
+  pub smallPlain : (m : ℕ) → m ∈ plain (patterns p) → m < metavariableCount
+
+-- Names resolved: the shape stays
+pub relabel-trees : {E L M : Type 0} (into : L → E → E) (f : E → L → M) (e : E) (u : Forest L) → trees (relabel into f e u) ≡ trees u
+relabel-trees into f e nil = refl
+relabel-trees into f e (cons l c s) = ap suc (relabel-trees into f e s)
+
+pub relabel-nil : {E L M : Type 0} (into : L → E → E) (f : E → L → M) (e : E) (u : Forest L) → u ≡ nil → relabel into f e u ≡ nil
+relabel-nil into f e u h = ap (relabel into f e) h
+
+-- An application's levels are none where there is no node
+readable-expression : (levels : ℕ) (sc : List ℕ) (u : Forest Named) → Readable levels inExpression u → IsExpression (nameless sc u)
+unfolding contextBelow
+readable-expression levels sc nil h = tt
+readable-expression zero sc (cons l c s) h = absurd h
+readable-expression (suc levels) sc (cons (own (symbol n)) c s) h = (tt, readable-expression levels sc c (h .1), readable-expression (suc levels) sc s (h .2))
+readable-expression (suc levels) sc (cons (own (variable x)) c s) h = (tt, readable-expression levels sc c (h .1), readable-expression (suc levels) sc s (h .2))
+readable-expression (suc levels) sc (cons (own (application n)) c s) h = (tt, readable-expression levels sc c (h .1), readable-expression (suc levels) sc s (h .2))
+readable-expression (suc levels) sc (cons (own (binder b x)) c s) h = (tt, readable-expression levels (x ∷ sc) c (h .1), readable-expression (suc levels) sc s (h .2))
+readable-expression (suc levels) sc (cons (slot (metavariable m)) c s) h = absurd (h .0 .0)
+readable-expression (suc levels) sc (cons (slot (function f)) c s) h = absurd (h .0 .0)
+readable-expression (suc levels) sc (cons (slot (hole i)) c s) h = absurd (h .0 .0)
+
+readable-argument : (levels : ℕ) (sc : List ℕ) (u : Forest Named) → Readable levels inArgument u → IsArgument (nameless sc u)
+unfolding contextBelow
+readable-argument levels sc nil h = tt
+readable-argument zero sc (cons l c s) h = absurd h
+readable-argument (suc levels) sc (cons (own (symbol n)) c s) h = (tt, readable-argument levels sc c (h .1), readable-argument (suc levels) sc s (h .2))
+readable-argument (suc levels) sc (cons (own (variable x)) c s) h = (tt, readable-argument levels sc c (h .1), readable-argument (suc levels) sc s (h .2))
+readable-argument (suc levels) sc (cons (own (application n)) c s) h = (tt, readable-argument levels sc c (h .1), readable-argument (suc levels) sc s (h .2))
+readable-argument (suc levels) sc (cons (own (binder b x)) c s) h = (tt, readable-argument levels (x ∷ sc) c (h .1), readable-argument (suc levels) sc s (h .2))
+readable-argument (suc levels) sc (cons (slot (metavariable m)) c s) h =
+    (relabel-nil enter namelessLabel sc c (h .0 .2), readable-argument levels sc c (h .1), readable-argument (suc levels) sc s (h .2))
+readable-argument (suc levels) sc (cons (slot (function f)) c s) h = absurd (h .0 .0)
+readable-argument (suc levels) sc (cons (slot (hole i)) c s) h = absurd (h .0 .0)
+
+-- An argument is a pattern
+argument-pattern : (u : Terms) → IsArgument u → IsPattern u
+argument-pattern nil h = tt
+argument-pattern (cons (own o) c s) h = (tt, argument-pattern c (h .1), argument-pattern s (h .2))
+argument-pattern (cons (slot (metavariable m)) c s) h = (h .0, argument-pattern c (h .1), argument-pattern s (h .2))
+argument-pattern (cons (slot (function f)) c s) h = absurd (h .0)
+argument-pattern (cons (slot (hole i)) c s) h = absurd (h .0)
+
+readable-pattern : (levels : ℕ) (sc : List ℕ) (u : Forest Named) → Readable levels inPattern u → IsPattern (nameless sc u)
+unfolding contextBelow
+readable-pattern levels sc nil h = tt
+readable-pattern zero sc (cons l c s) h = absurd h
+readable-pattern (suc levels) sc (cons (own (symbol n)) c s) h = (tt, readable-pattern levels sc c (h .1), readable-pattern (suc levels) sc s (h .2))
+readable-pattern (suc levels) sc (cons (own (variable x)) c s) h = (tt, readable-pattern levels sc c (h .1), readable-pattern (suc levels) sc s (h .2))
+readable-pattern (suc levels) sc (cons (own (application n)) c s) h = (tt, readable-pattern levels sc c (h .1), readable-pattern (suc levels) sc s (h .2))
+readable-pattern (suc levels) sc (cons (own (binder b x)) c s) h = (tt, readable-pattern levels (x ∷ sc) c (h .1), readable-pattern (suc levels) sc s (h .2))
+readable-pattern (suc levels) sc (cons (slot (metavariable m)) c s) h =
+    let a : IsArgument (nameless sc c) = readable-argument levels sc c (h .1) in
+    (relabel-nil enter namelessLabel sc c (h .0 .2), argument-pattern (nameless sc c) a, readable-pattern (suc levels) sc s (h .2))
+readable-pattern (suc levels) sc (cons (slot (function f)) c s) h =
+    let a : IsArgument (nameless sc c) = readable-argument levels sc c (h .1) in
+    ((relabel-trees enter namelessLabel sc c ∙ h .0 .2, a), argument-pattern (nameless sc c) a, readable-pattern (suc levels) sc s (h .2))
+readable-pattern (suc levels) sc (cons (slot (hole i)) c s) h = absurd (h .0 .0)
+
+-- Two bounds on numbers hold of two joined lists
+Small : List ℕ → List ℕ → Type 0
+Small xs ys = ((m : ℕ) → m ∈ xs → m < metavariableCount) × ((m : ℕ) → m ∈ ys → m < metavariableCount)
+
+both : (xs xs′ ys ys′ : List ℕ) → Small xs ys → Small xs′ ys′ → Small (xs ++ xs′) (ys ++ ys′)
+unfolding Small
+both xs xs′ ys ys′ h g =
+    (λ m q. ⊎-elim (h .0 m) (g .0 m) (List·Memᴰ·append-cases xs q), λ m q. ⊎-elim (h .1 m) (g .1 m) (List·Memᴰ·append-cases ys q))
+
+-- The metavariables of a readable forest are small numbers
+readable-small : (levels : ℕ) (ctx : Context) (sc : List ℕ) (u : Forest Named) → Readable levels ctx u
+  → Small (applied (nameless sc u)) (plain (nameless sc u))
+unfolding Small
+readable-small levels ctx sc nil h = (λ m q. absurd (List·Memᴰ·not-nil q), λ m q. absurd (List·Memᴰ·not-nil q))
+readable-small zero ctx sc (cons l c s) h = absurd h
+readable-small (suc levels) ctx sc (cons (own (symbol n)) c s) h =
+    both (applied (nameless sc c)) (applied (nameless sc s)) (plain (nameless sc c)) (plain (nameless sc s)) (readable-small levels (contextBelow (own (symbol n)) ctx) sc c (h .1)) (readable-small (suc levels) ctx sc s (h .2))
+readable-small (suc levels) ctx sc (cons (own (variable x)) c s) h =
+    both (applied (nameless sc c)) (applied (nameless sc s)) (plain (nameless sc c)) (plain (nameless sc s)) (readable-small levels (contextBelow (own (variable x)) ctx) sc c (h .1)) (readable-small (suc levels) ctx sc s (h .2))
+readable-small (suc levels) ctx sc (cons (own (application n)) c s) h =
+    both (applied (nameless sc c)) (applied (nameless sc s)) (plain (nameless sc c)) (plain (nameless sc s)) (readable-small levels (contextBelow (own (application n)) ctx) sc c (h .1)) (readable-small (suc levels) ctx sc s (h .2))
+readable-small (suc levels) ctx sc (cons (own (binder b x)) c s) h =
+    both (applied (nameless (x ∷ sc) c)) (applied (nameless sc s)) (plain (nameless (x ∷ sc) c)) (plain (nameless sc s)) (readable-small levels (contextBelow (own (binder b x)) ctx) (x ∷ sc) c (h .1)) (readable-small (suc levels) ctx sc s (h .2))
+readable-small (suc levels) ctx sc (cons (slot (metavariable m)) c s) h =
+    let r = readable-small (suc levels) ctx sc s (h .2) in
+    (r .0, λ k q. ⊎-elim (λ (e : k ≡ m). subst (λ (x : ℕ). x < metavariableCount) (sym e) (h .0 .1)) (r .1 k) (List·Memᴰ·cases-cons q))
+readable-small (suc levels) ctx sc (cons (slot (function f)) c s) h =
+    let r = both (applied (nameless sc c)) (applied (nameless sc s)) (plain (nameless sc c)) (plain (nameless sc s)) (readable-small levels (contextBelow (slot (function f)) ctx) sc c (h .1)) (readable-small (suc levels) ctx sc s (h .2)) in
+    (λ k q. ⊎-elim (λ (e : k ≡ f). subst (λ (x : ℕ). x < metavariableCount) (sym e) (h .0 .1)) (r .0 k) (List·Memᴰ·cases-cons q), r .1)
+readable-small (suc levels) ctx sc (cons (slot (hole i)) c s) h = readable-small (suc levels) ctx sc s (h .2)
+
+-- A list of readable terms is a readable forest
+readable-forest : (levels : ℕ) (ctx : Context) (ts : List NamedTerm) → All (λ t. Readable levels ctx (one t)) ts → Readable levels ctx (forestOf ts)
+readable-forest levels ctx [] h = tt
+readable-forest zero ctx (t ∷ ts) h = absurd (h .0)
+readable-forest (suc levels) ctx (t ∷ ts) h = (h .0 .0, h .0 .1, readable-forest (suc levels) ctx ts (h .1))
+
+patterns-readable : (cs : Problem) → All ReadableConstraint cs → All (λ t. Readable maxDepth inPattern (one t)) (map (λ (c : Constraint). c .pattern) cs)
+patterns-readable [] h = tt
+patterns-readable (c ∷ cs) h = (h .0 .0, patterns-readable cs (h .1))
+
+expressions-readable : (cs : Problem) → All ReadableConstraint cs → All (λ t. Readable maxDepth inExpression (one t)) (map (λ (c : Constraint). c .expression) cs)
+expressions-readable [] h = tt
+expressions-readable (c ∷ cs) h = (h .0 .1, expressions-readable cs (h .1))
+
+-- 12 does not apply
+pub not-both-ways : (p : Problem) → checkProblem p ≡ got p → bothWays p ≡ false
+unfolding checkProblem
+not-both-ways p e =
+    by-test (bothWays p)
+      (λ h. absurd (let z : _≡_ {A = ℕ} 0 1 = cc (choose-true {A = Answer Problem} (refused 12) (choose (ltb maxFunctions (length (functions p))) (refused 13) (choose (overlarge p) (refused 14) (got p))) h) in omega arith))
+      (λ h. h)
+
+separated : (p : Problem) → bothWays p ≡ false → (m : ℕ) → m < metavariableCount → m ∈ applied (patterns p) → m ∈ plain (patterns p) → ⊥
+unfolding bothWays
+separated p e m small a b =
+    let ok : T (every (λ x. not (isFunction p x && isPlain p x)) (upTo metavariableCount)) = not-not (every (λ x. not (isFunction p x && isPlain p x)) (upTo metavariableCount)) e in
+    let f : not (isFunction p m && isPlain p m) ≡ true =
+        all-mem (λ x. not (isFunction p x && isPlain p x) ≡ true) m (upTo metavariableCount)
+          (every-all (λ x. not (isFunction p x && isPlain p x)) (upTo metavariableCount) ok) (mem-upTo metavariableCount m small) in
+    let x : isFunction p m ≡ true = mem-isIn m (applied (patterns p)) a in
+    let y : isPlain p m ≡ true = mem-isIn m (plain (patterns p)) b in
+    false≢true (sym (ap₂ (λ (u v : Bool). not (u && v)) x y) ∙ f)
+  where
+    not-not : (b : Bool) → not b ≡ false → T b
+    not-not true q = tt
+    not-not false q = absurd (true≢false q)
+
+pub accepted-proper : (p : Problem) → Accepted p → Proper p
+unfolding Small
+accepted-proper p a =
+    let ps = readable-forest maxDepth inPattern (map (λ (c : Constraint). c .pattern) p) (patterns-readable p (a .within .constraints)) in
+    let es = readable-forest maxDepth inExpression (map (λ (c : Constraint). c .expression) p) (expressions-readable p (a .within .constraints)) in
+    let small = readable-small maxDepth inPattern [] (forestOf (map (λ (c : Constraint). c .pattern) p)) ps in
+    record {
+      expression = readable-expression maxDepth [] (forestOf (map (λ (c : Constraint). c .expression) p)) es;
+      pattern = readable-pattern maxDepth [] (forestOf (map (λ (c : Constraint). c .pattern) p)) ps;
+      separate = λ m x y. separated p (not-both-ways p (a .checked)) m (small .0 m x) x y;
+      smallApplied = small .0;
+      smallPlain = small .1
+    }
+
+-- The ascending lists hold just the metavariables that occur
+pub functions-applied : (p : Problem) (f : ℕ) → f ∈ functions p → f ∈ applied (patterns p)
+unfolding functions
+functions-applied p f h = isIn-mem f (applied (patterns p)) (keep-mem (isFunction p) f (upTo metavariableCount) h .1)
+
+pub applied-functions : (p : Problem) → Proper p → (f : ℕ) → f ∈ applied (patterns p) → f ∈ functions p
+unfolding functions
+applied-functions p c f h = mem-keep (isFunction p) f (upTo metavariableCount) (mem-upTo metavariableCount f (c .smallApplied f h)) (mem-isIn f (applied (patterns p)) h)
