@@ -5,4 +5,6 @@ pub mod Punching
 pub mod Alike
 pub mod Lockstep
 pub mod Proper
+pub mod Slots
+pub mod CallLaws
 pub mod Examples

@@ -3,7 +3,8 @@
 --   keep     the elements that pass a test, in order
 --   each     a list for each element, joined in order
 --   upTo     0, 1, .., n - 1
---   All, Any every element, some element
+--   All      every element
+--   Distinct no element twice
 use mathlib.Core.Path.{_≡_}
 use Prim.Native.Nat.{ℕ, zero, suc}
 use mathlib.Core.Bool.{Bool, true, false, _||_, _&&_}
@@ -46,6 +47,11 @@ abbrev pub _∈_ : {A : Type 0} → A → List A → Type 0
 x ∈ xs = List·Memᴰ x xs
 
 infix 40 _∈_
+-- No element twice
+abbrev pub Distinct : {A : Type 0} → List A → Type 0
+Distinct [] = Unit {0}
+Distinct (x ∷ xs) = (x ∈ xs → ⊥) × Distinct xs
+
 -- An answer that may be missing, and what follows from it
 abbrev pub andThen : {A B : Type 0} → Option A → (A → Option B) → Option B
 andThen none f = none

@@ -1,15 +1,17 @@
 -- Lists of calls: "0 or more search calls on one accepted problem. The first gets the start. Each later one gets the place that the call
 -- before it left, whether the caller carries it or the open search keeps it".
---   Call     an allowance and the answer to it
---   left     the place that a call leaves
---   Run      a list of calls in which the caller carries the place
---   Kept     a list of calls on an open search, with the place that it holds after each
+--   Call         an allowance and the answer to it
+--   left         the place that a call leaves
+--   Run          a list of calls in which the caller carries the place
+--   Kept         a list of calls on an open search, with the place that it holds after each
+--   ThirdDemand  what a list of calls owes as a whole
 use mathlib.Core.Path.{_≡_}
-use Prim.Native.Nat.{ℕ, zero, suc, _+_}
-use mathlib.Core.Bool.{Bool, true, false}
+use Prim.Native.Nat.{ℕ, zero, suc, _+_, _<_}
+use mathlib.Core.Bool.{Bool}
 use mathlib.Core.List.{List, [], _∷_, _++_, map}
-use Rattle.meaning.specs.Basics.{_∈_}
-use Rattle.meaning.specs.Search.{Place, at, past, Reply, found, end, paused, refusedCall, Searches}
+use lib.ListN.{length, take}
+use Rattle.meaning.specs.Basics.{keep, _∈_}
+use Rattle.meaning.specs.Search.{Place, past, Reply, found, end, paused, refusedCall, Searches}
 
 pub record Call (R : Type 0) : Type 0 where
   pub allowance : ℕ
@@ -35,6 +37,9 @@ abbrev pub Kept : {R : Type 0} → (R → Bool) → List R → Place R → List 
 Kept isSolution rs place [] = Unit {0}
 Kept isSolution rs place (c ∷ cs) =
     Searches isSolution rs place (c .call .allowance) (c .call .reply) × (c .holds ≡ left place (c .call .reply)) × Kept isSolution rs (c .holds) cs
+
+abbrev pub callsOf : {R : Type 0} → List (KeptCall R) → List (Call R)
+callsOf cs = map (λ c. c .call) cs
 
 -- The rows of the Founds, in the order of the calls
 abbrev pub foundIn : {R : Type 0} → Reply R → List R
@@ -63,3 +68,13 @@ allowed (suc n) = 1
 abbrev pub positive : {R : Type 0} → List (Call R) → ℕ
 positive [] = 0
 positive (c ∷ cs) = allowed (c .allowance) + positive cs
+
+-- "The third demand is a single claim about the whole list of calls, and not one for each call": rs are the rows of the problem, so that
+-- `keep isSolution rs` are the rows of the full list
+pub record ThirdDemand {R : Type 0} (isSolution : R → Bool) (rs : List R) (cs : List (Call R)) : Type 0 where
+  -- "with k Founds in it, their rows in the order of the calls equal the first k rows of the full list"
+  pub prefix : founds cs ≡ take (length (founds cs)) (keep isSolution rs)
+  -- "If it has an End, k is the full list's length"
+  pub whole : HasEnd cs → length (founds cs) ≡ length (keep isSolution rs)
+  -- "If more of its calls have n above 0 than the problem has rows, it has an End"
+  pub ends : length rs < positive cs → HasEnd cs

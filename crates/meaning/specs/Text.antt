@@ -11,7 +11,7 @@ use mathlib.Core.Option.{Option, none, some}
 use lib.ListN.{length, drop, getD}
 use lib.Dec.{eqb, ltb}
 use Rattle.meaning.specs.Limits.{maxDepth, maxText, metavariableCount}
-use Rattle.meaning.specs.Basics.{choose, each, orNone, _∈_}
+use Rattle.meaning.specs.Basics.{choose, each, orNone, Distinct}
 use Rattle.meaning.specs.Term.{nil, one, nodeAt, slot, hole, NamedTerm, Term}
 use Rattle.meaning.specs.Scope.{namelessTerm}
 use Rattle.meaning.specs.Problem.{Problem, namedExpressions, isFunction, functions, metavariables}
@@ -106,11 +106,6 @@ meant (body t) = body (namelessTerm [] t)
 abbrev pub said : List Item → Filling
 said [] m = absent
 said (i ∷ is) m = choose (eqb m (i .0)) (meant (i .1)) (said is m)
-
--- No metavariable twice
-abbrev pub Distinct : List ℕ → Type 0
-Distinct [] = Unit {0}
-Distinct (m ∷ ms) = (m ∈ ms → ⊥) × Distinct ms
 
 -- "fields in any order, bound names free"; "A wrong, missing or double metavariable is a no."
 pub record Says (is : List Item) (σ : Filling) : Type 0 where
