@@ -6,6 +6,7 @@ pub mod Term
 pub mod Scope
 pub mod Shift
 pub mod Equal
+pub mod Rename
 pub mod Problem
 pub mod Field
 pub mod Read
