@@ -6,6 +6,7 @@ pub mod Alike
 pub mod Lockstep
 pub mod Proper
 pub mod Slots
+pub mod Sources
 pub mod Renaming
 pub mod ViewLaws
 pub mod CallLaws
