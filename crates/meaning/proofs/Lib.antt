@@ -7,6 +7,7 @@ pub mod Lockstep
 pub mod Proper
 pub mod Slots
 pub mod Sources
+pub mod Candidate
 pub mod Renaming
 pub mod ViewLaws
 pub mod CallLaws

@@ -47,7 +47,7 @@ pub walked : (h : Handler) (k n : ℕ) (p e : Terms) → fill h k p ≡ e → Wa
 walked h k n p e q = walked-from h k n p e (walk-in h k n p e q)
 
 -- What a source is the source of
-source-at : (z : Slot) (n : ℕ) (t : Term) (s : Source) → s ∈ sourceAt z n t → (z ≡ metavariable (s .number)) × (s .term ≡ t)
+pub source-at : (z : Slot) (n : ℕ) (t : Term) (s : Source) → s ∈ sourceAt z n t → (z ≡ metavariable (s .number)) × (s .term ≡ t)
 source-at (metavariable m) n t s q =
     let e = List·Memᴰ·eq-of-singleton q in (ap (λ (x : Source). metavariable (x .number)) (sym e), ap (λ (x : Source). x .term) e)
 source-at (function f) n t s q = absurd (List·Memᴰ·not-nil q)
@@ -57,7 +57,7 @@ source-at (hole i) n t s q = absurd (List·Memᴰ·not-nil q)
 abbrev pub HasSource : ℕ → List Source → Type 0
 HasSource m ss = (s : Source) × (s ∈ ss) × (s .number ≡ m)
 
-face-source : (x : Face) (m : ℕ) (xs : List Face) → x ∈ xs → x .what ≡ metavariable m → HasSource m (each sourceOf xs)
+pub face-source : (x : Face) (m : ℕ) (xs : List Face) → x ∈ xs → x .what ≡ metavariable m → HasSource m (each sourceOf xs)
 face-source x m xs q e =
     let s : Source = record { number = m; node = x .node; term = x .term } in
     let i : s ∈ sourceOf x = subst (λ (z : Slot). s ∈ sourceAt z (x .node) (x .term)) (sym e) (List·Memᴰ·head refl) in
