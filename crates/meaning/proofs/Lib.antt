@@ -1,14 +1,22 @@
 -- The theorems about document 01's definitions.
 pub mod Lists
+-- Terms and their equality
 pub mod ShiftLaws
-pub mod Punching
 pub mod Alike
+pub mod Renaming
+pub mod ViewLaws
+-- Choices and rows
+pub mod Ordered
+pub mod ChoiceLaws
+pub mod Lowered
+-- Solutions
+pub mod Punching
 pub mod Lockstep
 pub mod Proper
 pub mod Slots
 pub mod Sources
 pub mod Candidate
-pub mod Renaming
-pub mod ViewLaws
+-- The search
 pub mod CallLaws
+-- Examples
 pub mod Examples

@@ -9,7 +9,7 @@ use mathlib.Core.List.{List, [], _∷_, _++_, map}
 use mathlib.Core.Option.{Option, none, some}
 use lib.ListN.{length, drop, getElem?}
 use lib.Dec.{eqb}
-use Rattle.meaning.specs.Basics.{choose, keep, each, upTo, every}
+use Rattle.meaning.specs.Basics.{choose, keep, each, upTo, every, _∈_}
 use Rattle.meaning.specs.Term.{Forest, nil, cons, Tree, one, size, Own, symbol, variable, application, binder, Label, own, slot, hole, Nameless, Terms, Term}
 use Rattle.meaning.specs.Equal.{Seen, seenFree, inside, outside, View, view, sameView}
 
@@ -134,6 +134,11 @@ Before (some i) (some j) = i < j
 pub data Earlier : Marks → Marks → Type 0 where
   here : {m m′ : Mark} {ms ms′ : Marks} → Before m m′ → Earlier (m ∷ ms) (m′ ∷ ms′)
   later : {m : Mark} {ms ms′ : Marks} → Earlier ms ms′ → Earlier (m ∷ ms) (m ∷ ms′)
+
+-- A list in order: each element stands in R to all that come after it
+pub data Ordered {A : Type 0} (R : A → A → Type 0) : List A → Type 0 where
+  empty : Ordered R []
+  more : {x : A} {xs : List A} → ((y : A) → y ∈ xs → R x y) → Ordered R xs → Ordered R (x ∷ xs)
 
 -- All ways to mark so many nodes, in that order
 abbrev pub marksOf : ℕ → List Mark

@@ -1,5 +1,6 @@
 -- Rows: one choice for each function.
 --   Row          "one choice for each function, by ascending metavariable number"
+--   IsRow        a row of a problem, in document 01's words
 --   rows         all of them, "ordered by the first function that differs"; none where a shape disagrees
 --   SolutionRow  "a solution row if some solution has these bodies"
 use mathlib.Core.Path.{_≡_}
@@ -9,13 +10,13 @@ use mathlib.Core.List.{List, [], _∷_, _++_, map}
 use mathlib.Core.Option.{Option, none, some}
 use lib.Dec.{eqb}
 use Rattle.meaning.specs.Limits.{placeCount}
-use Rattle.meaning.specs.Basics.{choose, each, orNone, _∈_}
+use Rattle.meaning.specs.Basics.{choose, each, orNone, isSome, _∈_}
 use Rattle.meaning.specs.Term.{Forest, nil, cons, Tree, Label, own, slot, function, hole, Terms, Term}
 use Rattle.meaning.specs.Problem.{Problem, functions}
 use Rattle.meaning.specs.Filling.{body, Filling}
 use Rattle.meaning.specs.Solution.{Solution}
 use Rattle.meaning.specs.Face.{Face, faces, firstFace}
-use Rattle.meaning.specs.Choice.{Mark, Marks, mark, rest, punch, Earlier, choices}
+use Rattle.meaning.specs.Choice.{Mark, Marks, mark, rest, punch, Choice, Earlier, choices}
 
 abbrev pub Row : Type 0
 Row = List Marks
@@ -40,6 +41,18 @@ rowsOver p (some xs) = product (map (λ f. choices placeCount (faceOf p f)) (fun
 -- "If they disagree anywhere, the problem has no rows"; "With no function and agreeing shapes there is one row, the empty one"
 unfoldable pub rows : Problem → List Row
 rows p = rowsOver p (faces p)
+
+-- "A row is one choice for each function, by ascending metavariable number"
+abbrev pub ChoiceEach : Problem → List ℕ → Row → Type 0
+ChoiceEach p [] [] = Unit {0}
+ChoiceEach p [] (c ∷ r) = ⊥
+ChoiceEach p (f ∷ fs) [] = ⊥
+ChoiceEach p (f ∷ fs) (c ∷ r) = Choice placeCount (faceOf p f) c × ChoiceEach p fs r
+
+-- "If they disagree anywhere, the problem has no rows"
+pub record IsRow (p : Problem) (r : Row) : Type 0 where
+  pub agree : isSome (faces p) ≡ true
+  pub choice : ChoiceEach p (functions p) r
 
 -- The order of rows
 pub data EarlierRow : Row → Row → Type 0 where
