@@ -11,6 +11,7 @@ pub mod ChoiceLaws
 pub mod Lowered
 -- Solutions
 pub mod Punching
+pub mod BodyChoice
 pub mod Lockstep
 pub mod Proper
 pub mod Slots
