@@ -43,7 +43,7 @@ module _ (p : Problem) (σ : Filling) (b : ℕ → Term) (fit : Fitting p σ b) 
   pub theWalk : Walked (fillHandler σ) 0 0 (patterns p) (expressions p)
   theWalk = walked (fillHandler σ) 0 0 (patterns p) (expressions p) (fit .meets)
 
-  faced : (x : Face) → x ∈ theWalk .found → IsExpression (one (x .term))
+  pub faced : (x : Face) → x ∈ theWalk .found → IsExpression (one (x .term))
   faced = faces-expression 0 0 (patterns p) (expressions p) (theWalk .found) (fit .proper .expression) (theWalk .defined)
 
   slotOf : (x : Face) → x ∈ theWalk .found → (z : Slot) → x .what ≡ z → (z, x .children) ∈ slots (patterns p)
@@ -62,7 +62,7 @@ module _ (p : Problem) (σ : Filling) (b : ℕ → Term) (fit : Fitting p σ b) 
         needed = refl
       }
 
-  shapeOf : (f : ℕ) (x : Face) → x ∈ theWalk .found → x .what ≡ function f → (trees (x .children) ≡ placeCount) × IsArgument (x .children)
+  pub shapeOf : (f : ℕ) (x : Face) → x ∈ theWalk .found → x .what ≡ function f → (trees (x .children) ≡ placeCount) × IsArgument (x .children)
   shapeOf f x q e = pattern-slot (patterns p) (fit .proper .pattern) f (x .children) (slotOf x q (function f) e)
 
   appliedAt : (f : ℕ) (x : Face) → x ∈ theWalk .found → x .what ≡ function f → f ∈ applied (patterns p)
@@ -175,13 +175,13 @@ module _ (p : Problem) (r : Row) where
   sources-found : (σ : Filling) (fit : Fitting p σ (rowBody p r)) → sources p r ≡ sourcesIn (rowBody p r) (theWalk p σ (rowBody p r) fit .found)
   sources-found σ fit = ap (λ (o : Option (List Face)). sourcesIn (rowBody p r) (orNone o)) (theWalk p σ (rowBody p r) fit .defined)
 
-  fitting-source : (σ : Filling) → Fitting p σ (rowBody p r) → (m : ℕ) (s : Source) → lookup m (sources p r) ≡ some s → Right p σ s × (s .number ≡ m)
+  pub fitting-source : (σ : Filling) → Fitting p σ (rowBody p r) → (m : ℕ) (s : Source) → lookup m (sources p r) ≡ some s → Right p σ s × (s .number ≡ m)
   fitting-source σ fit m s e =
       let i = lookup-is m (sources p r) s e in
       (source-right p σ (rowBody p r) fit s (subst (λ (l : List Source). s ∈ l) (sources-found σ fit) (i .0)), i .1)
 
   -- A metavariable without a source is idle
-  fitting-idle : (σ : Filling) → Fitting p σ (rowBody p r) → (m : ℕ) → lookup m (sources p r) ≡ none → Idle p σ m
+  pub fitting-idle : (σ : Filling) → Fitting p σ (rowBody p r) → (m : ℕ) → lookup m (sources p r) ≡ none → Idle p σ m
   fitting-idle σ fit m e w i =
       by-test (needs σ w)
         (λ n. absurd (lookup-none m (sources p r) e

@@ -5,6 +5,12 @@ pub mod ShiftLaws
 pub mod Alike
 pub mod Renaming
 pub mod ViewLaws
+-- Reading and encoding
+pub mod ByteLaws
+pub mod NodeReading
+pub mod TermReading
+pub mod ProblemReading
+pub mod TextReading
 -- Choices and rows
 pub mod Ordered
 pub mod ChoiceLaws
@@ -17,7 +23,9 @@ pub mod Proper
 pub mod Slots
 pub mod Sources
 pub mod Candidate
+pub mod Solutions
 -- The search
 pub mod CallLaws
 -- Examples
 pub mod Examples
+pub mod RefusalExamples

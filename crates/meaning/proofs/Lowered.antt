@@ -59,7 +59,7 @@ owner-above (b ∷ bs) (suc j) i e = owner-above bs j i (omega arith)
 
 owner-below : (bs : List ℕ) (i : ℕ) → i < length bs → (b : ℕ) × (ownerOf bs i ≡ nodeOfFace b)
 owner-below [] i h = absurd (omega arith)
-owner-below (b ∷ bs) zero h = (b, refl)
+owner-below (b ∷ bs) zero h = (_, refl)
 owner-below (b ∷ bs) (suc i) h = owner-below bs i (omega arith)
 
 -- One variable

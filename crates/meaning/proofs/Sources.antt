@@ -102,10 +102,10 @@ argument-of (cons l c s) (suc i) h q = argument-of s i (h .2) (omega arith)
 -- One application: its function has the body b, it has as many arguments as there are places, it is satisfied
 module _ (σ : Filling) (b : Term) (f : ℕ) (x : Face) (given : σ f ≡ body b) (isFunction : x .what ≡ function f) (shape : (trees (x .children) ≡ placeCount) × IsArgument (x .children))
     (faced : IsExpression (one (x .term))) (sat : Satisfied (fillHandler σ) x) where
-  abbrev arguments : ℕ → Term
+  abbrev pub arguments : ℕ → Term
   arguments = argument (fill (fillHandler σ) (x .under) (x .children))
 
-  plugged : plug arguments b ≡ x .term
+  pub plugged : plug arguments b ≡ x .term
   plugged =
       ap (λ (e : Entry Term). plug arguments (bodyOr f e)) (sym given)
       ∙ subst (λ (z : Slot). fillHandler σ (x .under) z (fill (fillHandler σ) (x .under) (x .children)) ≡ x .term) isFunction sat

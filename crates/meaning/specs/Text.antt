@@ -4,7 +4,7 @@
 --   Says      the filling that a text names
 --   Passes    the checker says yes
 use mathlib.Core.Path.{_≡_}
-use Prim.Native.Nat.{ℕ, zero, suc}
+use Prim.Native.Nat.{ℕ, zero, suc, _<_}
 use mathlib.Core.Bool.{Bool, true, false}
 use mathlib.Core.List.{List, [], _∷_, _++_, map}
 use mathlib.Core.Option.{Option, none, some}
@@ -21,6 +21,7 @@ use Rattle.meaning.specs.Face.{Face, faces, firstFace}
 use Rattle.meaning.specs.Row.{Row, choiceIn, punchTerm}
 use Rattle.meaning.specs.Value.{Source, sources, lookup}
 use Rattle.meaning.specs.Field.{Bytes, field, encode}
+use Rattle.meaning.specs.Readable.{Readable}
 use Rattle.meaning.specs.Read.{Answer, refused, got, after, Context, inExpression, inBody, Parts, partsOf, readTerm}
 
 abbrev pub Item : Type 0
@@ -59,6 +60,16 @@ encodeEntry m (body t) = field 9 (m ∷ encode (one t))
 
 unfoldable pub encodeText : List Item → Bytes
 encodeText is = each (λ (i : Item). encodeEntry (i .0) (i .1)) is
+
+-- Which items have bytes
+abbrev pub ReadableEntry : Entry NamedTerm → Type 0
+ReadableEntry absent = ⊥
+ReadableEntry leftOpen = Unit {0}
+ReadableEntry (value t) = Readable maxDepth inExpression (one t)
+ReadableEntry (body t) = Readable maxDepth inBody (one t)
+
+abbrev pub ReadableItem : Item → Type 0
+ReadableItem i = (i .0 < metavariableCount) × ReadableEntry (i .1)
 
 -- Reading a text: 19, then 20 for whatever is not as above
 abbrev pub orTwenty : {A : Type 0} → Answer A → Answer A
