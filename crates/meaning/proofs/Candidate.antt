@@ -35,6 +35,7 @@ pub record Fitting (p : Problem) (σ : Filling) (b : ℕ → Term) : Type 0 wher
 -- A source is right: its metavariable has it as value, needs one, and it is an expression
 pub record Right (p : Problem) (σ : Filling) (s : Source) : Type 0 where
   pub holds : σ (s .number) ≡ value (s .term)
+  pub expression : IsExpression (one (s .term))
   pub standing : Where
   pub stands : (s .number, standing) ∈ standings (patterns p)
   pub needed : needs σ standing ≡ true
@@ -57,6 +58,7 @@ module _ (p : Problem) (σ : Filling) (b : ℕ → Term) (fit : Fitting p σ b) 
         holds = value-is (s .number) (σ (s .number)) (x .term) (faced x q)
             (subst (λ (z : Slot). fillHandler σ (x .under) z (Rattle.meaning.specs.Filling.fill (fillHandler σ) (x .under) (x .children)) ≡ x .term) (r .0) (theWalk .satisfied x q))
           ∙ ap value (sym (r .1));
+        expression = subst (λ (t : Term). IsExpression (one t)) (sym (r .1)) (faced x q);
         standing = alone;
         stands = slot-standing (patterns p) (metavariable (s .number)) (x .children) (s .number, alone) (slotOf x q (metavariable (s .number)) (r .0)) (List·Memᴰ·head refl);
         needed = refl
@@ -86,6 +88,7 @@ module _ (p : Problem) (σ : Filling) (b : ℕ → Term) (fit : Fitting p σ b) 
       let zero-add : 0 + t .place ≡ t .place = omega arith in
       record {
         holds = t .holds;
+        expression = t .expression;
         standing = argumentOf f (t .place);
         stands = slot-standing (patterns p) (function f) (x .children) (s .number, argumentOf f (t .place)) (slotOf x q (function f) e)
           (subst (λ (k : ℕ). _∈_ {A = Standing} (s .number, argumentOf f k) (inArguments f 0 (x .children))) zero-add

@@ -30,7 +30,7 @@ use Rattle.meaning.proofs.ChoiceLaws.{rows-are, rows-once}
 use Rattle.meaning.proofs.Punching.{Fits, Clear, blank, holesOf, holes-length, punch-holes, fits-holes, clear-holes, punch-unique}
 use Rattle.meaning.proofs.BodyChoice.{fits-choice, choice-clear}
 use Rattle.meaning.proofs.Proper.{Proper, accepted-proper, applied-functions, functions-applied}
-use Rattle.meaning.proofs.Slots.{slot-face, applied-slot}
+use Rattle.meaning.proofs.Slots.{slot-face, applied-slot, faces-expression}
 use Rattle.meaning.proofs.Sources.{Walked, arguments, plugged}
 use Rattle.meaning.proofs.Candidate.{Fitting, theWalk, faced, shapeOf, Right, candidate-function, candidate-plain, candidate-other, fitting-source, fitting-idle, lookup-cases, solution-fitting, solution-candidate}
 
@@ -79,37 +79,40 @@ punch-one {X} {B} ms t = go (mark ms)
     go none = refl
     go (some i) = refl
 
--- The face of a function, when the constraints are met
-module _ (p : Problem) (σ : Filling) (b : ℕ → Term) (fit : Fitting p σ b) where
-  pub record FaceOf (f : ℕ) : Type 0 where
-    pub face : Face
-    pub among : face ∈ theWalk p σ b fit .found
-    pub applies : face .what ≡ function f
-    pub isFirst : faceOf p f ≡ face .term
+-- The face of a function, when the shapes agree
+pub record FaceOf (p : Problem) (xs : List Face) (f : ℕ) : Type 0 where
+  pub face : Face
+  pub among : face ∈ xs
+  pub applies : face .what ≡ function f
+  pub isFirst : faceOf p f ≡ face .term
 
-  pub face-of : (f : ℕ) → f ∈ applied (patterns p) → FaceOf f
+module _ (p : Problem) (c : Proper p) (xs : List Face) (defined : faces p ≡ some xs) where
+  pub face-of : (f : ℕ) → f ∈ applied (patterns p) → FaceOf p xs f
   face-of f a =
-      let s = applied-slot (patterns p) (fit .proper .pattern) f a in
-      let x = slot-face 0 0 (patterns p) (expressions p) (theWalk p σ b fit .found) (function f) (s .0) (theWalk p σ b fit .defined) (s .1) in
-      let y = first-there f (theWalk p σ b fit .found) (x .0) (x .1) (x .2) in
+      let s = applied-slot (patterns p) (c .pattern) f a in
+      let x = slot-face 0 0 (patterns p) (expressions p) xs (function f) (s .0) defined (s .1) in
+      let y = first-there f xs (x .0) (x .1) (x .2) in
       record {
         face = y .0;
         among = y .2;
         applies = y .3;
-        isFirst = ap (λ (o : Option (List Face)). faceTerm (firstFace f (orNone o)) f) (theWalk p σ b fit .defined) ∙ ap (λ (o : Option Face). faceTerm o f) (y .1)
+        isFirst = ap (λ (o : Option (List Face)). faceTerm (firstFace f (orNone o)) f) defined ∙ ap (λ (o : Option Face). faceTerm o f) (y .1)
       }
 
   pub face-expression : (f : ℕ) → f ∈ applied (patterns p) → IsExpression (one (faceOf p f))
-  face-expression f a = let x = face-of f a in subst (λ (t : Term). IsExpression (one t)) (sym (x .isFirst)) (faced p σ b fit (x .face) (x .among))
+  face-expression f a =
+      let x = face-of f a in
+      subst (λ (t : Term). IsExpression (one t)) (sym (x .isFirst)) (faces-expression 0 0 (patterns p) (expressions p) xs (c .expression) defined (x .face) (x .among))
 
-  -- A body comes from a choice of its function's face
+-- A body that fills to its function's face comes from a choice of it
+module _ (p : Problem) (σ : Filling) (b : ℕ → Term) (fit : Fitting p σ b) where
   pub record Chosen (f : ℕ) (ms : Marks) : Type 0 where
     pub choice : Choice placeCount (faceOf p f) ms
     pub punched : punch ms (one (faceOf p f)) ≡ one (b f)
 
   pub body-chosen : (f : ℕ) → f ∈ applied (patterns p) → (ms : Marks) × Chosen f ms
   body-chosen f a =
-      let x = face-of f a in
+      let x = face-of p (fit .proper) (theWalk p σ b fit .found) (theWalk p σ b fit .defined) f a in
       let shape = shapeOf p σ b fit f (x .face) (x .among) (x .applies) in
       let sat : Satisfied (fillHandler σ) (x .face) = theWalk p σ b fit .satisfied (x .face) (x .among) in
       let ex : IsExpression (one (x .face .term)) = faced p σ b fit (x .face) (x .among) in
@@ -230,6 +233,225 @@ row-only p σ c s r r′ i j h g =
         let y : Choice placeCount (faceOf p f) (choiceIn (functions p) r′ f) = choice-in p (functions p) r′ (ch′ .choice) f q in
         let eb : body (rowBody p r f) ≡ body (rowBody p r′ f) = sym (h f q) ∙ g f q in
         let e : rowBody p r f ≡ rowBody p r′ f = cc in
-        punch-unique (choiceIn (functions p) r f) (choiceIn (functions p) r′ f) (one (faceOf p f)) (face-expression p σ b (own-fitting p σ c s) f (functions-applied p f q)) (x .long) (y .long)
+        punch-unique (choiceIn (functions p) r f) (choiceIn (functions p) r′ f) (one (faceOf p f)) (face-expression p c (theWalk p σ b (own-fitting p σ c s) .found) (theWalk p σ b (own-fitting p σ c s) .defined) f (functions-applied p f q)) (x .long) (y .long)
           (choice-clear (faceOf p f) (choiceIn (functions p) r f) x) (choice-clear (faceOf p f) (choiceIn (functions p) r′ f) y)
           (sym (body-row p r f) ∙ ap (λ (t : Term). one t) e ∙ body-row p r′ f)
+
+-- A punched expression is a body
+drop-mem : {A : Type 0} (x : A) (n : ℕ) (xs : List A) → x ∈ drop n xs → x ∈ xs
+drop-mem x zero xs q = q
+drop-mem x (suc n) [] q = q
+drop-mem x (suc n) (y ∷ ys) q = List·Memᴰ·tail (drop-mem x n ys q)
+
+punch-body : (n : ℕ) (ms : Marks) (u : Terms) → IsExpression u → ((i : ℕ) → some i ∈ ms → i < n) → IsBody n (punch ms u)
+punch-body n ms nil h f = tt
+punch-body n ms (cons (slot z) c s) h f = absurd (h .0)
+punch-body n [] (cons (own o) c s) h f = (tt, punch-body n [] c (h .1) f, punch-body n (drop (size c) []) s (h .2) (λ i q. f i (drop-mem (some i) (size c) [] q)))
+punch-body n (none ∷ ms) (cons (own o) c s) h f =
+    (tt, punch-body n ms c (h .1) (λ i q. f i (List·Memᴰ·tail q)), punch-body n (drop (size c) ms) s (h .2) (λ i q. f i (List·Memᴰ·tail (drop-mem (some i) (size c) ms q))))
+punch-body n (some j ∷ ms) (cons (own o) c s) h f =
+    ((f j (List·Memᴰ·head refl), refl), tt, punch-body n (drop (size c) ms) s (h .2) (λ i q. f i (List·Memᴰ·tail (drop-mem (some i) (size c) ms q))))
+
+mem-at : {A : Type 0} (xs : List A) (x : A) → x ∈ xs → (k : ℕ) × (getElem? xs k ≡ some x)
+mem-at [] x q = absurd (List·Memᴰ·not-nil q)
+mem-at {A} (y ∷ ys) x q = go (mem-at ys x) (List·Memᴰ·cases-cons q)
+  where
+    go : (x ∈ ys → (k : ℕ) × (getElem? ys k ≡ some x)) → (x ≡ y) ⊎ (x ∈ ys) → (k : ℕ) × (getElem? (y ∷ ys) k ≡ some x)
+    go ih (inl e) = (0, ap some (sym e))
+    go ih (inr r) = let z = ih r in (suc (z .0), z .1)
+
+is-some : {A : Type 0} (o : Option A) → isSome o ≡ true → (a : A) × (o ≡ some a)
+is-some none e = absurd (false≢true e)
+is-some (some a) e = (a, refl)
+
+row-body-shape : (p : Problem) (r : Row) → Proper p → IsRow p r → (f : ℕ) → f ∈ applied (patterns p) → IsBody placeCount (one (rowBody p r f))
+row-body-shape p r c i f a =
+    let xs = is-some (faces p) (i .agree) in
+    let q : f ∈ functions p = applied-functions p c f a in
+    let ch : Choice placeCount (faceOf p f) (choiceIn (functions p) r f) = choice-in p (functions p) r (i .choice) f q in
+    subst (IsBody placeCount) (sym (body-row p r f))
+      (punch-body placeCount (choiceIn (functions p) r f) (one (faceOf p f)) (face-expression p c (xs .0) (xs .1) f a)
+        (λ k z. let y = mem-at (choiceIn (functions p) r f) (some k) z in ch .places (y .0) k (y .1)))
+
+-- What the test of a row says
+module _ (p : Problem) (r : Row) (passes : solves p r ≡ true) where
+  tested : T (sameTerms (filled (candidate p r) (patterns p)) (expressions p)) × T (every (λ m. isClosedEntry (candidate p r m)) (metavariables p))
+  unfolding solves
+  tested = and-T (sameTerms (filled (candidate p r) (patterns p)) (expressions p)) (every (λ m. isClosedEntry (candidate p r m)) (metavariables p)) (true-T passes)
+
+  pub passes-meets : filled (candidate p r) (patterns p) ≡ expressions p
+  passes-meets = sameTerms-eq (filled (candidate p r) (patterns p)) (expressions p) (tested .0)
+
+  pub passes-closed : (m : ℕ) → m ∈ metavariables p → isClosedEntry (candidate p r m) ≡ true
+  passes-closed m q =
+      all-mem (λ k. isClosedEntry (candidate p r k) ≡ true) m (metavariables p) (every-all (λ k. isClosedEntry (candidate p r k)) (metavariables p) (tested .1)) q
+
+  pub passes-fitting : Proper p → IsRow p r → Fitting p (candidate p r) (rowBody p r)
+  passes-fitting c i = record { proper = c; meets = passes-meets; agree = candidate-function p r; shapes = row-body-shape p r c i }
+
+occurs : (p : Problem) → Proper p → (m : ℕ) → (m ∈ applied (patterns p)) ⊎ (m ∈ plain (patterns p)) → m ∈ metavariables p
+unfolding metavariables
+occurs p c m h = mem-keep (λ k. isFunction p k || isPlain p k) m (upTo metavariableCount) (mem-upTo metavariableCount m (small h)) (either h)
+  where
+    small : (m ∈ applied (patterns p)) ⊎ (m ∈ plain (patterns p)) → m < metavariableCount
+    small (inl a) = c .smallApplied m a
+    small (inr b) = c .smallPlain m b
+
+    either : (m ∈ applied (patterns p)) ⊎ (m ∈ plain (patterns p)) → (isFunction p m || isPlain p m) ≡ true
+    either (inl a) = ap (λ (x : Bool). x || isPlain p m) (mem-isIn m (applied (patterns p)) a)
+    either (inr b) = or-true (isFunction p m) ∙ mem-isIn m (plain (patterns p)) b
+      where
+        or-true : (x : Bool) → (x || isPlain p m) ≡ isPlain p m
+        or-true true = sym (mem-isIn m (plain (patterns p)) b)
+        or-true false = refl
+
+entry-value : {t u : Term} → _≡_ {A = Entry Term} (value t) (value u) → t ≡ u
+entry-value {t} {u} e = cc
+
+-- THE CANDIDATE OF A ROW THAT PASSES IS A SOLUTION
+pub candidate-solution : (p : Problem) (r : Row) → Proper p → IsRow p r → solves p r ≡ true → Solution p (candidate p r)
+candidate-solution p r c i e = record {
+    meets = passes-meets p r e;
+    bodies = λ f a. (rowBody p r f, candidate-function p r f a, row-body-shape p r c i f a, bodies-closed f a);
+    values = λ m q. valued m q (lookup-cases m (sources p r));
+    others = candidate-other p r;
+    openIdle = λ m q w s. opened m q (lookup-cases m (sources p r)) w s;
+    idleOpen = λ m q idle. idles m q idle (lookup-cases m (sources p r))
+  }
+  where
+    fit : Fitting p (candidate p r) (rowBody p r)
+    fit = passes-fitting p r e c i
+
+    unapplied : (m : ℕ) → m ∈ plain (patterns p) → m ∈ applied (patterns p) → ⊥
+    unapplied m q a = c .separate m a q
+
+    bodies-closed : (f : ℕ) → f ∈ applied (patterns p) → ClosedTerm (rowBody p r f)
+    bodies-closed f a =
+        test-closed 0 (one (rowBody p r f)) (true-T (ap isClosedEntry (sym (candidate-function p r f a)) ∙ passes-closed p r e f (occurs p c f (inl a))))
+
+    valued : (m : ℕ) → m ∈ plain (patterns p) → (lookup m (sources p r) ≡ none) ⊎ ((s : Source) × (lookup m (sources p r) ≡ some s))
+      → (candidate p r m ≡ leftOpen) ⊎ ((t : Term) × (candidate p r m ≡ value t) × IsExpression (one t) × ClosedTerm t)
+    valued m q (inl n) = inl (candidate-plain p r m (unapplied m q) q ∙ ap given n)
+    valued m q (inr s) =
+        let v : candidate p r m ≡ value (s .0 .term) = candidate-plain p r m (unapplied m q) q ∙ ap given (s .1) in
+        inr (s .0 .term, v, fitting-source p r (candidate p r) fit m (s .0) (s .1) .0 .expression,
+          test-closed 0 (one (s .0 .term)) (true-T (ap isClosedEntry (sym v) ∙ passes-closed p r e m (occurs p c m (inr q)))))
+
+    opened : (m : ℕ) → candidate p r m ≡ leftOpen → (lookup m (sources p r) ≡ none) ⊎ ((s : Source) × (lookup m (sources p r) ≡ some s)) → Idle p (candidate p r) m
+    opened m q (inl n) = fitting-idle p r (candidate p r) fit m n
+    opened m q (inr s) =
+        let x = fitting-source p r (candidate p r) fit m (s .0) (s .1) in
+        absurd (let v : candidate p r m ≡ value (s .0 .term) = ap (candidate p r) (sym (x .1)) ∙ x .0 .holds in let z : _≡_ {A = ℕ} 0 1 = cc in omega arith)
+
+    idles : (m : ℕ) → m ∈ plain (patterns p) → Idle p (candidate p r) m → (lookup m (sources p r) ≡ none) ⊎ ((s : Source) × (lookup m (sources p r) ≡ some s)) → candidate p r m ≡ leftOpen
+    idles m q idle (inl n) = candidate-plain p r m (unapplied m q) q ∙ ap given n
+    idles m q idle (inr s) =
+        let x = fitting-source p r (candidate p r) fit m (s .0) (s .1) in
+        let st = subst (λ (k : ℕ). _∈_ {A = ℕ × Rattle.meaning.specs.Problem.Where} (k, x .0 .standing) (Rattle.meaning.specs.Problem.standings (patterns p))) (x .1) (x .0 .stands) in
+        absurd (true≢false (sym (x .0 .needed) ∙ idle (x .0 .standing) st))
+
+-- THE MAIN THEOREMS
+
+-- UNIQUE: "that solution is then the only one, up to bound names"
+pub row-solution-unique : (p : Problem) (r : Row) (σ : Filling) → Accepted p → Solution p σ → HasBodies p r σ → (m : ℕ) → σ m ≡ candidate p r m
+row-solution-unique p r σ a s h = solution-candidate p r σ (accepted-proper p a) s h
+
+-- Two solutions with the same bodies are equal
+pub solutions-unique : (p : Problem) (σ τ : Filling) → Accepted p → Solution p σ → Solution p τ → ((f : ℕ) → f ∈ functions p → σ f ≡ τ f) → (m : ℕ) → σ m ≡ τ m
+solutions-unique p σ τ a s t h m =
+    let r = row-exists p σ (accepted-proper p a) s in
+    row-solution-unique p (r .0) σ a s (r .2) m ∙ sym (row-solution-unique p (r .0) τ a t (λ f q. sym (h f q) ∙ r .2 f q) m)
+
+-- COMPLETE: every solution's bodies are those of exactly one row
+pub record OnlyRow (p : Problem) (σ : Filling) : Type 0 where
+  pub row : Row
+  pub isRow : row ∈ rows p
+  pub hasBodies : HasBodies p row σ
+  pub only : (r : Row) → r ∈ rows p → HasBodies p r σ → r ≡ row
+
+pub solution-complete : (p : Problem) (σ : Filling) → Accepted p → Solution p σ → OnlyRow p σ
+solution-complete p σ a s =
+    let c : Proper p = accepted-proper p a in
+    let r = row-exists p σ c s in
+    record { row = r .0; isRow = r .1; hasBodies = r .2; only = λ q i h. row-only p σ c s q (r .0) i (r .1) h (r .2) }
+
+-- The test of a row is right: it passes exactly the solution rows
+pub solves-is-right : (p : Problem) (r : Row) → Accepted p → r ∈ rows p → (solves p r ≡ true) ↔ SolutionRow p r
+unfolding solves
+solves-is-right p r a i = (forth, back)
+  where
+    c : Proper p
+    c = accepted-proper p a
+
+    forth : solves p r ≡ true → SolutionRow p r
+    forth e = (candidate p r, candidate-solution p r c (rows-are p r .0 i) e, λ f q. candidate-function p r f (functions-applied p f q))
+
+    back : SolutionRow p r → solves p r ≡ true
+    back x = passes (subst (Solution p) (fun-ext (row-solution-unique p r (x .0) a (x .1) (x .2))) (x .1))
+      where
+        closed-entry : Solution p (candidate p r) → (m : ℕ) → isClosedEntry (candidate p r m) ≡ true
+        closed-entry s m = by-test (isFunction p m) function-case other-case
+          where
+            function-case : isFunction p m ≡ true → isClosedEntry (candidate p r m) ≡ true
+            function-case q =
+                let b = s .bodies m (isIn-mem m (applied (patterns p)) q) in
+                ap isClosedEntry (b .1) ∙ T-true (closed-test 0 (one (b .0)) (b .3))
+
+            value-case : (candidate p r m ≡ leftOpen) ⊎ ((t : Term) × (candidate p r m ≡ value t) × IsExpression (one t) × ClosedTerm t) → isClosedEntry (candidate p r m) ≡ true
+            value-case (inl q) = ap isClosedEntry q
+            value-case (inr t) = ap isClosedEntry (t .1) ∙ T-true (closed-test 0 (one (t .0)) (t .3))
+
+            other-case : isFunction p m ≡ false → isClosedEntry (candidate p r m) ≡ true
+            other-case q =
+                let na : m ∈ applied (patterns p) → ⊥ = λ k. false≢true (sym q ∙ mem-isIn m (applied (patterns p)) k) in
+                by-test (isPlain p m)
+                  (λ y. value-case (s .values m (isIn-mem m (plain (patterns p)) y)))
+                  (λ y. ap isClosedEntry (s .others m na (λ k. false≢true (sym y ∙ mem-isIn m (plain (patterns p)) k))))
+
+        passes : Solution p (candidate p r) → solves p r ≡ true
+        passes s =
+            T-true (T-and (sameTerms (filled (candidate p r) (patterns p)) (expressions p)) (every (λ m. isClosedEntry (candidate p r m)) (metavariables p))
+              (subst (λ (u : Terms). T (sameTerms u (expressions p))) (sym (s .meets)) (sameTerms-refl (expressions p)))
+              (all-every (λ m. isClosedEntry (candidate p r m)) (metavariables p) (mem-all (λ m. isClosedEntry (candidate p r m) ≡ true) (metavariables p) (λ m q. closed-entry s m))))
+
+-- THE FULL LIST holds solutions only, with their rows
+pub listed-solution : (p : Problem) (r : Row) (σ : Filling) → Accepted p → (r, σ) ∈ fullList p → (r ∈ rows p) × Solution p σ × HasBodies p r σ
+unfolding fullList solutionRows
+listed-solution p r σ a q =
+    let x = map-mem (λ (y : Row). (y, candidate p y)) (r, σ) (keep (solves p) (rows p)) q in
+    let k = keep-mem (solves p) (x .0) (rows p) (x .1) in
+    let er : r ≡ x .0 = ap (λ (y : Row × Filling). y .0) (x .2) in
+    let eσ : σ ≡ candidate p (x .0) = ap (λ (y : Row × Filling). y .1) (x .2) in
+    let c : Proper p = accepted-proper p a in
+    (subst (λ (y : Row). y ∈ rows p) (sym er) (k .0),
+     subst (Solution p) (sym eσ) (candidate-solution p (x .0) c (rows-are p (x .0) .0 (k .0)) (k .1)),
+     λ f m. ap (λ (τ : Filling). τ f) eσ ∙ candidate-function p (x .0) f (functions-applied p f m) ∙ ap (λ (y : Row). body (rowBody p y f)) (sym er))
+
+-- ... every solution
+pub solution-listed : (p : Problem) (σ : Filling) → Accepted p → Solution p σ → (r : Row) × ((r, σ) ∈ fullList p)
+unfolding fullList solutionRows
+solution-listed p σ a s =
+    let o : OnlyRow p σ = solution-complete p σ a s in
+    let r : Row = o .row in
+    let e : σ ≡ candidate p r = fun-ext (row-solution-unique p r σ a s (o .hasBodies)) in
+    let i : r ∈ keep (solves p) (rows p) = mem-keep (solves p) r (rows p) (o .isRow) (solves-is-right p r a (o .isRow) .1 (σ, s, o .hasBodies)) in
+    (r, subst (λ (τ : Filling). _∈_ {A = Row × Filling} (r, τ) (map (λ (y : Row). (y, candidate p y)) (keep (solves p) (rows p)))) (sym e) (mem-map {B = Row × Filling} (λ (y : Row). (y, candidate p y)) i))
+
+-- ... and none twice: no row twice, and two rows of the list have different solutions
+pub full-list-once : (p : Problem) → Distinct (solutionRows p)
+unfolding solutionRows
+full-list-once p = keep-distinct (rows p) (rows-once p)
+  where
+    keep-distinct : (rs : List Row) → Distinct rs → Distinct (keep (solves p) rs)
+    keep-distinct [] d = tt
+    keep-distinct (r ∷ rs) d = go (solves p r) (keep-distinct rs (d .1))
+      where
+        go : (b : Bool) → Distinct (keep (solves p) rs) → Distinct (choose b (r ∷ keep (solves p) rs) (keep (solves p) rs))
+        go true x = (λ q. d .0 (keep-mem (solves p) r rs q .0), x)
+        go false x = x
+
+pub listed-once : (p : Problem) (r r′ : Row) (σ : Filling) → Accepted p → (r, σ) ∈ fullList p → (r′, σ) ∈ fullList p → r ≡ r′
+listed-once p r r′ σ a q q′ =
+    let x = listed-solution p r σ a q in
+    let y = listed-solution p r′ σ a q′ in
+    row-only p σ (accepted-proper p a) (x .1) r r′ (x .0) (y .0) (x .2) (y .2)

@@ -144,10 +144,13 @@ module _ (σ : Filling) (b : Term) (f : ℕ) (x : Face) (given : σ f ≡ body b
         ap (λ (o : Option Term). each sourceOf (orNone (andThen o (λ u. walk (x .under) (h .node) (one (argument (x .children) i)) (one u))))) lowered
         ∙ ap (λ (o : Option (List Face)). each sourceOf (orNone o)) (argumentWalk .defined)
 
+    pub hole-expression : (y : Face) → y ∈ argumentWalk .found → IsExpression (one (y .term))
+    hole-expression =
+        faces-expression (x .under) (h .node) (one (argument (x .children) i)) (one (arguments i)) (argumentWalk .found) expression (argumentWalk .defined)
+
     pub hole-values : (y : Face) → y ∈ argumentWalk .found → (m : ℕ) → y .what ≡ metavariable m → σ m ≡ value (y .term)
     hole-values y q m e =
-        value-is m (σ m) (y .term)
-          (faces-expression (x .under) (h .node) (one (argument (x .children) i)) (one (arguments i)) (argumentWalk .found) expression (argumentWalk .defined) y q)
+        value-is m (σ m) (y .term) (hole-expression y q)
           (subst (λ (z : Slot). fillHandler σ (y .under) z (fill (fillHandler σ) (y .under) (y .children)) ≡ y .term) e (argumentWalk .satisfied y q))
 
     pub hole-there : hasHole i (one b) ≡ true
@@ -167,6 +170,7 @@ module _ (σ : Filling) (b : Term) (f : ℕ) (x : Face) (given : σ f ≡ body b
     pub place : ℕ
     pub small : place < placeCount
     pub holds : σ (s .number) ≡ value (s .term)
+    pub expression : IsExpression (one (s .term))
     pub hasHoles : hasHole place (one b) ≡ true
     pub stands : s .number ∈ plain (one (argument (x .children) place))
 
@@ -186,6 +190,7 @@ module _ (σ : Filling) (b : Term) (f : ℕ) (x : Face) (given : σ f ≡ body b
             place = i;
             small = small;
             holds = hole-values i small h e (y .0) (y .1) (s .number) (z .0) ∙ ap value (sym (z .1));
+            expression = subst (λ (t : Term). IsExpression (one t)) (sym (z .1)) (hole-expression i small h e (y .0) (y .1));
             hasHoles = hole-there i small h e;
             stands = slot-plain (one (argument (x .children) i)) (s .number) (y .0 .children)
               (subst (λ (k : Slot). _∈_ {A = Slot × Terms} (k, y .0 .children) (slots (one (argument (x .children) i)))) (z .0)
