@@ -1,20 +1,19 @@
 -- Bodies and choices: the holes of a body that fills to a face are a choice of the face, and no choice marks a node below another.
 --   Along   a relation between each node's mark and its view, in preorder
 use mathlib.Core.Path.{_≡_, refl, ap, ap₂, sym, _∙_, subst}
-use mathlib.Core.Logic.{_⊎_, inl, inr, ⊎-elim}
+use mathlib.Core.Logic.{_⊎_, inl, inr}
 use Prim.Native.Nat.{ℕ, zero, suc, _+_, _<_, _≤_}
-use mathlib.Core.Bool.{Bool, true, false}
+use mathlib.Core.Bool.{false}
 use mathlib.Core.List.{List, [], _∷_, _++_}
-use mathlib.Core.Option.{Option, none, some}
+use mathlib.Core.Option.{none, some}
 use native.Mathlib.Omega.{arith}
-use lib.ListN.{length, take, drop, replicate, getElem?, length-drop}
+use lib.ListN.{length, take, drop, getElem?, length-drop, replicate-append-replicate}
 use lib.Seq.{take-add}
-use lib.ListN.{replicate-append-replicate}
 use Rattle.meaning.specs.Limits.{placeCount}
 use Rattle.meaning.specs.Term.{nil, cons, one, size, own, slot, symbol, variable, application, binder, Nameless, Terms, Term, inner}
-use Rattle.meaning.specs.Shift.{shiftTerm}
-use Rattle.meaning.specs.Equal.{View, view}
-use Rattle.meaning.specs.Choice.{Mark, Marks, mark, rest, Owner, ownerOf, below, viewsFrom, views, usesFace, Choice}
+use Rattle.meaning.specs.Shift.{withVariable, shiftTerm}
+use Rattle.meaning.specs.Equal.{View, see, view}
+use Rattle.meaning.specs.Choice.{Mark, Marks, Owner, ownerOf, below, viewsFrom, views, usesFace, Choice}
 use Rattle.meaning.proofs.ShiftLaws.{relabel-size}
 use Rattle.meaning.proofs.ChoiceLaws.{length-views, at-other}
 use Rattle.meaning.proofs.Lowered.{view-shift, view-shift-unbound}
@@ -45,7 +44,7 @@ module _ (R : Mark → View Owner → Type 0) where
   along-at (x ∷ ms) (u ∷ us) a (suc k) m v e f = along-at ms us (a .1) k m v e f
 
   at-along : (ms : Marks) (vs : List (View Owner)) → length vs ≤ length ms
-    → ((k : ℕ) (m : Mark) (v : View Owner) → getElem? ms k ≡ some m → getElem? vs k ≡ some v → R m v) → Along R ms vs
+      → ((k : ℕ) (m : Mark) (v : View Owner) → getElem? ms k ≡ some m → getElem? vs k ≡ some v → R m v) → Along R ms vs
   at-along ms [] l f = tt
   at-along [] (u ∷ us) l f = absurd (omega arith)
   at-along (x ∷ ms) (u ∷ us) l f = (f 0 x u refl refl, at-along ms us (omega arith) (λ k m v e g. f (suc k) m v e g))
@@ -58,7 +57,7 @@ module _ (R : Mark → View Owner → Type 0) (bs : List ℕ) (n : ℕ) (l : Nam
   node-along : Along R ms inChildren → Along R (drop (size c) ms) (viewsFrom bs (suc n + size c) s) → Along R ms (inChildren ++ viewsFrom bs (suc n + size c) s)
   node-along a b =
       along-append R ms inChildren (viewsFrom bs (suc n + size c) s) a
-        (subst (λ (k : ℕ). Along R (drop k ms) (viewsFrom bs (suc n + size c) s)) (sym (length-views (below n l bs) (suc n) c)) b)
+      (subst (λ (k : ℕ). Along R (drop k ms) (viewsFrom bs (suc n + size c) s)) (sym (length-views (below n l bs) (suc n) c)) b)
 
   along-node : Along R ms (inChildren ++ viewsFrom bs (suc n + size c) s) → Along R ms inChildren × Along R (drop (size c) ms) (viewsFrom bs (suc n + size c) s)
   along-node a =
@@ -89,32 +88,35 @@ module _ (a : ℕ → Term) where
   fits-along : (bs : List ℕ) (n : ℕ) (ms : Marks) (u : Terms) → size u ≤ length ms → Fits a (length bs) ms u → Clear ms u → Along (SeenAs a) ms (viewsFrom bs n u)
   fits-along bs n ms nil h f g = tt
   fits-along bs n [] (cons l c s) h f g = absurd (omega arith)
-  fits-along bs n (none ∷ ms) (cons l c s) h f g =
-      (λ i q. unmarked i q,
-       node-along (SeenAs a) bs n l c s ms
-         (fits-along (below n l bs) (suc n) ms c (omega arith) (subst (λ (k : ℕ). Fits a k ms c) (binders-below n l bs) (f .0)) (g .0))
-         (fits-along bs (suc n + size c) (drop (size c) ms) s (rw length-drop (omega arith)) (f .1) (g .1)))
-  fits-along bs n (some j ∷ ms) (cons l c s) h f g =
-      (λ i q. seen i (let w : j ≡ i = cc in w),
-       node-along (SeenAs a) bs n l c s ms
-         (blank-along a ms (viewsFrom (below n l bs) (suc n) c) (rw (length-views (below n l bs) (suc n) c) (g .0)))
-         (fits-along bs (suc n + size c) (drop (size c) ms) s (rw length-drop (omega arith)) (f .1) (g .1)))
+  fits-along bs n (none ∷ ms) (cons l c s) h f g = (
+    λ i q. unmarked i q,
+    node-along (SeenAs a) bs n l c s ms
+        (fits-along (below n l bs) (suc n) ms c (omega arith) (subst (λ (k : ℕ). Fits a k ms c) (binders-below n l bs) (f .0)) (g .0))
+        (fits-along bs (suc n + size c) (drop (size c) ms) s (rw length-drop (omega arith)) (f .1) (g .1)),
+  )
+  fits-along bs n (some j ∷ ms) (cons l c s) h f g = (
+    λ i q. seen i (let w : j ≡ i = cc in w),
+    node-along (SeenAs a) bs n l c s ms
+        (blank-along a ms (viewsFrom (below n l bs) (suc n) c) (rw (length-views (below n l bs) (suc n) c) (g .0)))
+        (fits-along bs (suc n + size c) (drop (size c) ms) s (rw length-drop (omega arith)) (f .1) (g .1)),
+  )
     where
       seen : (i : ℕ) → j ≡ i → (view (ownerOf bs) (one (l, c)) ≡ view (ownerOf []) (one (a i))) × (usesFace (view (ownerOf bs) (one (l, c))) ≡ false)
       seen i q =
-          let e : _≡_ {A = Term} (shiftTerm (length bs) (a i)) (l, c) = ap (λ (x : ℕ). shiftTerm (length bs) (a x)) (sym q) ∙ f .0 in
-          (ap (λ (t : Term). view (ownerOf bs) (one t)) (sym e) ∙ view-shift bs (a i),
-           ap (λ (t : Term). usesFace (view (ownerOf bs) (one t))) (sym e) ∙ view-shift-unbound bs (a i))
+          let e : _≡_ {A = Term} (shiftTerm (length bs) (a i)) (l, c) = ap (λ (x : ℕ). shiftTerm (length bs) (a x)) (sym q) ∙ f .0 in (
+            ap (λ (t : Term). view (ownerOf bs) (one t)) (sym e) ∙ view-shift bs (a i),
+            ap (λ (t : Term). usesFace (view (ownerOf bs) (one t))) (sym e) ∙ view-shift-unbound bs (a i),
+          )
 
   -- THE HOLES OF A BODY ARE A CHOICE
   pub fits-choice : (n : ℕ) (face : Term) (ms : Marks) → length ms ≡ size (one face) → ((k i : ℕ) → getElem? ms k ≡ some (some i) → i < n)
-    → Fits a 0 ms (one face) → Clear ms (one face) → Choice n face ms
+      → Fits a 0 ms (one face) → Clear ms (one face) → Choice n face ms
   fits-choice n face ms l small f g = record {
-      long = l;
-      places = small;
-      equal = λ j k i x y. seen-at j i x ∙ sym (seen-at k i y);
-      unbound = λ k i u x y. along-at (SeenAs a) ms (views face) all k (some i) u x y i refl .1
-    }
+    long = l;
+    places = small;
+    equal = λ j k i x y. seen-at j i x ∙ sym (seen-at k i y);
+    unbound = λ k i u x y. along-at (SeenAs a) ms (views face) all k (some i) u x y i refl .1;
+  }
     where
       all : Along (SeenAs a) ms (views face)
       all = fits-along [] 0 ms (one face) (omega arith) f g
@@ -129,7 +131,7 @@ abbrev SizeIs : ℕ → Mark → View Owner → Type 0
 SizeIs w m v = (i : ℕ) → m ≡ some i → size v ≡ w
 
 size-view : (bs : List ℕ) (t : Term) → size (view (ownerOf bs) (one t)) ≡ size (one t)
-size-view bs t = relabel-size inner (λ k. Rattle.meaning.specs.Shift.withVariable (Rattle.meaning.specs.Equal.see (ownerOf bs) k)) 0 (one t)
+size-view bs t = relabel-size inner (λ k. withVariable (see (ownerOf bs) k)) 0 (one t)
 
 blank-join : (n m : ℕ) (ms : Marks) → take n ms ≡ blank n → take m (drop n ms) ≡ blank m → take (n + m) ms ≡ blank (n + m)
 blank-join n m ms e f = take-add n m ms ∙ ap₂ (λ (x y : Marks). x ++ y) e f ∙ replicate-append-replicate {A = Mark} n m none
@@ -141,9 +143,9 @@ none-marked w bs n [] (cons t c s) h l a = absurd (omega arith)
 none-marked w bs n (none ∷ ms) (cons t c s) h l a =
     let r = along-node (SizeIs w) bs n t c s ms (a .1) in
     ap (λ (x : Marks). none ∷ x)
-      (blank-join (size c) (size s) ms
-        (none-marked w (below n t bs) (suc n) ms c (omega arith) (omega arith) (r .0))
-        (none-marked w bs (suc n + size c) (drop (size c) ms) s (omega arith) (rw length-drop (omega arith)) (r .1)))
+    (blank-join (size c) (size s) ms
+    (none-marked w (below n t bs) (suc n) ms c (omega arith) (omega arith) (r .0))
+    (none-marked w bs (suc n + size c) (drop (size c) ms) s (omega arith) (rw length-drop (omega arith)) (r .1)))
 none-marked w bs n (some i ∷ ms) (cons t c s) h l a = absurd (let e = a .0 i refl in let q = size-view bs (t, c) in omega arith)
 
 sizes-clear : (w : ℕ) (bs : List ℕ) (n : ℕ) (ms : Marks) (u : Terms) → size u ≤ length ms → Along (SizeIs w) ms (viewsFrom bs n u) → Clear ms u
@@ -169,7 +171,7 @@ some-marked (none ∷ ms) = go (some-marked ms)
     later f (suc k) i e = f k i e
 
     go : ((k i : ℕ) × (getElem? ms k ≡ some (some i))) ⊎ ((k i : ℕ) → getElem? ms k ≡ some (some i) → ⊥)
-      → ((k i : ℕ) × (getElem? (none ∷ ms) k ≡ some (some i))) ⊎ ((k i : ℕ) → getElem? (none ∷ ms) k ≡ some (some i) → ⊥)
+        → ((k i : ℕ) × (getElem? (none ∷ ms) k ≡ some (some i))) ⊎ ((k i : ℕ) → getElem? (none ∷ ms) k ≡ some (some i) → ⊥)
     go (inl x) = inl (suc (x .0), x .1, x .2)
     go (inr f) = inr (later f)
 
@@ -188,15 +190,15 @@ choice-clear face ms c = go (some-marked ms)
     clear w f =
         let l : length ms ≡ size (one face) = c .long in
         sizes-clear w [] 0 ms (one face) (omega arith)
-          (at-along (SizeIs w) ms (views face) (let q = long in omega arith) (λ k m v e g i q. f k i v (e ∙ ap some q) g))
+        (at-along (SizeIs w) ms (views face) (let q = long in omega arith) (λ k m v e g i q. f k i v (e ∙ ap some q) g))
 
     go : ((k i : ℕ) × (getElem? ms k ≡ some (some i))) ⊎ ((k i : ℕ) → getElem? ms k ≡ some (some i) → ⊥) → Clear ms (one face)
     go (inr f) = clear 0 (λ k i v e g. absurd (f k i e))
     go (inl x) =
         let v = at-other ms (views face) (x .0) (some (x .1)) (sym long) (x .2) in
         clear (size (v .0))
-          (λ k i u e g.
-            let ij : i ≡ x .1 = one-place i (x .1) (c .places k i e) (c .places (x .0) (x .1) (x .2)) in
-            let same : getElem? (views face) k ≡ getElem? (views face) (x .0) = c .equal k (x .0) (x .1) (e ∙ ap (λ (y : ℕ). some (some y)) ij) (x .2) in
-            let uv : u ≡ v .0 = cc (v .1) in
-            ap (λ (y : View Owner). size y) uv)
+        (λ k i u e g.
+        let ij : i ≡ x .1 = one-place i (x .1) (c .places k i e) (c .places (x .0) (x .1) (x .2)) in
+        let same : getElem? (views face) k ≡ getElem? (views face) (x .0) = c .equal k (x .0) (x .1) (e ∙ ap (λ (y : ℕ). some (some y)) ij) (x .2) in
+        let uv : u ≡ v .0 = cc (v .1) in
+        ap (λ (y : View Owner). size y) uv)

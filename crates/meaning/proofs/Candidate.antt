@@ -1,29 +1,26 @@
 -- The one filling of a row: a solution that has the row's bodies is the row's candidate, and the candidate is a solution when it passes.
 --   Fitting   a filling that meets the constraints, with the body that it gives to each function
-use mathlib.Core.Path.{_≡_, refl, ap, ap₂, sym, _∙_, subst}
+use mathlib.Core.Path.{_≡_, refl, ap, sym, _∙_, subst}
 use mathlib.Core.Logic.{_⊎_, inl, inr, ⊎-elim}
-use Prim.Native.Nat.{ℕ, zero, suc, _+_, _<_}
-use mathlib.Core.Bool.{Bool, true, false, _&&_, _||_, true≢false, false≢true}
-use mathlib.Core.List.{List, [], _∷_, _++_, map, List·Memᴰ, List·Memᴰ·head, List·Memᴰ·tail, List·Memᴰ·append-cases, List·Memᴰ·cases-cons, List·Memᴰ·not-nil, List·Memᴰ·eq-of-singleton, Memᴰ·append-left, Memᴰ·append-right}
+use Prim.Native.Nat.{ℕ, _+_, _<_}
+use mathlib.Core.Bool.{Bool, true, false, false≢true}
+use mathlib.Core.List.{List, [], _∷_, List·Memᴰ·head, List·Memᴰ·tail, List·Memᴰ·append-cases, List·Memᴰ·cases-cons, List·Memᴰ·not-nil, List·Memᴰ·eq-of-singleton, Memᴰ·append-left, Memᴰ·append-right}
 use mathlib.Core.Option.{Option, none, some}
 use native.Mathlib.Omega.{arith}
-use lib.Dec.{eqb, T}
-use Rattle.meaning.specs.Limits.{metavariableCount, placeCount}
-use Rattle.meaning.specs.Basics.{choose, keep, each, every, upTo, isIn, All, AllO, _∈_, orNone}
-use Rattle.meaning.specs.Term.{nil, cons, one, trees, own, slot, Slot, metavariable, function, hole, Terms, Term, IsExpression}
-use Rattle.meaning.specs.Shift.{ClosedTerm, isClosed}
-use Rattle.meaning.specs.Equal.{sameTerms}
-use Rattle.meaning.specs.Problem.{Problem, patterns, expressions, plain, applied, Where, alone, argumentOf, Standing, inArguments, standings, isFunction, isPlain, functions, metavariables}
-use Rattle.meaning.specs.Filling.{argument, Entry, absent, leftOpen, value, body, Filling, bodyOr, fillHandler, filled, IsBody}
+use lib.Dec.{eqb}
+use Rattle.meaning.specs.Limits.{placeCount}
+use Rattle.meaning.specs.Basics.{choose, each, _∈_, orNone}
+use Rattle.meaning.specs.Term.{one, trees, Slot, metavariable, function, hole, Terms, Term, IsExpression}
+use Rattle.meaning.specs.Shift.{ClosedTerm}
+use Rattle.meaning.specs.Problem.{Problem, patterns, expressions, plain, applied, Where, alone, argumentOf, Standing, inArguments, standings, isFunction, isPlain}
+use Rattle.meaning.specs.Filling.{fill, argument, Entry, absent, value, body, Filling, bodyOr, fillHandler, filled, IsBody}
 use Rattle.meaning.specs.Solution.{hasHole, needs, Idle, Solution}
-use Rattle.meaning.specs.Face.{Face, walk, faces, Satisfied}
+use Rattle.meaning.specs.Face.{Face}
 use Rattle.meaning.specs.Row.{Row, rowBody, HasBodies}
-use Rattle.meaning.specs.Value.{Source, sourceAt, sourceOf, fromApplication, sourcesIn, sources, lookup, given, candidate, isClosedEntry, solves}
-use Rattle.meaning.proofs.Lists.{T-true, true-T, and-T, T-and, by-test, choose-true, choose-false, eqb-eq, eqb-self, mem-each, each-mem, mem-keep, mem-upTo, isIn-mem, mem-isIn, not-isIn, all-mem, mem-all, every-all, all-every}
-use Rattle.meaning.proofs.ShiftLaws.{test-closed, closed-test}
-use Rattle.meaning.proofs.Alike.{sameTerms-eq, sameTerms-refl}
-use Rattle.meaning.proofs.Proper.{IsArgument, Proper, applied-functions, functions-applied}
-use Rattle.meaning.proofs.Slots.{slots, standingAt, face-slot, slot-face, faces-expression, slot-standing, standing-slot, in-arguments, arguments-in, slot-plain, slot-applied, pattern-slot}
+use Rattle.meaning.specs.Value.{Source, sourceOf, fromApplication, sourcesIn, sources, lookup, given, candidate}
+use Rattle.meaning.proofs.Lists.{by-test, choose-true, choose-false, eqb-eq, eqb-self, mem-each, each-mem, isIn-mem, mem-isIn, not-isIn}
+use Rattle.meaning.proofs.Proper.{IsArgument, Proper, applied-functions}
+use Rattle.meaning.proofs.Slots.{slots, standingAt, face-slot, slot-face, faces-expression, slot-standing, standing-slot, in-arguments, arguments-in, slot-applied, pattern-slot}
 use Rattle.meaning.proofs.Sources.{value-is, Walked, walked, HasSource, Told, application-told, application-has, source-at, face-source}
 
 pub record Fitting (p : Problem) (σ : Filling) (b : ℕ → Term) : Type 0 where
@@ -56,12 +53,12 @@ module _ (p : Problem) (σ : Filling) (b : ℕ → Term) (fit : Fitting p σ b) 
       let r = source-at (x .what) (x .node) (x .term) s i in
       record {
         holds = value-is (s .number) (σ (s .number)) (x .term) (faced x q)
-            (subst (λ (z : Slot). fillHandler σ (x .under) z (Rattle.meaning.specs.Filling.fill (fillHandler σ) (x .under) (x .children)) ≡ x .term) (r .0) (theWalk .satisfied x q))
-          ∙ ap value (sym (r .1));
+            (subst (λ (z : Slot). fillHandler σ (x .under) z (fill (fillHandler σ) (x .under) (x .children)) ≡ x .term) (r .0) (theWalk .satisfied x q))
+            ∙ ap value (sym (r .1));
         expression = subst (λ (t : Term). IsExpression (one t)) (sym (r .1)) (faced x q);
         standing = alone;
         stands = slot-standing (patterns p) (metavariable (s .number)) (x .children) (s .number, alone) (slotOf x q (metavariable (s .number)) (r .0)) (List·Memᴰ·head refl);
-        needed = refl
+        needed = refl;
       }
 
   pub shapeOf : (f : ℕ) (x : Face) → x ∈ theWalk .found → x .what ≡ function f → (trees (x .children) ≡ placeCount) × IsArgument (x .children)
@@ -83,7 +80,7 @@ module _ (p : Problem) (σ : Filling) (b : ℕ → Term) (fit : Fitting p σ b) 
       let shape = shapeOf f x q e in
       let a : f ∈ applied (patterns p) = appliedAt f x q e in
       let t : Told σ (b f) f x (fit .agree f a) e shape (faced x q) (theWalk .satisfied x q) s =
-          application-told σ (b f) f x (fit .agree f a) e shape (faced x q) (theWalk .satisfied x q) s i in
+      application-told σ (b f) f x (fit .agree f a) e shape (faced x q) (theWalk .satisfied x q) s i in
       let fewer : t .place < trees (x .children) = subst (λ (n : ℕ). t .place < n) (sym (shape .0)) (t .small) in
       let zero-add : 0 + t .place ≡ t .place = omega arith in
       record {
@@ -91,9 +88,9 @@ module _ (p : Problem) (σ : Filling) (b : ℕ → Term) (fit : Fitting p σ b) 
         expression = t .expression;
         standing = argumentOf f (t .place);
         stands = slot-standing (patterns p) (function f) (x .children) (s .number, argumentOf f (t .place)) (slotOf x q (function f) e)
-          (subst (λ (k : ℕ). _∈_ {A = Standing} (s .number, argumentOf f k) (inArguments f 0 (x .children))) zero-add
+            (subst (λ (k : ℕ). _∈_ {A = Standing} (s .number, argumentOf f k) (inArguments f 0 (x .children))) zero-add
             (arguments-in f 0 (t .place) (s .number) (x .children) fewer (t .stands)));
-        needed = needs-hole f (t .place) a (t .hasHoles)
+        needed = needs-hole f (t .place) a (t .hasHoles);
       }
 
   -- EVERY SOURCE IS RIGHT
@@ -125,7 +122,7 @@ module _ (p : Problem) (σ : Filling) (b : ℕ → Term) (fit : Fitting p σ b) 
           let small : a .0 < placeCount = subst (λ (k : ℕ). a .0 < k) (ap trees (sym (x .3)) ∙ shape .0) (a .1) in
           let hole-there : hasHole (a .0) (one (b f)) ≡ true = hole-needed f (a .0) ap-f (ap (needs σ) (ap (argumentOf f) (sym zero-add) ∙ sym (a .2)) ∙ n) in
           let s = application-has σ (b f) f (x .0) (fit .agree f ap-f) (x .2) shape (faced (x .0) (x .1)) (theWalk .satisfied (x .0) (x .1)) (fit .shapes f ap-f) (a .0) m small hole-there
-              (subst (λ (d : Terms). m ∈ plain (one (argument d (a .0)))) (sym (x .3)) (a .3)) in
+          (subst (λ (d : Terms). m ∈ plain (one (argument d (a .0)))) (sym (x .3)) (a .3)) in
           let inApplication : s .0 ∈ fromApplication b (x .0) (x .0 .what) = subst (λ (z : Slot). s .0 ∈ fromApplication b (x .0) z) (sym (x .2)) (s .1) in
           (s .0, Memᴰ·append-right (each sourceOf (theWalk .found)) (mem-each (λ y. fromApplication b y (y .what)) (x .0) (s .0) (theWalk .found) (x .1) inApplication), s .2)
       go (hole k) c q j = absurd (List·Memᴰ·not-nil j)
@@ -187,18 +184,18 @@ module _ (p : Problem) (r : Row) where
   pub fitting-idle : (σ : Filling) → Fitting p σ (rowBody p r) → (m : ℕ) → lookup m (sources p r) ≡ none → Idle p σ m
   fitting-idle σ fit m e w i =
       by-test (needs σ w)
-        (λ n. absurd (lookup-none m (sources p r) e
-          (subst (HasSource m) (sym (sources-found σ fit)) (needed-source p σ (rowBody p r) fit m w i n))))
-        (λ n. n)
+      (λ n. absurd (lookup-none m (sources p r) e
+      (subst (HasSource m) (sym (sources-found σ fit)) (needed-source p σ (rowBody p r) fit m w i n))))
+      (λ n. n)
 
   -- A SOLUTION WITH THE ROW'S BODIES IS THE CANDIDATE
   pub solution-fitting : (σ : Filling) → Proper p → Solution p σ → HasBodies p r σ → Fitting p σ (rowBody p r)
   solution-fitting σ c s h = record {
-      proper = c;
-      meets = s .meets;
-      agree = λ f a. h f (applied-functions p c f a);
-      shapes = λ f a. shape f a (s .bodies f a)
-    }
+    proper = c;
+    meets = s .meets;
+    agree = λ f a. h f (applied-functions p c f a);
+    shapes = λ f a. shape f a (s .bodies f a);
+  }
     where
       shape : (f : ℕ) → f ∈ applied (patterns p) → (b : Term) × (σ f ≡ body b) × IsBody placeCount (one b) × ClosedTerm b → IsBody placeCount (one (rowBody p r f))
       shape f a x =
@@ -209,12 +206,12 @@ module _ (p : Problem) (r : Row) where
   pub solution-candidate : (σ : Filling) → Proper p → Solution p σ → HasBodies p r σ → (m : ℕ) → σ m ≡ candidate p r m
   solution-candidate σ c s h m =
       by-test (isFunction p m)
-        (λ a. let q : m ∈ applied (patterns p) = isIn-mem m (applied (patterns p)) a in h m (applied-functions p c m q) ∙ sym (candidate-function m q))
-        (λ a. let na : m ∈ applied (patterns p) → ⊥ = λ q. false≢true (sym a ∙ mem-isIn m (applied (patterns p)) q) in
-          by-test (isPlain p m)
-            (λ b. plain-case na (isIn-mem m (plain (patterns p)) b) (lookup-cases m (sources p r)))
-            (λ b. let nb : m ∈ plain (patterns p) → ⊥ = λ q. false≢true (sym b ∙ mem-isIn m (plain (patterns p)) q) in
-              s .others m na nb ∙ sym (candidate-other m na nb)))
+      (λ a. let q : m ∈ applied (patterns p) = isIn-mem m (applied (patterns p)) a in h m (applied-functions p c m q) ∙ sym (candidate-function m q))
+      (λ a. let na : m ∈ applied (patterns p) → ⊥ = λ q. false≢true (sym a ∙ mem-isIn m (applied (patterns p)) q) in
+      by-test (isPlain p m)
+      (λ b. plain-case na (isIn-mem m (plain (patterns p)) b) (lookup-cases m (sources p r)))
+      (λ b. let nb : m ∈ plain (patterns p) → ⊥ = λ q. false≢true (sym b ∙ mem-isIn m (plain (patterns p)) q) in
+      s .others m na nb ∙ sym (candidate-other m na nb)))
     where
       fit : Fitting p σ (rowBody p r)
       fit = solution-fitting σ c s h

@@ -16,19 +16,9 @@ use Rattle.meaning.specs.Problem.{Problem, functions}
 use Rattle.meaning.specs.Face.{Face, faces}
 use Rattle.meaning.specs.Choice.{Mark, Marks, Owner, below, viewsFrom, views, usesFace, Choice, isPlace, chosen, sameOwned, allSame, fitsPlace, isChoice, Earlier, Ordered, empty, allMarks, choices}
 use Rattle.meaning.specs.Row.{Row, faceOf, rowsOver, rows, ChoiceEach, IsRow, EarlierRow}
-use Rattle.meaning.proofs.Lists.{T-true, true-T, and-T, T-and, eqb-self, eqb-eq, mem-keep, keep-mem, mem-upTo, all-mem, mem-all, every-all, all-every}
+use Rattle.meaning.proofs.Lists.{T-true, true-T, and-T, T-and, eqb-self, eqb-eq, mem-keep, keep-mem, mem-upTo, all-mem, mem-all, every-all, all-every, at-mem, mem-at}
 use Rattle.meaning.proofs.Alike.{sameOwned-eq, sameOwned-refl}
 use Rattle.meaning.proofs.Ordered.{keep-ordered, ordered-distinct, Placed, allMarks-ordered, allMarks-are, OneOfEach, product-ordered, product-are, earlier-strict, earlierRow-strict}
-
--- The element at a number
-at-mem : {A : Type 0} (xs : List A) (k : ℕ) (x : A) → getElem? xs k ≡ some x → x ∈ xs
-at-mem [] k x e = absurd (let z : _≡_ {A = ℕ} 0 1 = cc in omega arith)
-at-mem (y ∷ xs) zero x e = List·Memᴰ·head (let p : x ≡ y = cc in p)
-at-mem (y ∷ xs) (suc k) x e = List·Memᴰ·tail (at-mem xs k x e)
-
-mem-at : {A : Type 0} (xs : List A) (x : A) → x ∈ xs → (k : ℕ) × (getElem? xs k ≡ some x)
-mem-at xs x (List·Memᴰ·head e) = (0, ap some (sym e))
-mem-at xs x (List·Memᴰ·tail m) = let (k, e) = mem-at _ x m in (suc k, e)
 
 -- Where one list has an element, so has each list of the same length
 pub at-other : {A B : Type 0} (xs : List A) (ys : List B) (k : ℕ) (x : A) → length xs ≡ length ys → getElem? xs k ≡ some x → (y : B) × (getElem? ys k ≡ some y)

@@ -1,12 +1,12 @@
 -- The starred examples of document 01, computed from the definitions.
 use mathlib.Core.Path.{_≡_, refl}
-use mathlib.Core.List.{List, [], _∷_, map}
+use mathlib.Core.List.{map}
 use Rattle.meaning.specs.Limits.{metavariableCount, placeCount}
 use Rattle.meaning.specs.Basics.{All}
 use Rattle.meaning.specs.Problem.{functions, metavariables}
-use Rattle.meaning.specs.Row.{Row, rows, rowBody}
+use Rattle.meaning.specs.Row.{rows, rowBody}
 use Rattle.meaning.specs.Value.{candidate, solves, solutionRows}
-use Rattle.meaning.specs.Text.{Item, entryOf, textOf}
+use Rattle.meaning.specs.Text.{entryOf, textOf}
 use Rattle.meaning.specs.Case.{Case, starred}
 
 -- The texts of the solution rows, in row order, are those of the case

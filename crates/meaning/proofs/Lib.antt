@@ -23,6 +23,7 @@ pub mod Proper
 pub mod Slots
 pub mod Sources
 pub mod Candidate
+pub mod RowBodies
 pub mod Solutions
 -- The search
 pub mod CallLaws

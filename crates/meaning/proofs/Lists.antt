@@ -1,14 +1,14 @@
 -- Laws of the lists, answers and tests of `Basics`.
-use mathlib.Core.Path.{_≡_, refl, ap, ap₂, sym, _∙_, subst}
-use mathlib.Core.Logic.{_⊎_, inl, inr, ⊎-elim, _↔_}
+use mathlib.Core.Path.{_≡_, refl, ap, sym, _∙_, subst}
+use mathlib.Core.Logic.{_⊎_, inl, inr, ⊎-elim}
 use Prim.Native.Nat.{ℕ, zero, suc, _+_, _<_, _≤_}
-use mathlib.Core.Bool.{Bool, true, false, _||_, _&&_, not, true≢false, false≢true}
-use mathlib.Core.List.{List, [], _∷_, _++_, map, List·Memᴰ, List·Memᴰ·head, List·Memᴰ·tail, List·Memᴰ·cases-cons, List·Memᴰ·not-nil, List·Memᴰ·append-cases, Memᴰ·append-left, Memᴰ·append-right}
+use mathlib.Core.Bool.{Bool, true, false, _||_, _&&_, true≢false, false≢true}
+use mathlib.Core.List.{List, [], _∷_, _++_, map, append-assoc, List·Memᴰ·head, List·Memᴰ·tail, List·Memᴰ·cases-cons, List·Memᴰ·not-nil, List·Memᴰ·append-cases, Memᴰ·append-left, Memᴰ·append-right}
 use mathlib.Core.Option.{Option, none, some}
 use native.Mathlib.Omega.{arith}
-use lib.ListN.{length}
+use lib.ListN.{drop, getElem?}
 use lib.Dec.{eqb, eqb→eq, eqb-refl, T}
-use Rattle.meaning.specs.Basics.{choose, keep, each, countFrom, upTo, isIn, every, All, _∈_, andThen, join, guard, AllO}
+use Rattle.meaning.specs.Basics.{choose, keep, each, countFrom, upTo, isIn, every, All, _∈_, Distinct, isSome, join, guard, AllO}
 
 -- Tests as types and as equations
 pub T-true : {b : Bool} → T b → b ≡ true
@@ -22,9 +22,6 @@ pub not-T : {b : Bool} → (T b → ⊥) → b ≡ false
 not-T {b = true} f = absurd (f tt)
 not-T {b = false} f = refl
 
-pub false-not : {b : Bool} → b ≡ false → T b → ⊥
-false-not e t = subst T e t
-
 pub and-T : (a b : Bool) → T (a && b) → T a × T b
 and-T true b t = (tt, t)
 and-T false b t = absurd t
@@ -32,6 +29,17 @@ and-T false b t = absurd t
 pub T-and : (a b : Bool) → T a → T b → T (a && b)
 T-and true b s t = t
 T-and false b s t = absurd s
+
+pub or-cases : (a b : Bool) → (a || b) ≡ true → (a ≡ true) ⊎ (b ≡ true)
+or-cases true b e = inl refl
+or-cases false b e = inr e
+
+pub or-left : (a b : Bool) → a ≡ true → (a || b) ≡ true
+or-left a b e = ap (λ (x : Bool). x || b) e
+
+pub or-right : (a b : Bool) → b ≡ true → (a || b) ≡ true
+or-right true b e = refl
+or-right false b e = e
 
 pub eqb-self : (n : ℕ) → eqb n n ≡ true
 eqb-self n = T-true (eqb-refl n)
@@ -145,6 +153,33 @@ mem-upTo n m h = mem-countFrom 0 n m (omega arith) (omega arith)
 pub upTo-mem : (n m : ℕ) → m ∈ upTo n → m < n
 upTo-mem n m h = let r = countFrom-mem 0 n m h in omega arith
 
+-- The element at a number
+pub at-mem : {A : Type 0} (xs : List A) (k : ℕ) (x : A) → getElem? xs k ≡ some x → x ∈ xs
+at-mem [] k x e = absurd (let z : _≡_ {A = ℕ} 0 1 = cc in omega arith)
+at-mem (y ∷ xs) zero x e = List·Memᴰ·head (let p : x ≡ y = cc in p)
+at-mem (y ∷ xs) (suc k) x e = List·Memᴰ·tail (at-mem xs k x e)
+
+pub mem-at : {A : Type 0} (xs : List A) (x : A) → x ∈ xs → (k : ℕ) × (getElem? xs k ≡ some x)
+mem-at xs x (List·Memᴰ·head e) = (0, ap some (sym e))
+mem-at xs x (List·Memᴰ·tail m) = let (k, e) = mem-at _ x m in (suc k, e)
+
+pub drop-mem : {A : Type 0} (x : A) (n : ℕ) (xs : List A) → x ∈ drop n xs → x ∈ xs
+drop-mem x zero xs q = q
+drop-mem x (suc n) [] q = q
+drop-mem x (suc n) (y ∷ ys) q = List·Memᴰ·tail (drop-mem x n ys q)
+
+pub each-append : {A B : Type 0} (f : A → List B) (xs ys : List A) → each f (xs ++ ys) ≡ each f xs ++ each f ys
+each-append f [] ys = refl
+each-append {A} {B} f (x ∷ xs) ys = ap (λ (r : List B). f x ++ r) (each-append f xs ys) ∙ sym (append-assoc (f x) (each f xs) (each f ys))
+
+pub keep-distinct : {A : Type 0} (p : A → Bool) (xs : List A) → Distinct xs → Distinct (keep p xs)
+keep-distinct p [] d = tt
+keep-distinct {A} p (x ∷ xs) d = go (p x) (keep-distinct p xs (d .1))
+  where
+    go : (b : Bool) → Distinct (keep p xs) → Distinct (choose b (x ∷ keep p xs) (keep p xs))
+    go true h = (λ q. d .0 (keep-mem p x xs q .0), h)
+    go false h = h
+
 -- Every element
 pub all-mem : {A : Type 0} (P : A → Type 0) (x : A) (xs : List A) → All P xs → x ∈ xs → P x
 all-mem P x [] a m = absurd (List·Memᴰ·not-nil m)
@@ -171,6 +206,10 @@ all-every p [] a = tt
 all-every p (x ∷ xs) a = T-and (p x) (every p xs) (true-T (a .0)) (all-every p xs (a .1))
 
 -- Answers
+pub is-some : {A : Type 0} (o : Option A) → isSome o ≡ true → (a : A) × (o ≡ some a)
+is-some none e = absurd (false≢true e)
+is-some (some a) e = (a, refl)
+
 pub join-in : {A : Type 0} (P : A → Type 0) (x y : Option (List A)) → AllO P x → AllO P y → AllO P (join x y)
 join-in P none y h g = h
 join-in P (some x) none h g = g

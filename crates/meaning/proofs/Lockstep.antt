@@ -1,14 +1,14 @@
 -- Lockstep: a filled pattern equals an expression exactly when the walk of the two is defined and every face is satisfied.
 -- It holds for any filling of slots, so that it serves for patterns and for bodies.
-use mathlib.Core.Path.{_≡_, refl, ap, ap₂, sym, _∙_, subst}
+use mathlib.Core.Path.{_≡_, refl, ap, subst}
 use mathlib.Core.Logic.{_↔_}
-use Prim.Native.Nat.{ℕ, zero, suc, _+_}
-use mathlib.Core.List.{List, [], _∷_}
-use mathlib.Core.Option.{Option, none, some}
+use Prim.Native.Nat.{ℕ, suc, _+_}
+use mathlib.Core.List.{List}
+use mathlib.Core.Option.{Option}
 use native.Mathlib.Omega.{arith}
 use lib.Dec.{T}
 use Rattle.meaning.specs.Basics.{AllO}
-use Rattle.meaning.specs.Term.{nil, cons, Own, Label, own, slot, Variable, Nameless, Terms, Term, size, inner}
+use Rattle.meaning.specs.Term.{nil, cons, Own, own, slot, Variable, Nameless, Terms, Term, size, inner}
 use Rattle.meaning.specs.Equal.{sameVariable}
 use Rattle.meaning.specs.Filling.{Handler, fillLabel, fill}
 use Rattle.meaning.specs.Face.{Face, agrees, meet, walk, Satisfied}
@@ -27,13 +27,13 @@ agrees-self o = own-refl sameVariable variable-refl o
 module _ (h : Handler) where
   -- One node, when its children are known to walk as they should
   meet-in : (k n : ℕ) (l : Nameless) (c : Terms) (t : Term) (below : Option (List Face))
-    → (fill h (inner l k) c ≡ t .1 → AllO (Satisfied h) below) → fillLabel h k l (fill h (inner l k) c) ≡ t → AllO (Satisfied h) (meet k n l c t below)
+      → (fill h (inner l k) c ≡ t .1 → AllO (Satisfied h) below) → fillLabel h k l (fill h (inner l k) c) ≡ t → AllO (Satisfied h) (meet k n l c t below)
   meet-in k n (own o) c t below f e =
       guard-in (Satisfied h) (agrees o (t .0)) below (subst (λ (x : Term). T (agrees o (x .0))) e (agrees-self o)) (f (ap (λ (x : Term). x .1) e))
   meet-in k n (slot z) c t below f e = (e, tt)
 
   meet-out : (k n : ℕ) (l : Nameless) (c : Terms) (t : Term) (below : Option (List Face))
-    → (AllO (Satisfied h) below → fill h (inner l k) c ≡ t .1) → AllO (Satisfied h) (meet k n l c t below) → fillLabel h k l (fill h (inner l k) c) ≡ t
+      → (AllO (Satisfied h) below → fill h (inner l k) c ≡ t .1) → AllO (Satisfied h) (meet k n l c t below) → fillLabel h k l (fill h (inner l k) c) ≡ t
   meet-out k n (own o) c t below f g =
       let r = guard-out (Satisfied h) (agrees o (t .0)) below g in pair-eq (agrees-eq o (t .0) (r .0)) (f (r .1))
   meet-out k n (slot z) c t below f g = g .0
@@ -44,8 +44,8 @@ module _ (h : Handler) where
   walk-in k n (cons l c s) nil q = absurd (let z : _≡_ {A = ℕ} 0 1 = cc in omega arith)
   walk-in k n (cons l c s) (cons l′ c′ s′) q =
       join-in (Satisfied h) (meet k n l c (l′, c′) (walk (inner l k) (suc n) c c′)) (walk k (suc n + size c′) s s′)
-        (meet-in k n l c (l′, c′) (walk (inner l k) (suc n) c c′) (walk-in (inner l k) (suc n) c c′) (pair-eq (cc) (cc)))
-        (walk-in k (suc n + size c′) s s′ (cc))
+      (meet-in k n l c (l′, c′) (walk (inner l k) (suc n) c c′) (walk-in (inner l k) (suc n) c c′) (pair-eq (cc) (cc)))
+      (walk-in k (suc n + size c′) s s′ (cc))
 
   pub walk-out : (k n : ℕ) (p e : Terms) → AllO (Satisfied h) (walk k n p e) → fill h k p ≡ e
   walk-out k n nil nil g = refl

@@ -2,23 +2,22 @@
 --   IsPattern    functions are applied to as many arguments as they have places, and there is none inside an argument
 --   Proper       expressions are expressions, patterns are patterns, and no metavariable is used both ways
 use mathlib.Core.Path.{_≡_, refl, ap, ap₂, sym, _∙_, subst}
-use mathlib.Core.Logic.{_⊎_, inl, inr, ⊎-elim, _↔_}
-use Prim.Native.Nat.{ℕ, zero, suc, _+_, _<_}
-use mathlib.Core.Bool.{Bool, true, false, _&&_, _||_, not, true≢false, false≢true}
+use mathlib.Core.Logic.{⊎-elim}
+use Prim.Native.Nat.{ℕ, zero, suc, _<_}
+use mathlib.Core.Bool.{Bool, true, false, _&&_, not, true≢false, false≢true}
 use mathlib.Core.List.{List, [], _∷_, _++_, map, List·Memᴰ·append-cases, List·Memᴰ·cases-cons, List·Memᴰ·not-nil}
 use native.Mathlib.Omega.{arith}
 use lib.ListN.{length}
 use lib.Dec.{T, ltb}
 use Rattle.meaning.specs.Limits.{metavariableCount, maxFunctions, placeCount, maxDepth}
-use Rattle.meaning.specs.Basics.{choose, keep, every, upTo, All, _∈_}
-use Rattle.meaning.specs.Term.{Forest, nil, cons, Tree, graft, one, trees, relabel, Own, symbol, variable, application, binder, Label, own, slot, metavariable, function, hole, Named, Nameless, NamedTerm, Terms, Term, ownLabel, IsExpression}
+use Rattle.meaning.specs.Basics.{choose, every, upTo, All, _∈_}
+use Rattle.meaning.specs.Term.{Forest, nil, cons, one, trees, relabel, symbol, variable, application, binder, own, slot, metavariable, function, hole, Named, Nameless, NamedTerm, Terms, IsExpression}
 use Rattle.meaning.specs.Scope.{enter, namelessLabel, nameless}
-use Rattle.meaning.specs.Problem.{Constraint, Problem, forestOf, patterns, expressions, plain, applied, isFunction, isPlain, functions, metavariables}
-use Rattle.meaning.specs.Filling.{bodyLabel, IsBody}
-use Rattle.meaning.specs.Read.{Answer, refused, got, Context, inPattern, inArgument, inExpression, inBody, contextBelow}
+use Rattle.meaning.specs.Problem.{Constraint, Problem, forestOf, patterns, expressions, plain, applied, isFunction, isPlain, functions}
+use Rattle.meaning.specs.Read.{Answer, refused, got, Context, inPattern, inArgument, inExpression, contextBelow}
 use Rattle.meaning.specs.Accept.{bothWays, overlarge, checkProblem}
-use Rattle.meaning.specs.Readable.{NodeFits, Readable, ReadableConstraint, WithinLimits, Accepted}
-use Rattle.meaning.proofs.Lists.{T-true, true-T, by-test, choose-true, choose-false, mem-keep, keep-mem, isIn-mem, mem-isIn, mem-upTo, upTo-mem, all-mem, every-all}
+use Rattle.meaning.specs.Readable.{Readable, ReadableConstraint, Accepted}
+use Rattle.meaning.proofs.Lists.{by-test, choose-true, mem-keep, keep-mem, isIn-mem, mem-isIn, mem-upTo, all-mem, every-all}
 
 -- In an argument there are only metavariables besides the expression's own nodes
 abbrev pub argumentLabel : Nameless → Terms → Type 0
@@ -117,7 +116,7 @@ both xs xs′ ys ys′ h g =
 
 -- The metavariables of a readable forest are small numbers
 readable-small : (levels : ℕ) (ctx : Context) (sc : List ℕ) (u : Forest Named) → Readable levels ctx u
-  → Small (applied (nameless sc u)) (plain (nameless sc u))
+    → Small (applied (nameless sc u)) (plain (nameless sc u))
 unfolding Small
 readable-small levels ctx sc nil h = (λ m q. absurd (List·Memᴰ·not-nil q), λ m q. absurd (List·Memᴰ·not-nil q))
 readable-small zero ctx sc (cons l c s) h = absurd h
@@ -156,16 +155,16 @@ pub not-both-ways : (p : Problem) → checkProblem p ≡ got p → bothWays p �
 unfolding checkProblem
 not-both-ways p e =
     by-test (bothWays p)
-      (λ h. absurd (let z : _≡_ {A = ℕ} 0 1 = cc (choose-true {A = Answer Problem} (refused 12) (choose (ltb maxFunctions (length (functions p))) (refused 13) (choose (overlarge p) (refused 14) (got p))) h) in omega arith))
-      (λ h. h)
+    (λ h. absurd (let z : _≡_ {A = ℕ} 0 1 = cc (choose-true {A = Answer Problem} (refused 12) (choose (ltb maxFunctions (length (functions p))) (refused 13) (choose (overlarge p) (refused 14) (got p))) h) in omega arith))
+    (λ h. h)
 
 separated : (p : Problem) → bothWays p ≡ false → (m : ℕ) → m < metavariableCount → m ∈ applied (patterns p) → m ∈ plain (patterns p) → ⊥
 unfolding bothWays
 separated p e m small a b =
     let ok : T (every (λ x. not (isFunction p x && isPlain p x)) (upTo metavariableCount)) = not-not (every (λ x. not (isFunction p x && isPlain p x)) (upTo metavariableCount)) e in
     let f : not (isFunction p m && isPlain p m) ≡ true =
-        all-mem (λ x. not (isFunction p x && isPlain p x) ≡ true) m (upTo metavariableCount)
-          (every-all (λ x. not (isFunction p x && isPlain p x)) (upTo metavariableCount) ok) (mem-upTo metavariableCount m small) in
+    all-mem (λ x. not (isFunction p x && isPlain p x) ≡ true) m (upTo metavariableCount)
+    (every-all (λ x. not (isFunction p x && isPlain p x)) (upTo metavariableCount) ok) (mem-upTo metavariableCount m small) in
     let x : isFunction p m ≡ true = mem-isIn m (applied (patterns p)) a in
     let y : isPlain p m ≡ true = mem-isIn m (plain (patterns p)) b in
     false≢true (sym (ap₂ (λ (u v : Bool). not (u && v)) x y) ∙ f)
@@ -185,7 +184,7 @@ accepted-proper p a =
       pattern = readable-pattern maxDepth [] (forestOf (map (λ (c : Constraint). c .pattern) p)) ps;
       separate = λ m x y. separated p (not-both-ways p (a .checked)) m (small .0 m x) x y;
       smallApplied = small .0;
-      smallPlain = small .1
+      smallPlain = small .1;
     }
 
 -- The ascending lists hold just the metavariables that occur

@@ -1,16 +1,15 @@
 -- Laws of shift, lower and closed: lowering undoes shifting, and a closed term is not moved.
 use mathlib.Core.Path.{_≡_, refl, ap, ap₂, sym, _∙_, subst}
-use Prim.Native.Nat.{ℕ, zero, suc, _+_, _-_, _<_, _≤_}
-use mathlib.Core.Bool.{Bool, true, false, _&&_, false≢true, true≢false}
-use mathlib.Core.List.{List, [], _∷_}
+use Prim.Native.Nat.{ℕ, suc, _+_, _-_, _<_, _≤_}
+use mathlib.Core.Bool.{true, false, _&&_}
 use mathlib.Core.Option.{Option, none, some}
 use native.Mathlib.Omega.{arith}
 use native.Mathlib.Decide.{decLt}
 use lib.Dec.{ltb, T, ltb→lt, lt→ltb}
-use Rattle.meaning.specs.Basics.{choose, andThen}
-use Rattle.meaning.specs.Term.{Forest, nil, cons, Tree, one, size, relabel, Own, symbol, variable, application, binder, Label, own, slot, Slot, Variable, free, bound, Nameless, Terms, Term, inner, ownLabel, IsExpression}
+use Rattle.meaning.specs.Basics.{andThen}
+use Rattle.meaning.specs.Term.{Forest, nil, cons, Tree, one, size, relabel, symbol, variable, application, binder, Label, own, slot, Variable, free, bound, Nameless, Terms, Term, inner, ownLabel, IsExpression}
 use Rattle.meaning.specs.Shift.{withVariable, raise, shiftLabel, shift, shiftTerm, sink, lowerLabel, lower, lowerTerm, closedVariable, closedLabel, Closed, ClosedTerm, isClosedVariable, isClosedLabel, isClosed}
-use Rattle.meaning.proofs.Lists.{T-true, true-T, not-T, and-T, T-and}
+use Rattle.meaning.proofs.Lists.{T-true, not-T, and-T, T-and}
 
 pub ltb-yes : (m n : ℕ) → m < n → ltb m n ≡ true
 ltb-yes m n h = T-true (lt→ltb m n h)
@@ -103,15 +102,15 @@ lowered n k l c s v e = go (lowerLabel n k l) (lower n (inner l k) c) (lower n k
         record { label = l′; children = c′; siblings = s′; isLabel = a; areChildren = b; areSiblings = d; whole = cc }
 
 lower-node : (n k : ℕ) (l l′ : Nameless) (c s c′ s′ : Terms) → lowerLabel n k l ≡ some l′ → lower n (inner l k) c ≡ some c′ → lower n k s ≡ some s′
-  → lower n k (cons l c s) ≡ some (cons l′ c′ s′)
+    → lower n k (cons l c s) ≡ some (cons l′ c′ s′)
 lower-node n k l l′ c s c′ s′ a b d = rw (a, b, d)
 
 pub lower-shift : (n k : ℕ) (u : Terms) → lower n k (shift n k u) ≡ some u
 lower-shift n k nil = refl
 lower-shift n k (cons l c s) =
     lower-node n k (shiftLabel n k l) l (shift n (inner l k) c) (shift n k s) c s (lower-shift-label n k l)
-      (rw (inner-with (raise n k) k l) (lower-shift n (inner l k) c))
-      (lower-shift n k s)
+    (rw (inner-with (raise n k) k l) (lower-shift n (inner l k) c))
+    (lower-shift n k s)
 
 pub shift-lower : (n k : ℕ) (u v : Terms) → lower n k u ≡ some v → shift n k v ≡ u
 shift-lower n k nil v e = let p : v ≡ nil = cc in rw p
@@ -128,7 +127,7 @@ pub lowered-term : (n : ℕ) (t a : Term) → lowerTerm n t ≡ some a → (lowe
 lowered-term n t a e = go (lowerLabel n 0 (t .0)) (lower n (inner (t .0) 0) (t .1)) refl refl
   where
     go : (o : Option Nameless) (q : Option Terms) → lowerLabel n 0 (t .0) ≡ o → lower n (inner (t .0) 0) (t .1) ≡ q
-      → (lowerLabel n 0 (t .0) ≡ some (a .0)) × (lower n (inner (t .0) 0) (t .1) ≡ some (a .1))
+        → (lowerLabel n 0 (t .0) ≡ some (a .0)) × (lower n (inner (t .0) 0) (t .1) ≡ some (a .1))
     go none q x y = absurd (let z : _≡_ {A = ℕ} 0 1 = cc in omega arith)
     go (some l) none x y = absurd (let z : _≡_ {A = ℕ} 0 1 = cc in omega arith)
     go (some l) (some c) x y =
@@ -234,4 +233,4 @@ pub closed-test : (k : ℕ) (u : Terms) → Closed k u → T (isClosed k u)
 closed-test k nil h = tt
 closed-test k (cons l c s) h =
     T-and (isClosedLabel k l) (isClosed (inner l k) c && isClosed k s) (label-closed k l (h .0))
-      (T-and (isClosed (inner l k) c) (isClosed k s) (closed-test (inner l k) c (h .1)) (closed-test k s (h .2)))
+    (T-and (isClosed (inner l k) c) (isClosed k s) (closed-test (inner l k) c (h .1)) (closed-test k s (h .2)))

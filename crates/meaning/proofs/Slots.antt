@@ -3,19 +3,19 @@
 use mathlib.Core.Path.{_≡_, refl, ap, ap₂, sym, _∙_, subst}
 use mathlib.Core.Logic.{_⊎_, inl, inr, ⊎-elim}
 use Prim.Native.Nat.{ℕ, zero, suc, _+_, _<_}
-use mathlib.Core.Bool.{Bool, true, false, _||_, true≢false, false≢true}
-use mathlib.Core.List.{List, [], _∷_, _++_, map, append-assoc, List·Memᴰ, List·Memᴰ·head, List·Memᴰ·tail, List·Memᴰ·append-cases, List·Memᴰ·cases-cons, List·Memᴰ·not-nil, Memᴰ·append-left, Memᴰ·append-right}
+use mathlib.Core.Bool.{Bool, true, false, _||_, false≢true}
+use mathlib.Core.List.{List, [], _∷_, _++_, map, map-append, List·Memᴰ·head, List·Memᴰ·tail, List·Memᴰ·append-cases, List·Memᴰ·cases-cons, List·Memᴰ·not-nil, Memᴰ·append-left, Memᴰ·append-right}
 use mathlib.Core.Option.{Option, none, some}
 use native.Mathlib.Omega.{arith}
 use lib.Dec.{eqb}
 use Rattle.meaning.specs.Limits.{placeCount}
 use Rattle.meaning.specs.Basics.{each, join, guard, _∈_}
-use Rattle.meaning.specs.Term.{Forest, nil, cons, one, size, trees, Label, own, slot, Slot, metavariable, function, hole, Nameless, Terms, Term, inner, ownLabel, IsExpression}
-use Rattle.meaning.specs.Problem.{plain, applied, Where, alone, argumentOf, Standing, inArguments, standings}
+use Rattle.meaning.specs.Term.{nil, cons, one, size, trees, own, slot, Slot, metavariable, function, hole, Nameless, Terms, Term, inner, IsExpression}
+use Rattle.meaning.specs.Problem.{plain, applied, alone, argumentOf, Standing, inArguments, standings}
 use Rattle.meaning.specs.Filling.{argument, IsBody}
 use Rattle.meaning.specs.Solution.{hasHole}
 use Rattle.meaning.specs.Face.{Face, agrees, meet, walk}
-use Rattle.meaning.proofs.Lists.{eqb-eq, eqb-self, mem-map, map-mem, mem-each, each-mem}
+use Rattle.meaning.proofs.Lists.{eqb-eq, eqb-self, or-cases, or-left, or-right, each-append, mem-map, map-mem, mem-each, each-mem}
 use Rattle.meaning.proofs.Proper.{IsArgument, IsPattern}
 
 abbrev pub slotsNode : Nameless → Terms → List (Slot × Terms) → List (Slot × Terms)
@@ -34,12 +34,8 @@ abbrev pub When : {A : Type 0} → (A → Type 0) → Option A → Type 0
 When P none = Unit {0}
 When P (some a) = P a
 
-map-append : {A B : Type 0} (f : A → B) (xs ys : List A) → map f (xs ++ ys) ≡ map f xs ++ map f ys
-map-append f [] ys = refl
-map-append {A} {B} f (x ∷ xs) ys = ap (λ (r : List B). f x ∷ r) (map-append f xs ys)
-
 join-keys : (a b : List (Slot × Terms)) (x y : Option (List Face))
-  → When (λ xs. map key xs ≡ a) x → When (λ xs. map key xs ≡ b) y → When (λ xs. map key xs ≡ a ++ b) (join x y)
+    → When (λ xs. map key xs ≡ a) x → When (λ xs. map key xs ≡ b) y → When (λ xs. map key xs ≡ a ++ b) (join x y)
 join-keys a b none y h g = tt
 join-keys a b (some x) none h g = tt
 join-keys a b (some x) (some y) h g = map-append key x y ∙ ap₂ (λ (u v : List (Slot × Terms)). u ++ v) h g
@@ -49,7 +45,7 @@ guard-when P true w h = h
 guard-when P false w h = tt
 
 meet-keys : (k n : ℕ) (l : Nameless) (c : Terms) (t : Term) (below : Option (List Face)) (z : List (Slot × Terms))
-  → When (λ xs. map key xs ≡ z) below → When (λ xs. map key xs ≡ slotsNode l c z) (meet k n l c t below)
+    → When (λ xs. map key xs ≡ z) below → When (λ xs. map key xs ≡ slotsNode l c z) (meet k n l c t below)
 meet-keys k n (own o) c t below z h = guard-when (λ xs. map key xs ≡ z) (agrees o (t .0)) below h
 meet-keys k n (slot y) c t below z h = refl
 
@@ -59,8 +55,8 @@ walk-keys k n nil (cons l c s) = tt
 walk-keys k n (cons l c s) nil = tt
 walk-keys k n (cons l c s) (cons l′ c′ s′) =
     join-keys (slotsNode l c (slots c)) (slots s) (meet k n l c (l′, c′) (walk (inner l k) (suc n) c c′)) (walk k (suc n + size c′) s s′)
-      (meet-keys k n l c (l′, c′) (walk (inner l k) (suc n) c c′) (slots c) (walk-keys (inner l k) (suc n) c c′))
-      (walk-keys k (suc n + size c′) s s′)
+    (meet-keys k n l c (l′, c′) (walk (inner l k) (suc n) c c′) (slots c) (walk-keys (inner l k) (suc n) c c′))
+    (walk-keys k (suc n + size c′) s s′)
 
 -- The faces of a walk stand for the pattern's slots, in order
 pub faces-slots : (k n : ℕ) (p e : Terms) (xs : List Face) → walk k n p e ≡ some xs → map key xs ≡ slots p
@@ -70,7 +66,7 @@ pub face-slot : (k n : ℕ) (p e : Terms) (xs : List Face) (x : Face) → walk k
 face-slot k n p e xs x q m = subst (λ (l : List (Slot × Terms)). key x ∈ l) (faces-slots k n p e xs q) (mem-map key m)
 
 pub slot-face : (k n : ℕ) (p e : Terms) (xs : List Face) (z : Slot) (c : Terms) → walk k n p e ≡ some xs → (z, c) ∈ slots p
-  → (x : Face) × (x ∈ xs) × (x .what ≡ z) × (x .children ≡ c)
+    → (x : Face) × (x ∈ xs) × (x .what ≡ z) × (x .children ≡ c)
 slot-face k n p e xs z c q m =
     let r = map-mem key (z, c) xs (subst (λ (l : List (Slot × Terms)). (z, c) ∈ l) (sym (faces-slots k n p e xs q)) m) in
     (r .0, r .1, sym (ap (λ (y : Slot × Terms). y .0) (r .2)), sym (ap (λ (y : Slot × Terms). y .1) (r .2)))
@@ -80,13 +76,13 @@ abbrev FacesExpression : Face → Type 0
 FacesExpression x = IsExpression (one (x .term))
 
 join-expressions : (x y : Option (List Face)) → When (λ xs. (z : Face) → z ∈ xs → FacesExpression z) x → When (λ xs. (z : Face) → z ∈ xs → FacesExpression z) y
-  → When (λ xs. (z : Face) → z ∈ xs → FacesExpression z) (join x y)
+    → When (λ xs. (z : Face) → z ∈ xs → FacesExpression z) (join x y)
 join-expressions none y h g = tt
 join-expressions (some x) none h g = tt
 join-expressions (some x) (some y) h g = λ z m. ⊎-elim (h z) (g z) (List·Memᴰ·append-cases x m)
 
 meet-expressions : (k n : ℕ) (l : Nameless) (c : Terms) (t : Term) (below : Option (List Face)) → IsExpression (one t)
-  → When (λ xs. (z : Face) → z ∈ xs → FacesExpression z) below → When (λ xs. (z : Face) → z ∈ xs → FacesExpression z) (meet k n l c t below)
+    → When (λ xs. (z : Face) → z ∈ xs → FacesExpression z) below → When (λ xs. (z : Face) → z ∈ xs → FacesExpression z) (meet k n l c t below)
 meet-expressions k n (own o) c t below x h = guard-when (λ xs. (z : Face) → z ∈ xs → FacesExpression z) (agrees o (t .0)) below h
 meet-expressions k n (slot y) c t below x h =
     λ z m. ⊎-elim (λ (e : z ≡ record { under = k; what = y; children = c; node = n; term = t }). subst FacesExpression (sym e) x) (λ q. absurd (List·Memᴰ·not-nil q)) (List·Memᴰ·cases-cons m)
@@ -97,8 +93,8 @@ walk-expressions k n nil (cons l c s) h = tt
 walk-expressions k n (cons l c s) nil h = tt
 walk-expressions k n (cons l c s) (cons l′ c′ s′) h =
     join-expressions (meet k n l c (l′, c′) (walk (inner l k) (suc n) c c′)) (walk k (suc n + size c′) s s′)
-      (meet-expressions k n l c (l′, c′) (walk (inner l k) (suc n) c c′) (h .0, h .1, tt) (walk-expressions (inner l k) (suc n) c c′ (h .1)))
-      (walk-expressions k (suc n + size c′) s s′ (h .2))
+    (meet-expressions k n l c (l′, c′) (walk (inner l k) (suc n) c c′) (h .0, h .1, tt) (walk-expressions (inner l k) (suc n) c c′ (h .1)))
+    (walk-expressions k (suc n + size c′) s s′ (h .2))
 
 pub faces-expression : (k n : ℕ) (p e : Terms) (xs : List Face) → IsExpression e → walk k n p e ≡ some xs → (x : Face) → x ∈ xs → IsExpression (one (x .term))
 faces-expression k n p e xs h q = subst (When (λ ys. (z : Face) → z ∈ ys → FacesExpression z)) q (walk-expressions k n p e h)
@@ -106,10 +102,6 @@ faces-expression k n p e xs h q = subst (When (λ ys. (z : Face) → z ∈ ys �
 -- Standings by slots
 abbrev pub standingAt : Slot × Terms → List Standing
 standingAt y = elim (y .0) [ metavariable m ↦ (m, alone) ∷ [] | function f ↦ inArguments f 0 (y .1) | hole i ↦ [] ]
-
-each-append : {A B : Type 0} (f : A → List B) (xs ys : List A) → each f (xs ++ ys) ≡ each f xs ++ each f ys
-each-append f [] ys = refl
-each-append {A} {B} f (x ∷ xs) ys = ap (λ (r : List B). f x ++ r) (each-append f xs ys) ∙ sym (append-assoc (f x) (each f xs) (each f ys))
 
 pub standings-slots : (u : Terms) → standings u ≡ each standingAt (slots u)
 standings-slots nil = refl
@@ -127,27 +119,30 @@ standing-slot u x m = each-mem standingAt x (slots u) (subst (λ (l : List Stand
 
 -- The standings in arguments
 pub in-arguments : (f j : ℕ) (c : Terms) (x : Standing) → x ∈ inArguments f j c
-  → (i : ℕ) × (i < trees c) × (x .1 ≡ argumentOf f (j + i)) × (x .0 ∈ plain (one (argument c i)))
+    → (i : ℕ) × (i < trees c) × (x .1 ≡ argumentOf f (j + i)) × (x .0 ∈ plain (one (argument c i)))
 in-arguments f j nil x m = absurd (List·Memᴰ·not-nil m)
 in-arguments f j (cons l c s) x m = go (in-arguments f (suc j) s x) (List·Memᴰ·append-cases (map (λ (k : ℕ). (k, argumentOf f j)) (plain (one (l, c)))) m)
   where
     here : (k : ℕ) × (k ∈ plain (one (l, c))) × (x ≡ (k, argumentOf f j))
-      → (i : ℕ) × (i < suc (trees s)) × (x .1 ≡ argumentOf f (j + i)) × (x .0 ∈ plain (one (argument (cons l c s) i)))
+        → (i : ℕ) × (i < suc (trees s)) × (x .1 ≡ argumentOf f (j + i)) × (x .0 ∈ plain (one (argument (cons l c s) i)))
     here r =
-        let e : j ≡ j + 0 = omega arith in
-        (0, omega arith, ap (λ (y : Standing). y .1) (r .2) ∙ ap (argumentOf f) e,
-         subst (λ (k : ℕ). k ∈ plain (one (l, c))) (sym (ap (λ (y : Standing). y .0) (r .2))) (r .1))
+        let e : j ≡ j + 0 = omega arith in (
+          0,
+          omega arith,
+          ap (λ (y : Standing). y .1) (r .2) ∙ ap (argumentOf f) e,
+          subst (λ (k : ℕ). k ∈ plain (one (l, c))) (sym (ap (λ (y : Standing). y .0) (r .2))) (r .1),
+        )
 
     later : (i : ℕ) × (i < trees s) × (x .1 ≡ argumentOf f (suc j + i)) × (x .0 ∈ plain (one (argument s i)))
-      → (i : ℕ) × (i < suc (trees s)) × (x .1 ≡ argumentOf f (j + i)) × (x .0 ∈ plain (one (argument (cons l c s) i)))
+        → (i : ℕ) × (i < suc (trees s)) × (x .1 ≡ argumentOf f (j + i)) × (x .0 ∈ plain (one (argument (cons l c s) i)))
     later r =
         let h : r .0 < trees s = r .1 in
         let e : suc j + r .0 ≡ j + suc (r .0) = omega arith in
         (suc (r .0), omega arith, r .2 ∙ ap (argumentOf f) e, r .3)
 
     go : (x ∈ inArguments f (suc j) s → (i : ℕ) × (i < trees s) × (x .1 ≡ argumentOf f (suc j + i)) × (x .0 ∈ plain (one (argument s i))))
-      → (x ∈ map (λ (k : ℕ). (k, argumentOf f j)) (plain (one (l, c)))) ⊎ (x ∈ inArguments f (suc j) s)
-      → (i : ℕ) × (i < suc (trees s)) × (x .1 ≡ argumentOf f (j + i)) × (x .0 ∈ plain (one (argument (cons l c s) i)))
+        → (x ∈ map (λ (k : ℕ). (k, argumentOf f j)) (plain (one (l, c)))) ⊎ (x ∈ inArguments f (suc j) s)
+        → (i : ℕ) × (i < suc (trees s)) × (x .1 ≡ argumentOf f (j + i)) × (x .0 ∈ plain (one (argument (cons l c s) i)))
     go ih (inl q) = here (map-mem (λ (k : ℕ). (k, argumentOf f j)) x (plain (one (l, c))) q)
     go ih (inr q) = later (ih q)
 
@@ -156,11 +151,11 @@ arguments-in f j i m nil h q = absurd (omega arith)
 arguments-in f j zero m (cons l c s) h q =
     let e : j ≡ j + 0 = omega arith in
     Memᴰ·append-left (inArguments f (suc j) s)
-      (subst (λ (k : ℕ). _∈_ {A = Standing} (m, argumentOf f k) (map (λ (x : ℕ). (x, argumentOf f j)) (plain (one (l, c))))) e (mem-map {B = Standing} (λ (x : ℕ). (x, argumentOf f j)) q))
+    (subst (λ (k : ℕ). _∈_ {A = Standing} (m, argumentOf f k) (map (λ (x : ℕ). (x, argumentOf f j)) (plain (one (l, c))))) e (mem-map {B = Standing} (λ (x : ℕ). (x, argumentOf f j)) q))
 arguments-in f j (suc i) m (cons l c s) h q =
     let e : suc j + i ≡ j + suc i = omega arith in
     Memᴰ·append-right (map (λ (x : ℕ). (x, argumentOf f j)) (plain (one (l, c))))
-      (subst (λ (k : ℕ). (m, argumentOf f k) ∈ inArguments f (suc j) s) e (arguments-in f (suc j) i m s (omega arith) q))
+    (subst (λ (k : ℕ). (m, argumentOf f k) ∈ inArguments f (suc j) s) e (arguments-in f (suc j) i m s (omega arith) q))
 
 -- Metavariables of an argument
 pub plain-slot : (u : Terms) → IsArgument u → (m : ℕ) → m ∈ plain u → (c : Terms) × ((metavariable m, c) ∈ slots u)
@@ -168,7 +163,7 @@ plain-slot nil h m q = absurd (List·Memᴰ·not-nil q)
 plain-slot (cons (own o) c s) h m q = go (plain-slot c (h .1) m) (plain-slot s (h .2) m) (List·Memᴰ·append-cases (plain c) q)
   where
     go : (m ∈ plain c → (d : Terms) × ((metavariable m, d) ∈ slots c)) → (m ∈ plain s → (d : Terms) × ((metavariable m, d) ∈ slots s))
-      → (m ∈ plain c) ⊎ (m ∈ plain s) → (d : Terms) × ((metavariable m, d) ∈ (slots c ++ slots s))
+        → (m ∈ plain c) ⊎ (m ∈ plain s) → (d : Terms) × ((metavariable m, d) ∈ (slots c ++ slots s))
     go f g (inl x) = let r = f x in (r .0, Memᴰ·append-left (slots s) (r .1))
     go f g (inr x) = let r = g x in (r .0, Memᴰ·append-right (slots c) (r .1))
 plain-slot (cons (slot (metavariable k)) c s) h m q = go (plain-slot s (h .2) m) (List·Memᴰ·cases-cons q)
@@ -185,13 +180,13 @@ slot-plain (cons (own o) c s) m d q =
     ⊎-elim (λ x. Memᴰ·append-left (plain s) (slot-plain c m d x)) (λ x. Memᴰ·append-right (plain c) (slot-plain s m d x)) (List·Memᴰ·append-cases (slots c) q)
 slot-plain (cons (slot (metavariable k)) c s) m d q =
     ⊎-elim (λ (e : _≡_ {A = Slot × Terms} (metavariable m, d) (metavariable k, c)). let z : metavariable m ≡ metavariable k = ap (λ (y : Slot × Terms). y .0) e in let w : m ≡ k = cc in List·Memᴰ·head w)
-      (λ x. List·Memᴰ·tail (slot-plain s m d x)) (List·Memᴰ·cases-cons q)
+    (λ x. List·Memᴰ·tail (slot-plain s m d x)) (List·Memᴰ·cases-cons q)
 slot-plain (cons (slot (function f)) c s) m d q =
     ⊎-elim (λ (e : _≡_ {A = Slot × Terms} (metavariable m, d) (function f, c)). absurd (let z : metavariable m ≡ function f = ap (λ (y : Slot × Terms). y .0) e in let w : _≡_ {A = ℕ} 0 1 = cc in omega arith))
-      (λ x. Memᴰ·append-right (plain c) (slot-plain s m d x)) (List·Memᴰ·cases-cons q)
+    (λ x. Memᴰ·append-right (plain c) (slot-plain s m d x)) (List·Memᴰ·cases-cons q)
 slot-plain (cons (slot (hole i)) c s) m d q =
     ⊎-elim (λ (e : _≡_ {A = Slot × Terms} (metavariable m, d) (hole i, c)). absurd (let z : metavariable m ≡ hole i = ap (λ (y : Slot × Terms). y .0) e in let w : _≡_ {A = ℕ} 0 1 = cc in omega arith))
-      (λ x. slot-plain s m d x) (List·Memᴰ·cases-cons q)
+    (λ x. slot-plain s m d x) (List·Memᴰ·cases-cons q)
 
 -- Functions of a pattern
 argument-unapplied : (u : Terms) → IsArgument u → (f : ℕ) → f ∈ applied u → ⊥
@@ -206,7 +201,7 @@ applied-slot nil h f q = absurd (List·Memᴰ·not-nil q)
 applied-slot (cons (own o) c s) h f q = go (applied-slot c (h .1) f) (applied-slot s (h .2) f) (List·Memᴰ·append-cases (applied c) q)
   where
     go : (f ∈ applied c → (d : Terms) × ((function f, d) ∈ slots c)) → (f ∈ applied s → (d : Terms) × ((function f, d) ∈ slots s))
-      → (f ∈ applied c) ⊎ (f ∈ applied s) → (d : Terms) × ((function f, d) ∈ (slots c ++ slots s))
+        → (f ∈ applied c) ⊎ (f ∈ applied s) → (d : Terms) × ((function f, d) ∈ (slots c ++ slots s))
     go x y (inl z) = let r = x z in (r .0, Memᴰ·append-left (slots s) (r .1))
     go x y (inr z) = let r = y z in (r .0, Memᴰ·append-right (slots c) (r .1))
 applied-slot (cons (slot (metavariable m)) c s) h f q = let r = applied-slot s (h .2) f q in (r .0, List·Memᴰ·tail (r .1))
@@ -225,43 +220,32 @@ slot-applied (cons (own o) c s) f d q =
     ⊎-elim (λ x. Memᴰ·append-left (applied s) (slot-applied c f d x)) (λ x. Memᴰ·append-right (applied c) (slot-applied s f d x)) (List·Memᴰ·append-cases (slots c) q)
 slot-applied (cons (slot (metavariable m)) c s) f d q =
     ⊎-elim (λ (e : _≡_ {A = Slot × Terms} (function f, d) (metavariable m, c)). absurd (let z : function f ≡ metavariable m = ap (λ (y : Slot × Terms). y .0) e in let w : _≡_ {A = ℕ} 0 1 = cc in omega arith))
-      (λ x. slot-applied s f d x) (List·Memᴰ·cases-cons q)
+    (λ x. slot-applied s f d x) (List·Memᴰ·cases-cons q)
 slot-applied (cons (slot (function g)) c s) f d q =
     ⊎-elim (λ (e : _≡_ {A = Slot × Terms} (function f, d) (function g, c)). let z : function f ≡ function g = ap (λ (y : Slot × Terms). y .0) e in let w : f ≡ g = cc in List·Memᴰ·head w)
-      (λ x. List·Memᴰ·tail (Memᴰ·append-right (applied c) (slot-applied s f d x))) (List·Memᴰ·cases-cons q)
+    (λ x. List·Memᴰ·tail (Memᴰ·append-right (applied c) (slot-applied s f d x))) (List·Memᴰ·cases-cons q)
 slot-applied (cons (slot (hole i)) c s) f d q =
     ⊎-elim (λ (e : _≡_ {A = Slot × Terms} (function f, d) (hole i, c)). absurd (let z : function f ≡ hole i = ap (λ (y : Slot × Terms). y .0) e in let w : _≡_ {A = ℕ} 0 1 = cc in omega arith))
-      (λ x. slot-applied s f d x) (List·Memᴰ·cases-cons q)
+    (λ x. slot-applied s f d x) (List·Memᴰ·cases-cons q)
 
 pub pattern-slot : (u : Terms) → IsPattern u → (f : ℕ) (c : Terms) → (function f, c) ∈ slots u → (trees c ≡ placeCount) × IsArgument c
 pattern-slot nil h f d q = absurd (List·Memᴰ·not-nil q)
 pattern-slot (cons (own o) c s) h f d q = ⊎-elim (pattern-slot c (h .1) f d) (pattern-slot s (h .2) f d) (List·Memᴰ·append-cases (slots c) q)
 pattern-slot (cons (slot (metavariable m)) c s) h f d q =
     ⊎-elim (λ (e : _≡_ {A = Slot × Terms} (function f, d) (metavariable m, c)). absurd (let z : function f ≡ metavariable m = ap (λ (y : Slot × Terms). y .0) e in let w : _≡_ {A = ℕ} 0 1 = cc in omega arith))
-      (pattern-slot s (h .2) f d) (List·Memᴰ·cases-cons q)
+    (pattern-slot s (h .2) f d) (List·Memᴰ·cases-cons q)
 pattern-slot (cons (slot (function g)) c s) h f d q =
     ⊎-elim (λ (e : _≡_ {A = Slot × Terms} (function f, d) (function g, c)). subst (λ (y : Terms). (trees y ≡ placeCount) × IsArgument y) (sym (ap (λ (y : Slot × Terms). y .1) e)) (h .0))
-      (pattern-slot s (h .2) f d) (List·Memᴰ·cases-cons q)
+    (pattern-slot s (h .2) f d) (List·Memᴰ·cases-cons q)
 pattern-slot (cons (slot (hole i)) c s) h f d q = absurd (h .0)
 
 -- Holes of a body
-or-cases : (a b : Bool) → (a || b) ≡ true → (a ≡ true) ⊎ (b ≡ true)
-or-cases true b e = inl refl
-or-cases false b e = inr e
-
-or-left : (a b : Bool) → a ≡ true → (a || b) ≡ true
-or-left a b e = ap (λ (x : Bool). x || b) e
-
-or-right : (a b : Bool) → b ≡ true → (a || b) ≡ true
-or-right true b e = refl
-or-right false b e = e
-
 pub hole-slot : (n : ℕ) (u : Terms) → IsBody n u → (i : ℕ) → hasHole i u ≡ true → (c : Terms) × ((hole i, c) ∈ slots u)
 hole-slot n nil h i e = absurd (false≢true e)
 hole-slot n (cons (own o) c s) h i e = go (hole-slot n c (h .1) i) (hole-slot n s (h .2) i) (or-cases (hasHole i c) (hasHole i s) e)
   where
     go : (hasHole i c ≡ true → (d : Terms) × ((hole i, d) ∈ slots c)) → (hasHole i s ≡ true → (d : Terms) × ((hole i, d) ∈ slots s))
-      → (hasHole i c ≡ true) ⊎ (hasHole i s ≡ true) → (d : Terms) × ((hole i, d) ∈ (slots c ++ slots s))
+        → (hasHole i c ≡ true) ⊎ (hasHole i s ≡ true) → (d : Terms) × ((hole i, d) ∈ (slots c ++ slots s))
     go x y (inl z) = let r = x z in (r .0, Memᴰ·append-left (slots s) (r .1))
     go x y (inr z) = let r = y z in (r .0, Memᴰ·append-right (slots c) (r .1))
 hole-slot n (cons (slot (metavariable m)) c s) h i e = absurd (h .0)
@@ -272,7 +256,7 @@ hole-slot n (cons (slot (hole j)) c s) h i e = go (hole-slot n s (h .2) i) (or-c
     none-below = ap (hasHole i) (h .0 .1)
 
     go : (hasHole i s ≡ true → (d : Terms) × ((hole i, d) ∈ slots s)) → (eqb i j ≡ true) ⊎ ((hasHole i c || hasHole i s) ≡ true)
-      → (d : Terms) × ((hole i, d) ∈ ((hole j, c) ∷ slots s))
+        → (d : Terms) × ((hole i, d) ∈ ((hole j, c) ∷ slots s))
     go y (inl z) = (c, List·Memᴰ·head (ap (λ (x : ℕ). (hole x, c)) (eqb-eq i j z)))
     go y (inr z) = let r = y (sym (ap (λ (b : Bool). b || hasHole i s) none-below) ∙ z) in (r .0, List·Memᴰ·tail (r .1))
 
@@ -282,10 +266,10 @@ slot-hole (cons (own o) c s) i d q =
     ⊎-elim (λ x. or-left (hasHole i c) (hasHole i s) (slot-hole c i d x)) (λ x. or-right (hasHole i c) (hasHole i s) (slot-hole s i d x)) (List·Memᴰ·append-cases (slots c) q)
 slot-hole (cons (slot (metavariable m)) c s) i d q =
     ⊎-elim (λ (e : _≡_ {A = Slot × Terms} (hole i, d) (metavariable m, c)). absurd (let z : hole i ≡ metavariable m = ap (λ (y : Slot × Terms). y .0) e in let w : _≡_ {A = ℕ} 0 1 = cc in omega arith))
-      (λ x. or-right (hasHole i c) (hasHole i s) (slot-hole s i d x)) (List·Memᴰ·cases-cons q)
+    (λ x. or-right (hasHole i c) (hasHole i s) (slot-hole s i d x)) (List·Memᴰ·cases-cons q)
 slot-hole (cons (slot (function f)) c s) i d q =
     ⊎-elim (λ (e : _≡_ {A = Slot × Terms} (hole i, d) (function f, c)). absurd (let z : hole i ≡ function f = ap (λ (y : Slot × Terms). y .0) e in let w : _≡_ {A = ℕ} 0 1 = cc in omega arith))
-      (λ x. or-right (hasHole i c) (hasHole i s) (slot-hole s i d x)) (List·Memᴰ·cases-cons q)
+    (λ x. or-right (hasHole i c) (hasHole i s) (slot-hole s i d x)) (List·Memᴰ·cases-cons q)
 slot-hole (cons (slot (hole j)) c s) i d q =
     ⊎-elim (λ (e : _≡_ {A = Slot × Terms} (hole i, d) (hole j, c)). let z : hole i ≡ hole j = ap (λ (y : Slot × Terms). y .0) e in let w : i ≡ j = cc in or-left (eqb i j) (hasHole i c || hasHole i s) (ap (λ (x : ℕ). eqb i x) (sym w) ∙ eqb-self i))
-      (λ x. or-right (eqb i j) (hasHole i c || hasHole i s) (or-right (hasHole i c) (hasHole i s) (slot-hole s i d x))) (List·Memᴰ·cases-cons q)
+    (λ x. or-right (eqb i j) (hasHole i c || hasHole i s) (or-right (hasHole i c) (hasHole i s) (slot-hole s i d x))) (List·Memᴰ·cases-cons q)

@@ -1,27 +1,26 @@
 -- Where values come from: when every face is satisfied, each source says what its metavariable is given, and the metavariables that have
 -- a source are just those that need a value.
-use mathlib.Core.Path.{_≡_, refl, ap, ap₂, sym, _∙_, subst}
-use mathlib.Core.Logic.{_⊎_, inl, inr, ⊎-elim}
-use Prim.Native.Nat.{ℕ, zero, suc, _+_, _<_}
-use mathlib.Core.Bool.{Bool, true, false, true≢false, false≢true}
-use mathlib.Core.List.{List, [], _∷_, _++_, map, List·Memᴰ, List·Memᴰ·head, List·Memᴰ·tail, List·Memᴰ·append-cases, List·Memᴰ·cases-cons, List·Memᴰ·not-nil, List·Memᴰ·eq-of-singleton, Memᴰ·append-left, Memᴰ·append-right}
+use mathlib.Core.Path.{_≡_, refl, ap, sym, _∙_, subst}
+use mathlib.Core.Logic.{_⊎_, inl, inr}
+use Prim.Native.Nat.{ℕ, zero, suc, _<_}
+use mathlib.Core.Bool.{Bool, true, false, false≢true}
+use mathlib.Core.List.{List, [], _∷_, List·Memᴰ·head, List·Memᴰ·tail, List·Memᴰ·cases-cons, List·Memᴰ·not-nil, List·Memᴰ·eq-of-singleton}
 use mathlib.Core.Option.{Option, none, some}
 use native.Mathlib.Omega.{arith}
-use lib.Dec.{eqb}
 use Rattle.meaning.specs.Limits.{placeCount}
-use Rattle.meaning.specs.Basics.{choose, each, upTo, All, AllO, _∈_, andThen, orNone}
-use Rattle.meaning.specs.Term.{nil, cons, one, trees, own, slot, Slot, metavariable, function, hole, Nameless, Terms, Term, inner, IsExpression}
+use Rattle.meaning.specs.Basics.{choose, each, upTo, AllO, _∈_, andThen, orNone}
+use Rattle.meaning.specs.Term.{nil, cons, one, trees, Slot, metavariable, function, hole, Terms, Term, IsExpression}
 use Rattle.meaning.specs.Shift.{shiftTerm, lowerTerm}
-use Rattle.meaning.specs.Problem.{Problem, patterns, expressions, plain, applied, Where, alone, argumentOf, Standing, inArguments, standings}
+use Rattle.meaning.specs.Problem.{plain}
 use Rattle.meaning.specs.Filling.{Handler, fill, fillTerm, plugHandler, plug, argument, Entry, absent, leftOpen, value, body, Filling, valueOr, bodyOr, fillHandler, IsBody}
-use Rattle.meaning.specs.Solution.{hasHole, needs}
-use Rattle.meaning.specs.Face.{Face, walk, faces, Satisfied}
-use Rattle.meaning.specs.Value.{Source, sourceAt, sourceOf, isHole, lowestHole, fromHole, fromApplication, sourcesIn}
-use Rattle.meaning.proofs.Lists.{by-test, eqb-eq, eqb-self, mem-each, each-mem, mem-upTo, upTo-mem, all-mem}
+use Rattle.meaning.specs.Solution.{hasHole}
+use Rattle.meaning.specs.Face.{Face, walk, Satisfied}
+use Rattle.meaning.specs.Value.{Source, sourceAt, sourceOf, isHole, lowestHole, fromHole}
+use Rattle.meaning.proofs.Lists.{eqb-eq, eqb-self, mem-each, each-mem, mem-upTo, upTo-mem, all-mem}
 use Rattle.meaning.proofs.ShiftLaws.{lower-shift-term, lower-expression}
 use Rattle.meaning.proofs.Lockstep.{walk-in}
-use Rattle.meaning.proofs.Proper.{IsArgument, Proper}
-use Rattle.meaning.proofs.Slots.{slots, standingAt, face-slot, slot-face, faces-expression, slot-standing, standing-slot, in-arguments, arguments-in, plain-slot, slot-plain, slot-applied, pattern-slot, hole-slot, slot-hole}
+use Rattle.meaning.proofs.Proper.{IsArgument}
+use Rattle.meaning.proofs.Slots.{slots, face-slot, slot-face, faces-expression, plain-slot, slot-plain, hole-slot, slot-hole}
 
 -- A metavariable that is filled to an expression has it as its value
 pub value-is : (m : ℕ) (e : Entry Term) (t : Term) → IsExpression (one t) → valueOr m e ≡ t → e ≡ value t
@@ -74,7 +73,7 @@ lowest-is i [] h e = absurd (let z : _≡_ {A = ℕ} 0 1 = cc in omega arith)
 lowest-is i (x ∷ xs) h e = go (isHole i (x .what)) refl (lowest-is i xs h) e
   where
     go : (b : Bool) → isHole i (x .what) ≡ b → (lowestHole i xs ≡ some h → (h ∈ xs) × (h .what ≡ hole i)) → choose b (some x) (lowestHole i xs) ≡ some h
-      → (h ∈ (x ∷ xs)) × (h .what ≡ hole i)
+        → (h ∈ (x ∷ xs)) × (h .what ≡ hole i)
     go true q ih r = let w : x ≡ h = cc in (List·Memᴰ·head (sym w), ap (λ (y : Face). y .what) (sym w) ∙ hole-is i (x .what) q)
     go false q ih r = let y = ih r in (List·Memᴰ·tail (y .0), y .1)
 
@@ -83,7 +82,7 @@ lowest-there i [] x m e = absurd (List·Memᴰ·not-nil m)
 lowest-there i (y ∷ ys) x m e = go (isHole i (y .what)) refl (λ q. lowest-there i ys x q e) (List·Memᴰ·cases-cons m)
   where
     go : (b : Bool) → isHole i (y .what) ≡ b → (x ∈ ys → (h : Face) × (lowestHole i ys ≡ some h)) → (x ≡ y) ⊎ (x ∈ ys)
-      → (h : Face) × (choose b (some y) (lowestHole i ys) ≡ some h)
+        → (h : Face) × (choose b (some y) (lowestHole i ys) ≡ some h)
     go true q ih r = (y, refl)
     go false q ih (inl r) = absurd (false≢true (sym q ∙ ap (isHole i) (ap (λ (z : Face). z .what) (sym r) ∙ e) ∙ eqb-self i))
     go false q ih (inr r) = ih r
@@ -124,19 +123,19 @@ module _ (σ : Filling) (b : Term) (f : ℕ) (x : Face) (given : σ f ≡ body b
     lowered : lowerTerm (h .under) (h .term) ≡ some (arguments i)
     lowered =
         let e : shiftTerm (h .under) (arguments i) ≡ h .term =
-            subst (λ (z : Slot). plugHandler arguments (h .under) z (fill (plugHandler arguments) (h .under) (h .children)) ≡ h .term) (inWalk .1)
-              (bodyWalk .satisfied h (inWalk .0)) in
+        subst (λ (z : Slot). plugHandler arguments (h .under) z (fill (plugHandler arguments) (h .under) (h .children)) ≡ h .term) (inWalk .1)
+        (bodyWalk .satisfied h (inWalk .0)) in
         subst (λ (t : Term). lowerTerm (h .under) t ≡ some (arguments i)) e (lower-shift-term (h .under) (arguments i))
 
     expression : IsExpression (one (arguments i))
     expression =
         lower-expression (h .under) (h .term) (arguments i) lowered
-          (faces-expression 0 (x .node) (one b) (one (x .term)) (bodyWalk .found) faced (bodyWalk .defined) h (inWalk .0))
+        (faces-expression 0 (x .node) (one b) (one (x .term)) (bodyWalk .found) faced (bodyWalk .defined) h (inWalk .0))
 
     pub argumentWalk : Walked (fillHandler σ) (x .under) (h .node) (one (argument (x .children) i)) (one (arguments i))
     argumentWalk =
         walked (fillHandler σ) (x .under) (h .node) (one (argument (x .children) i)) (one (arguments i))
-          (ap (λ (t : Term). one t) (sym (argument-filled (fillHandler σ) (x .under) (x .children) i fewer)))
+        (ap (λ (t : Term). one t) (sym (argument-filled (fillHandler σ) (x .under) (x .children) i fewer)))
 
     -- The sources that the hole gives are the metavariables of the argument
     pub hole-sources : fromHole (x .under) (argument (x .children) i) (some h) ≡ each sourceOf (argumentWalk .found)
@@ -151,13 +150,13 @@ module _ (σ : Filling) (b : Term) (f : ℕ) (x : Face) (given : σ f ≡ body b
     pub hole-values : (y : Face) → y ∈ argumentWalk .found → (m : ℕ) → y .what ≡ metavariable m → σ m ≡ value (y .term)
     hole-values y q m e =
         value-is m (σ m) (y .term) (hole-expression y q)
-          (subst (λ (z : Slot). fillHandler σ (y .under) z (fill (fillHandler σ) (y .under) (y .children)) ≡ y .term) e (argumentWalk .satisfied y q))
+        (subst (λ (z : Slot). fillHandler σ (y .under) z (fill (fillHandler σ) (y .under) (y .children)) ≡ y .term) e (argumentWalk .satisfied y q))
 
     pub hole-there : hasHole i (one b) ≡ true
     hole-there =
         slot-hole (one b) i (h .children)
-          (subst (λ (z : Slot). _∈_ {A = Slot × Terms} (z, h .children) (slots (one b))) (inWalk .1)
-            (face-slot 0 (x .node) (one b) (one (x .term)) (bodyWalk .found) h (bodyWalk .defined) (inWalk .0)))
+        (subst (λ (z : Slot). _∈_ {A = Slot × Terms} (z, h .children) (slots (one b))) (inWalk .1)
+        (face-slot 0 (x .node) (one b) (one (x .term)) (bodyWalk .found) h (bodyWalk .defined) (inWalk .0)))
 
   abbrev lowest : ℕ → Option Face
   lowest i = lowestHole i (orNone (walk 0 (x .node) (one b) (one (x .term))))
@@ -193,13 +192,13 @@ module _ (σ : Filling) (b : Term) (f : ℕ) (x : Face) (given : σ f ≡ body b
             expression = subst (λ (t : Term). IsExpression (one t)) (sym (z .1)) (hole-expression i small h e (y .0) (y .1));
             hasHoles = hole-there i small h e;
             stands = slot-plain (one (argument (x .children) i)) (s .number) (y .0 .children)
-              (subst (λ (k : Slot). _∈_ {A = Slot × Terms} (k, y .0 .children) (slots (one (argument (x .children) i)))) (z .0)
-                (face-slot (x .under) (h .node) (one (argument (x .children) i)) (one (arguments i)) (walk-there .found) (y .0) (walk-there .defined) (y .1)))
+                (subst (λ (k : Slot). _∈_ {A = Slot × Terms} (k, y .0 .children) (slots (one (argument (x .children) i)))) (z .0)
+                (face-slot (x .under) (h .node) (one (argument (x .children) i)) (one (arguments i)) (walk-there .found) (y .0) (walk-there .defined) (y .1)));
           }
 
   -- A metavariable of an argument whose hole the body has is given a source
   pub application-has : IsBody placeCount (one b) → (i m : ℕ) → i < placeCount → hasHole i (one b) ≡ true → m ∈ plain (one (argument (x .children) i))
-    → HasSource m (each fromPlace (upTo placeCount))
+      → HasSource m (each fromPlace (upTo placeCount))
   application-has isBody i m small there q =
       let hs = hole-slot placeCount (one b) isBody i there in
       let hf = slot-face 0 (x .node) (one b) (one (x .term)) (bodyWalk .found) (hole i) (hs .0) (bodyWalk .defined) (hs .1) in
@@ -211,6 +210,6 @@ module _ (σ : Filling) (b : Term) (f : ℕ) (x : Face) (given : σ f ≡ body b
       let pf = slot-face (x .under) (lo .0 .node) (one (argument (x .children) i)) (one (arguments i)) (walk-there .found) (metavariable m) (ps .0) (walk-there .defined) (ps .1) in
       let src = face-source (pf .0) m (walk-there .found) (pf .1) (pf .2) in
       let inHole : src .0 ∈ fromPlace i =
-          subst (λ (o : Option Face). src .0 ∈ fromHole (x .under) (argument (x .children) i) o) (sym e)
-            (subst (λ (l : List Source). src .0 ∈ l) (sym (hole-sources i small (lo .0) e)) (src .1)) in
+      subst (λ (o : Option Face). src .0 ∈ fromHole (x .under) (argument (x .children) i) o) (sym e)
+      (subst (λ (l : List Source). src .0 ∈ l) (sym (hole-sources i small (lo .0) e)) (src .1)) in
       (src .0, mem-each fromPlace i (src .0) (upTo placeCount) (mem-upTo placeCount i small) inHole, src .2)

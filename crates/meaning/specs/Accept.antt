@@ -1,8 +1,5 @@
 -- The checks after reading, and acceptance: "A problem is accepted when none of 1 to 14 applies."
-use Prim.Native.Nat.{ℕ}
-use mathlib.Core.Bool.{Bool, true, false, _&&_, _||_, not}
-use mathlib.Core.List.{List, [], _∷_}
-use mathlib.Core.Option.{Option, none, some}
+use mathlib.Core.Bool.{Bool, _&&_, not}
 use lib.ListN.{length}
 use lib.Dec.{ltb}
 use Rattle.meaning.specs.Limits.{metavariableCount, maxFunctions, maxFaceNodes}

@@ -5,7 +5,6 @@
 --   upTo     0, 1, .., n - 1
 --   All      every element
 --   Distinct no element twice
-use mathlib.Core.Path.{_≡_}
 use Prim.Native.Nat.{ℕ, zero, suc}
 use mathlib.Core.Bool.{Bool, true, false, _||_, _&&_}
 use mathlib.Core.List.{List, [], _∷_, _++_, List·Memᴰ}

@@ -6,7 +6,7 @@ use mathlib.Core.List.{List, [], _∷_}
 use lib.ListN.{length}
 use Rattle.meaning.specs.Term.{nil, one, symbol, variable, application, binder, own, slot, metavariable, function, hole, NamedTerm}
 use Rattle.meaning.specs.Problem.{Constraint, Problem, forestOf}
-use Rattle.meaning.specs.Filling.{Entry, leftOpen, value, body}
+use Rattle.meaning.specs.Filling.{leftOpen, value, body}
 use Rattle.meaning.specs.Text.{Item}
 
 pub record Case : Type 0 where

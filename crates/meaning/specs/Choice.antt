@@ -10,7 +10,7 @@ use mathlib.Core.Option.{Option, none, some}
 use lib.ListN.{length, drop, getElem?}
 use lib.Dec.{eqb}
 use Rattle.meaning.specs.Basics.{choose, keep, each, upTo, every, _∈_}
-use Rattle.meaning.specs.Term.{Forest, nil, cons, Tree, one, size, Own, symbol, variable, application, binder, Label, own, slot, hole, Nameless, Terms, Term}
+use Rattle.meaning.specs.Term.{Forest, nil, cons, one, size, symbol, variable, application, binder, Label, own, slot, hole, Nameless, Terms, Term}
 use Rattle.meaning.specs.Equal.{Seen, seenFree, inside, outside, View, view, sameView}
 
 abbrev pub Mark : Type 0

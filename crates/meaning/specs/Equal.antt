@@ -4,12 +4,12 @@
 --   who      which binder an index that reaches out of the term belongs to: the binder's identity, of any type
 -- Two terms are equal when their views are. For two whole terms nothing is bound outside, and the view says what `nameless` says.
 use mathlib.Core.Path.{_≡_}
-use Prim.Native.Nat.{ℕ, zero, suc, _-_}
-use mathlib.Core.Bool.{Bool, true, false, _&&_}
-use mathlib.Core.List.{List, [], _∷_}
+use Prim.Native.Nat.{ℕ, _-_}
+use mathlib.Core.Bool.{Bool, false}
+use mathlib.Core.List.{[]}
 use lib.Dec.{ltb, eqb}
 use Rattle.meaning.specs.Basics.{choose}
-use Rattle.meaning.specs.Term.{Forest, Tree, one, relabel, alike, Own, symbol, variable, application, binder, Label, own, slot, Slot, metavariable, function, hole, Variable, free, bound, Nameless, NamedTerm, Terms, Term, inner}
+use Rattle.meaning.specs.Term.{Forest, one, relabel, alike, Own, symbol, variable, application, binder, Label, own, slot, Slot, metavariable, function, hole, Variable, free, bound, NamedTerm, Terms, Term, inner}
 use Rattle.meaning.specs.Scope.{namelessTerm}
 use Rattle.meaning.specs.Shift.{withVariable}
 

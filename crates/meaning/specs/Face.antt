@@ -3,13 +3,13 @@
 --   Face     what a slot of the pattern faces: the number of binders above, the slot with its children, the node, the subexpression there
 --   Satisfied  a face whose slot is filled to just what it faces
 use mathlib.Core.Path.{_≡_}
-use Prim.Native.Nat.{ℕ, zero, suc, _+_}
-use mathlib.Core.Bool.{Bool, true, false}
-use mathlib.Core.List.{List, [], _∷_, map}
+use Prim.Native.Nat.{ℕ, suc, _+_}
+use mathlib.Core.Bool.{Bool, false}
+use mathlib.Core.List.{List, [], _∷_}
 use mathlib.Core.Option.{Option, none, some}
 use lib.Dec.{eqb}
 use Rattle.meaning.specs.Basics.{choose, join, guard}
-use Rattle.meaning.specs.Term.{Forest, nil, cons, Tree, size, Own, Label, own, slot, Slot, metavariable, function, hole, Variable, Nameless, Terms, Term, inner}
+use Rattle.meaning.specs.Term.{nil, cons, size, Own, own, slot, Slot, metavariable, function, hole, Variable, Nameless, Terms, Term, inner}
 use Rattle.meaning.specs.Equal.{sameOwn, sameVariable}
 use Rattle.meaning.specs.Problem.{Problem, patterns, expressions}
 use Rattle.meaning.specs.Filling.{Handler, fill}

@@ -1,7 +1,7 @@
 -- Fields: "a one-byte tag, a two-byte length, then that many content bytes. Numbers are unsigned, high byte first."
 --   encode   the bytes of terms; of a constraint, of a problem
 use Prim.Native.Nat.{ℕ, _/_, _%_}
-use mathlib.Core.List.{List, [], _∷_, _++_, map}
+use mathlib.Core.List.{List, [], _∷_, _++_}
 use lib.ListN.{length}
 use Rattle.meaning.specs.Basics.{each}
 use Rattle.meaning.specs.Term.{Forest, nil, cons, one, symbol, variable, application, binder, own, slot, metavariable, function, hole, Named}

@@ -6,8 +6,7 @@
 -- values and bodies are closed, so that they need no shift.
 use mathlib.Core.Path.{_≡_}
 use Prim.Native.Nat.{ℕ, zero, suc, _<_}
-use mathlib.Core.List.{List, [], _∷_}
-use Rattle.meaning.specs.Term.{Forest, nil, cons, Tree, graft, one, Own, Label, own, slot, Slot, metavariable, function, hole, Nameless, Terms, Term, inner}
+use Rattle.meaning.specs.Term.{nil, cons, graft, own, slot, Slot, metavariable, function, hole, Nameless, Terms, Term, inner}
 use Rattle.meaning.specs.Shift.{shiftTerm}
 
 abbrev pub Handler : Type 0

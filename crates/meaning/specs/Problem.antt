@@ -2,13 +2,12 @@
 --   patterns, expressions   the constraints' terms, resolved; the two forests are walked and compared tree by tree
 --   Standing                where a metavariable that is no function stands: alone, or in an argument of a function
 --   functions               the metavariables that are applied, ascending: "by ascending metavariable number"
-use mathlib.Core.Path.{_≡_}
-use Prim.Native.Nat.{ℕ, zero, suc}
-use mathlib.Core.Bool.{Bool, true, false, _||_}
+use Prim.Native.Nat.{ℕ, suc}
+use mathlib.Core.Bool.{Bool, _||_}
 use mathlib.Core.List.{List, [], _∷_, _++_, map}
 use Rattle.meaning.specs.Limits.{metavariableCount}
 use Rattle.meaning.specs.Basics.{keep, upTo, isIn}
-use Rattle.meaning.specs.Term.{Forest, nil, cons, Tree, graft, one, Label, own, slot, metavariable, function, hole, Named, NamedTerm, Terms, Term}
+use Rattle.meaning.specs.Term.{Forest, nil, cons, Tree, graft, one, own, slot, metavariable, function, hole, Named, NamedTerm, Terms}
 use Rattle.meaning.specs.Scope.{nameless}
 
 -- "the pattern term, the expression term"

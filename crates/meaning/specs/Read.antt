@@ -5,13 +5,12 @@
 --   Head      a field's kind, its content, and the bytes after it
 --   levels    how many levels of terms may still be opened; document 01's depth is the limit less these
 use Prim.Native.Nat.{ℕ, zero, suc, _+_, _-_, _*_}
-use mathlib.Core.Bool.{Bool, true, false}
-use mathlib.Core.List.{List, [], _∷_}
+use mathlib.Core.List.{[], _∷_}
 use lib.ListN.{length, take, drop, getD}
 use lib.Dec.{eqb, ltb}
 use Rattle.meaning.specs.Limits.{maxInput, maxConstraints, maxDepth, metavariableCount}
 use Rattle.meaning.specs.Basics.{choose}
-use Rattle.meaning.specs.Term.{Forest, nil, cons, Tree, graft, trees, symbol, variable, application, binder, own, slot, metavariable, function, hole, Named, NamedTerm}
+use Rattle.meaning.specs.Term.{Forest, nil, graft, trees, symbol, variable, application, binder, own, slot, metavariable, function, hole, Named, NamedTerm}
 use Rattle.meaning.specs.Problem.{Constraint, Problem}
 use Rattle.meaning.specs.Field.{Bytes}
 

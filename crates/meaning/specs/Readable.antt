@@ -4,8 +4,7 @@
 --   WithinLimits  a problem that can be read
 --   Accepted      "A problem is accepted when none of 1 to 14 applies", said of the problem itself
 use mathlib.Core.Path.{_≡_}
-use Prim.Native.Nat.{ℕ, zero, suc, _<_, _≤_, _^_}
-use mathlib.Core.List.{List}
+use Prim.Native.Nat.{ℕ, zero, suc, _<_, _≤_}
 use lib.ListN.{length}
 use Rattle.meaning.specs.Limits.{maxInput, maxConstraints, maxDepth, metavariableCount, placeCount}
 use Rattle.meaning.specs.Basics.{All}

@@ -4,14 +4,14 @@
 --   rows         all of them, "ordered by the first function that differs"; none where a shape disagrees
 --   SolutionRow  "a solution row if some solution has these bodies"
 use mathlib.Core.Path.{_≡_}
-use Prim.Native.Nat.{ℕ, zero, suc}
-use mathlib.Core.Bool.{Bool, true, false}
-use mathlib.Core.List.{List, [], _∷_, _++_, map}
+use Prim.Native.Nat.{ℕ}
+use mathlib.Core.Bool.{true}
+use mathlib.Core.List.{List, [], _∷_, map}
 use mathlib.Core.Option.{Option, none, some}
 use lib.Dec.{eqb}
 use Rattle.meaning.specs.Limits.{placeCount}
 use Rattle.meaning.specs.Basics.{choose, each, orNone, isSome, _∈_}
-use Rattle.meaning.specs.Term.{Forest, nil, cons, Tree, Label, own, slot, function, hole, Terms, Term}
+use Rattle.meaning.specs.Term.{Forest, nil, Tree, Label, slot, function, hole, Term}
 use Rattle.meaning.specs.Problem.{Problem, functions}
 use Rattle.meaning.specs.Filling.{body, Filling}
 use Rattle.meaning.specs.Solution.{Solution}

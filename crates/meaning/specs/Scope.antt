@@ -5,7 +5,7 @@ use Prim.Native.Nat.{ℕ, suc}
 use mathlib.Core.List.{List, [], _∷_}
 use lib.Dec.{eqb}
 use Rattle.meaning.specs.Basics.{choose}
-use Rattle.meaning.specs.Term.{Forest, Tree, relabel, Own, symbol, variable, application, binder, Label, own, slot, Named, Variable, free, bound, Nameless, NamedTerm, Terms, Term}
+use Rattle.meaning.specs.Term.{Forest, relabel, symbol, variable, application, binder, own, slot, Named, Variable, free, bound, Nameless, NamedTerm, Terms, Term}
 
 -- The variable x, when i binders lie between it and the scope that is left to search
 abbrev pub resolve : List ℕ → ℕ → ℕ → Variable

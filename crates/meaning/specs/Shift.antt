@@ -2,13 +2,12 @@
 --   shift n k   n more binders around a term that has k of its own around it: the indices from k on rise by n
 --   lower n k   the inverse, where there is one: an index from k up to k + n belongs to one of the n binders that go
 --   closed k    no index reaches past the k binders around the term: "no variable bound outside themselves" is closed 0
-use mathlib.Core.Path.{_≡_}
-use Prim.Native.Nat.{ℕ, suc, _+_, _-_, _<_}
-use mathlib.Core.Bool.{Bool, true, false, _&&_}
+use Prim.Native.Nat.{ℕ, _+_, _-_, _<_}
+use mathlib.Core.Bool.{Bool, true, _&&_}
 use mathlib.Core.Option.{Option, none, some}
 use lib.Dec.{ltb}
 use Rattle.meaning.specs.Basics.{choose, andThen}
-use Rattle.meaning.specs.Term.{Forest, nil, cons, Tree, one, relabel, Own, symbol, variable, application, binder, Label, own, slot, Variable, free, bound, Nameless, Terms, Term, inner}
+use Rattle.meaning.specs.Term.{nil, cons, one, relabel, symbol, variable, application, binder, Label, own, slot, Variable, free, bound, Nameless, Terms, Term, inner}
 
 -- A label with another variable in place of its own
 abbrev pub withVariable : {X Y B : Type 0} → (X → Y) → Label X B → Label Y B

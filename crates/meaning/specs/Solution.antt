@@ -2,17 +2,16 @@
 --   needs    a standing that needs a value: alone, or in an argument of a function whose body has the hole for it
 --   idle     a metavariable none of whose standings needs a value: it "stands only in such arguments"
 use mathlib.Core.Path.{_≡_}
-use Prim.Native.Nat.{ℕ, zero, suc}
+use Prim.Native.Nat.{ℕ}
 use mathlib.Core.Bool.{Bool, true, false, _||_}
-use mathlib.Core.List.{List, [], _∷_}
 use mathlib.Core.Logic.{_⊎_}
-use lib.Dec.{eqb, T}
+use lib.Dec.{eqb}
 use Rattle.meaning.specs.Limits.{placeCount}
 use Rattle.meaning.specs.Basics.{_∈_}
-use Rattle.meaning.specs.Term.{Forest, nil, cons, one, Label, own, slot, Slot, metavariable, function, hole, Terms, Term, IsExpression}
+use Rattle.meaning.specs.Term.{nil, cons, one, own, slot, metavariable, function, hole, Terms, Term, IsExpression}
 use Rattle.meaning.specs.Shift.{ClosedTerm}
-use Rattle.meaning.specs.Problem.{Problem, patterns, expressions, plain, applied, Where, alone, argumentOf, Standing, standings}
-use Rattle.meaning.specs.Filling.{Entry, absent, leftOpen, value, body, Filling, bodyOr, filled, IsBody}
+use Rattle.meaning.specs.Problem.{Problem, patterns, expressions, plain, applied, Where, alone, argumentOf, standings}
+use Rattle.meaning.specs.Filling.{absent, leftOpen, value, body, Filling, bodyOr, filled, IsBody}
 
 -- Whether a body has a hole for argument i
 abbrev pub hasHole : ℕ → Terms → Bool

@@ -5,12 +5,10 @@
 --   Label       what a node is: a node of an expression (`own`), or a place that a filling replaces (`slot`)
 --   Named       labels as the bytes have them: a variable is its number, a binder has the number of its bound variable
 --   Nameless    labels as they are meant: a variable is free, or bound by the binder that its de Bruijn index counts to
-use mathlib.Core.Path.{_≡_}
-use Prim.Native.Nat.{ℕ, zero, suc, _+_, _-_, _<_}
+use Prim.Native.Nat.{ℕ, zero, suc, _+_, _-_}
 use mathlib.Core.Bool.{Bool, true, false, _&&_}
-use mathlib.Core.List.{List, [], _∷_, _++_}
 use mathlib.Core.Option.{Option, none, some}
-use lib.Dec.{ltb, eqb}
+use lib.Dec.{ltb}
 use Rattle.meaning.specs.Basics.{choose}
 
 pub data Forest (L : Type 0) : Type 0 where

@@ -3,15 +3,14 @@
 --   candidate  the one filling that a row can be the solution row of
 --   solves     whether it is a solution
 --   fullList   "its solution rows in row order, each with its one solution"
-use mathlib.Core.Path.{_≡_}
-use Prim.Native.Nat.{ℕ, zero, suc}
+use Prim.Native.Nat.{ℕ}
 use mathlib.Core.Bool.{Bool, true, false, _&&_}
 use mathlib.Core.List.{List, [], _∷_, _++_, map}
 use mathlib.Core.Option.{Option, none, some}
 use lib.Dec.{eqb}
 use Rattle.meaning.specs.Limits.{placeCount}
 use Rattle.meaning.specs.Basics.{choose, keep, each, every, upTo, andThen, orNone}
-use Rattle.meaning.specs.Term.{one, Slot, metavariable, function, hole, Terms, Term}
+use Rattle.meaning.specs.Term.{one, Slot, metavariable, function, hole, Term}
 use Rattle.meaning.specs.Shift.{lowerTerm, isClosed}
 use Rattle.meaning.specs.Equal.{sameTerms}
 use Rattle.meaning.specs.Problem.{Problem, patterns, expressions, isFunction, isPlain, metavariables}
