@@ -1,9 +1,12 @@
 -- The starred examples of document 01, computed from the definitions.
 use mathlib.Core.Path.{_≡_, refl}
+use Prim.Native.Nat.{ℕ}
 use mathlib.Core.List.{map}
 use Rattle.meaning.specs.Limits.{metavariableCount, placeCount}
 use Rattle.meaning.specs.Basics.{All}
-use Rattle.meaning.specs.Problem.{functions, metavariables}
+use Rattle.meaning.specs.Term.{nil, one, symbol, variable, application, binder, own, slot, hole, bound, Term}
+use Rattle.meaning.specs.Problem.{forestOf, functions, metavariables}
+use Rattle.meaning.specs.Filling.{plug}
 use Rattle.meaning.specs.Row.{rows, rowBody}
 use Rattle.meaning.specs.Value.{candidate, solves, solutionRows}
 use Rattle.meaning.specs.Text.{entryOf, textOf}
@@ -16,3 +19,13 @@ Holds c = map (textOf (c .problem)) (solutionRows (c .problem)) ≡ c .texts
 pub starred-hold : All Holds starred
 unfolding metavariableCount placeCount functions metavariables rows rowBody candidate solves solutionRows entryOf textOf
 starred-hold = (refl, (refl, (refl, (refl, (refl, (refl, (refl, (refl, (refl, tt)))))))))
+
+-- "No variable of a value, body or argument is ever caught": the body ∀w.w=□ filled with a variable that is bound outside it
+abbrev bound-by : ℕ → Term
+bound-by i = (own (variable (bound i)), nil)
+
+abbrev all-equal : Term → Term
+all-equal t = (own (binder 1 tt), one (own (application 3), forestOf ((own (symbol 10), nil) ∷ bound-by 0 ∷ t ∷ [])))
+
+pub argument-not-caught : plug (λ i. bound-by 0) (all-equal (slot (hole 0), nil)) ≡ all-equal (bound-by 1)
+argument-not-caught = refl
