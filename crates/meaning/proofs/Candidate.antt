@@ -124,7 +124,7 @@ module _ (p : Problem) (σ : Filling) (b : ℕ → Term) (fit : Fitting p σ b) 
           let s = application-has σ (b f) f (x .0) (fit .agree f ap-f) (x .2) shape (faced (x .0) (x .1)) (theWalk .satisfied (x .0) (x .1)) (fit .shapes f ap-f) (a .0) m small hole-there
           (subst (λ (d : Terms). m ∈ plain (one (argument d (a .0)))) (sym (x .3)) (a .3)) in
           let inApplication : s .0 ∈ fromApplication b (x .0) (x .0 .what) = subst (λ (z : Slot). s .0 ∈ fromApplication b (x .0) z) (sym (x .2)) (s .1) in
-          (s .0, Memᴰ·append-right (each sourceOf (theWalk .found)) (mem-each (λ y. fromApplication b y (y .what)) (x .0) (s .0) (theWalk .found) (x .1) inApplication), s .2)
+          (s .0, Memᴰ·append-right {a = s .0} (each sourceOf (theWalk .found)) (mem-each (λ y. fromApplication b y (y .what)) (x .0) (s .0) (theWalk .found) (x .1) inApplication), s .2)
       go (hole k) c q j = absurd (List·Memᴰ·not-nil j)
 
 -- Looking a source up

@@ -1,7 +1,7 @@
 -- The starred examples of document 01, computed from the definitions.
 use mathlib.Core.Path.{_≡_, refl}
 use Prim.Native.Nat.{ℕ}
-use mathlib.Core.List.{map}
+use mathlib.Core.List.{List, [], _∷_, map}
 use Rattle.meaning.specs.Limits.{metavariableCount, placeCount}
 use Rattle.meaning.specs.Basics.{All}
 use Rattle.meaning.specs.Term.{nil, one, symbol, variable, application, binder, own, slot, hole, bound, Term}
@@ -24,8 +24,11 @@ starred-hold = (refl, (refl, (refl, (refl, (refl, (refl, (refl, (refl, (refl, tt
 abbrev bound-by : ℕ → Term
 bound-by i = (own (variable (bound i)), nil)
 
+abbrev three : List Term → Term
+three ts = (own (application 3), forestOf ts)
+
 abbrev all-equal : Term → Term
-all-equal t = (own (binder 1 tt), one (own (application 3), forestOf ((own (symbol 10), nil) ∷ bound-by 0 ∷ t ∷ [])))
+all-equal t = (own (binder 1 tt), one (three ((own (symbol 10), nil) ∷ bound-by 0 ∷ t ∷ [])))
 
 pub argument-not-caught : plug (λ i. bound-by 0) (all-equal (slot (hole 0), nil)) ≡ all-equal (bound-by 1)
 argument-not-caught = refl
