@@ -16,6 +16,7 @@ use Rattle.meaning.specs.Value.{solves}
 use Rattle.meaning.specs.Search.{Place, at, placeOf, start, Reply, found, end, paused, refusedCall, Keeps, finds, ends, pauses, From, Searches, noAllowance, noPlace, searches}
 use Rattle.meaning.specs.Calls.{Call, left, Run, KeptCall, Kept, callsOf, foundIn, founds, HasEnd, allowed, ThirdDemand}
 use Rattle.meaning.proofs.Lists.{by-test, choose-true, choose-false}
+use Rattle.meaning.proofs.ChoiceLaws.{rows-once}
 
 -- Lists
 module _ {A : Type 0} where
@@ -289,10 +290,9 @@ pub kept-third-demand : {R : Type 0} (isSolution : R → Bool) (rs : List R) (cs
 kept-third-demand isSolution rs cs d k =
     third-demand isSolution rs (callsOf cs) d (kept-run isSolution rs (placeOf rs) cs k)
 
--- The third demand for a problem, from its start
-pub third-demand-of : (p : Problem) (cs : List (Call Row)) → Distinct (rows p) → Run (solves p) (rows p) (start p) cs → ThirdDemand (solves p) (rows p) cs
-third-demand-of p cs d r = third-demand (solves p) (rows p) cs d r
+-- THE THIRD DEMAND, for the rows and the solution rows of a problem: the caller carries the place, or an open search keeps it
+pub third-demand-of : (p : Problem) (cs : List (Call Row)) → Run (solves p) (rows p) (start p) cs → ThirdDemand (solves p) (rows p) cs
+third-demand-of p cs r = third-demand (solves p) (rows p) cs (rows-once p) r
 
-pub kept-third-demand-of : (p : Problem) (cs : List (KeptCall Row))
-    → Distinct (rows p) → Kept (solves p) (rows p) (start p) cs → ThirdDemand (solves p) (rows p) (callsOf cs)
-kept-third-demand-of p cs d k = kept-third-demand (solves p) (rows p) cs d k
+pub kept-third-demand-of : (p : Problem) (cs : List (KeptCall Row)) → Kept (solves p) (rows p) (start p) cs → ThirdDemand (solves p) (rows p) (callsOf cs)
+kept-third-demand-of p cs k = kept-third-demand (solves p) (rows p) cs (rows-once p) k
