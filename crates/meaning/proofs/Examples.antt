@@ -1,4 +1,4 @@
--- The starred examples of document 01, computed from the definitions.
+-- The starred examples of document 01 and those of source document 001, computed from the definitions.
 use mathlib.Core.Path.{_≡_, refl}
 use Prim.Native.Nat.{ℕ}
 use mathlib.Core.List.{List, [], _∷_, map}
@@ -10,7 +10,7 @@ use Rattle.meaning.specs.Filling.{plug}
 use Rattle.meaning.specs.Row.{rows, rowBody}
 use Rattle.meaning.specs.Value.{candidate, solves, solutionRows}
 use Rattle.meaning.specs.Text.{entryOf, textOf}
-use Rattle.meaning.specs.Case.{Case, starred}
+use Rattle.meaning.specs.Case.{Case, starred, further}
 
 -- The texts of the solution rows, in row order, are those of the case
 abbrev pub Holds : Case → Type 0
@@ -19,6 +19,10 @@ Holds c = map (textOf (c .problem)) (solutionRows (c .problem)) ≡ c .texts
 pub starred-hold : All Holds starred
 unfolding metavariableCount placeCount functions metavariables rows rowBody candidate solves solutionRows entryOf textOf
 starred-hold = (refl, (refl, (refl, (refl, (refl, (refl, (refl, (refl, (refl, tt)))))))))
+
+pub further-hold : All Holds further
+unfolding metavariableCount placeCount functions metavariables rows rowBody candidate solves solutionRows entryOf textOf
+further-hold = (refl, (refl, (refl, (refl, (refl, tt)))))
 
 -- "No variable of a value, body or argument is ever caught": the body ∀w.w=□ filled with a variable that is bound outside it
 abbrev bound-by : ℕ → Term

@@ -1,4 +1,4 @@
--- The starred examples of document 01 as problems with what each must give.
+-- The starred examples of document 01, and those of source document 001, as problems with what each must give.
 --   Case    a problem, by its constraints, and the solutions' texts in order
 -- Notation for terms as they are written in document 01: capitals are metavariables, P and Q functions.
 use Prim.Native.Nat.{ℕ}
@@ -137,3 +137,72 @@ notCaught = record {
 abbrev pub starred : List Case
 starred =
     noConstraint ∷ oneSymbol ∷ twoValues ∷ onePlusOne ∷ twoApplications ∷ boundValue ∷ unusedVariable ∷ underBinder ∷ notCaught ∷ []
+
+-- Source document 001: its wrapper w, and the symbols of its examples
+abbrev wrapped : List NamedTerm → NamedTerm
+wrapped ts = app (sym 20 ∷ ts)
+
+abbrev exists : ℕ → NamedTerm → NamedTerm
+exists x t = (own (binder 2 x), one t)
+
+abbrev squared : NamedTerm → NamedTerm
+squared t = infixed 21 t (sym 2)
+
+abbrev cubed : NamedTerm → NamedTerm
+cubed t = infixed 21 t (sym 3)
+
+abbrev less : NamedTerm → NamedTerm → NamedTerm
+less t u = infixed 22 t u
+
+abbrev implies : NamedTerm → NamedTerm → NamedTerm
+implies t u = infixed 23 t u
+
+abbrev squareAbove : NamedTerm → NamedTerm
+squareAbove t = less (sym 0) (plus (squared t) (sym 1))
+
+abbrev nextBelow : NamedTerm → NamedTerm
+nextBelow t = less (plus t (sym 1)) (sym 5)
+
+abbrev isCubeRoot : NamedTerm → NamedTerm
+isCubeRoot t = equals (cubed t) (sym 24)
+
+-- Example 1: (X∧Y, a∧(b∨c))
+abbrev pub conjunction : Case
+conjunction = record {
+  problem = con (and X Y) (and (sym 6) (infixed 14 (sym 7) (sym 8))) ∷ [];
+  texts = (isX (sym 6) ∷ isY (infixed 14 (sym 7) (sym 8)) ∷ []) ∷ [];
+}
+
+-- Example 2: ((X+Y)·(X-Y), (3+k)·(3-p)): none
+abbrev pub twoDifferences : Case
+twoDifferences = record {
+  problem = con (infixed 15 (plus X Y) (infixed 16 X Y)) (infixed 15 (plus (sym 3) (var 1)) (infixed 16 (sym 3) (var 2))) ∷ [];
+  texts = [];
+}
+
+-- "001's table, its first pattern read as P(x): one"
+abbrev pub tableFirst : Case
+tableFirst = record {
+  problem = con (wrapped (all 3 (P (var 3)) ∷ P X ∷ [])) (wrapped (all 4 (squareAbove (var 4)) ∷ squareAbove (sym 9) ∷ [])) ∷ [];
+  texts = (bodyP (squareAbove box) ∷ isX (sym 9) ∷ []) ∷ [];
+}
+
+-- The second of the table
+abbrev pub tableSecond : Case
+tableSecond = record {
+  problem = con (wrapped (wrapped (X ∷ P X ∷ []) ∷ all 3 (P (var 3)) ∷ [])) (wrapped (wrapped (var 7 ∷ nextBelow (var 7) ∷ []) ∷ all 4 (nextBelow (var 4)) ∷ [])) ∷ [];
+  texts = (bodyP (nextBelow box) ∷ isX (var 7) ∷ []) ∷ [];
+}
+
+-- "third: none": the x that the second line binds
+abbrev pub tableThird : Case
+tableThird = record {
+  problem = con
+      (wrapped (exists 3 (P (var 3)) ∷ all 4 (implies (P (var 4)) X) ∷ X ∷ []))
+      (wrapped (exists 3 (isCubeRoot (var 3)) ∷ all 3 (implies (isCubeRoot (var 3)) (less (var 3) (sym 5))) ∷ less (var 3) (sym 5) ∷ []))
+      ∷ [];
+  texts = [];
+}
+
+abbrev pub further : List Case
+further = conjunction ∷ twoDifferences ∷ tableFirst ∷ tableSecond ∷ tableThird ∷ []
