@@ -22,7 +22,7 @@ starred-hold = (refl, (refl, (refl, (refl, (refl, (refl, (refl, (refl, (refl, tt
 
 pub further-hold : All Holds further
 unfolding metavariableCount placeCount functions metavariables rows rowBody candidate solves solutionRows entryOf textOf
-further-hold = (refl, (refl, (refl, (refl, (refl, tt)))))
+further-hold = (refl, (refl, (refl, (refl, (refl, (refl, (refl, tt)))))))
 
 -- "No variable of a value, body or argument is ever caught": the body ∀w.w=□ filled with a variable that is bound outside it
 abbrev bound-by : ℕ → Term

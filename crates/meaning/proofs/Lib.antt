@@ -26,6 +26,13 @@ pub mod Sources
 pub mod Candidate
 pub mod RowBodies
 pub mod Solutions
+-- Solution texts
+pub mod Nodes
+pub mod Sums
+pub mod Weights
+pub mod TextLaws
+pub mod TextLength
+pub mod SecondDemand
 -- The search
 pub mod CallLaws
 -- Examples

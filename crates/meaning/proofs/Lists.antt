@@ -147,6 +147,10 @@ countFrom-mem k (suc n) m h = go (countFrom-mem (suc k) n m) (List·Memᴰ·case
     go ih (inl e) = omega arith
     go ih (inr q) = let r = ih q in omega arith
 
+pub distinct-countFrom : (k n : ℕ) → Distinct (countFrom k n)
+distinct-countFrom k zero = tt
+distinct-countFrom k (suc n) = (λ m. let r = countFrom-mem (suc k) n k m in let h : suc k ≤ k = r .0 in omega arith, distinct-countFrom (suc k) n)
+
 pub mem-upTo : (n m : ℕ) → m < n → m ∈ upTo n
 mem-upTo n m h = mem-countFrom 0 n m (omega arith) (omega arith)
 

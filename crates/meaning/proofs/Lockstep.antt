@@ -17,7 +17,7 @@ use Rattle.meaning.proofs.Alike.{variable-eq, variable-refl, own-eq, ow
 use Rattle.meaning.proofs.ShiftLaws.{pair-eq}
 use Rattle.meaning.proofs.Punching.{graft-eq}
 
-agrees-eq : (o : Own Variable (Unit {0})) (l : Nameless) → T (agrees o l) → own o ≡ l
+pub agrees-eq : (o : Own Variable (Unit {0})) (l : Nameless) → T (agrees o l) → own o ≡ l
 agrees-eq o (own p) t = ap own (own-eq sameVariable variable-eq o p t)
 agrees-eq o (slot z) t = absurd t
 

@@ -4,7 +4,7 @@
 use mathlib.Core.Path.{_≡_, refl, ap, ap₂, sym, _∙_, subst}
 use mathlib.Core.Logic.{⊎-elim}
 use Prim.Native.Nat.{ℕ, zero, suc, _<_}
-use mathlib.Core.Bool.{Bool, true, false, _&&_, not, true≢false, false≢true}
+use mathlib.Core.Bool.{Bool, true, false, _&&_, _||_, not, true≢false, false≢true}
 use mathlib.Core.List.{List, [], _∷_, _++_, map, List·Memᴰ·append-cases, List·Memᴰ·cases-cons, List·Memᴰ·not-nil}
 use native.Mathlib.Omega.{arith}
 use lib.ListN.{length}
@@ -13,11 +13,11 @@ use Rattle.meaning.specs.Limits.{metavariableCount, maxFunctions, placeC
 use Rattle.meaning.specs.Basics.{choose, every, upTo, All, _∈_}
 use Rattle.meaning.specs.Term.{Forest, nil, cons, one, trees, relabel, symbol, variable, application, binder, own, slot, metavariable, function, hole, Named, Nameless, NamedTerm, Terms, IsExpression}
 use Rattle.meaning.specs.Scope.{enter, namelessLabel, nameless}
-use Rattle.meaning.specs.Problem.{Constraint, Problem, forestOf, patterns, expressions, plain, applied, isFunction, isPlain, functions}
+use Rattle.meaning.specs.Problem.{Constraint, Problem, forestOf, patterns, expressions, plain, applied, isFunction, isPlain, functions, metavariables}
 use Rattle.meaning.specs.Read.{Answer, refused, got, Context, inPattern, inArgument, inExpression, contextBelow}
 use Rattle.meaning.specs.Accept.{bothWays, overlarge, checkProblem}
 use Rattle.meaning.specs.Readable.{Readable, ReadableConstraint, Accepted}
-use Rattle.meaning.proofs.Lists.{by-test, choose-true, mem-keep, keep-mem, isIn-mem, mem-isIn, mem-upTo, all-mem, every-all}
+use Rattle.meaning.proofs.Lists.{or-left, or-right, by-test, choose-true, mem-keep, keep-mem, isIn-mem, mem-isIn, mem-upTo, all-mem, every-all}
 
 -- In an argument there are only metavariables besides the expression's own nodes
 abbrev pub argumentLabel : Nameless → Terms → Type 0
@@ -195,3 +195,15 @@ functions-applied p f h = isIn-mem f (applied (patterns p)) (keep-mem (isFunctio
 pub applied-functions : (p : Problem) → Proper p → (f : ℕ) → f ∈ applied (patterns p) → f ∈ functions p
 unfolding functions
 applied-functions p c f h = mem-keep (isFunction p) f (upTo metavariableCount) (mem-upTo metavariableCount f (c .smallApplied f h)) (mem-isIn f (applied (patterns p)) h)
+
+pub applied-occurs : (p : Problem) → Proper p → (m : ℕ) → m ∈ applied (patterns p) → m ∈ metavariables p
+unfolding metavariables
+applied-occurs p c m a =
+    mem-keep (λ k. isFunction p k || isPlain p k) m (upTo metavariableCount) (mem-upTo metavariableCount m (c .smallApplied m a))
+    (or-left (isFunction p m) (isPlain p m) (mem-isIn m (applied (patterns p)) a))
+
+pub plain-occurs : (p : Problem) → Proper p → (m : ℕ) → m ∈ plain (patterns p) → m ∈ metavariables p
+unfolding metavariables
+plain-occurs p c m b =
+    mem-keep (λ k. isFunction p k || isPlain p k) m (upTo metavariableCount) (mem-upTo metavariableCount m (c .smallPlain m b))
+    (or-right (isFunction p m) (isPlain p m) (mem-isIn m (plain (patterns p)) b))

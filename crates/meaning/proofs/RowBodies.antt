@@ -10,18 +10,17 @@ use mathlib.Core.Option.{Option, none, some}
 use native.Mathlib.Omega.{arith}
 use lib.Dec.{eqb}
 use Rattle.meaning.specs.Limits.{metavariableCount, placeCount}
-use Rattle.meaning.specs.Basics.{choose, keep, countFrom, upTo, orNone, isSome, _∈_, Distinct}
+use Rattle.meaning.specs.Basics.{choose, upTo, orNone, isSome, _∈_, Distinct}
 use Rattle.meaning.specs.Term.{Tree, nil, cons, one, size, Label, own, slot, Slot, metavariable, function, hole, Terms, Term, IsExpression}
 use Rattle.meaning.specs.Problem.{Problem, patterns, expressions, applied, isFunction, functions}
 use Rattle.meaning.specs.Filling.{plug, Entry, body, Filling, bodyOr, fillHandler, IsBody}
 use Rattle.meaning.specs.Solution.{Solution}
 use Rattle.meaning.specs.Face.{Face, faces, isApplication, firstFace, Satisfied}
-use Rattle.meaning.specs.Choice.{Mark, Marks, mark, rest, punch, punchNode, Choice, Ordered, empty, more}
+use Rattle.meaning.specs.Choice.{Mark, Marks, mark, rest, punch, punchNode, Choice}
 use Rattle.meaning.specs.Row.{Row, faceTerm, faceOf, rows, ChoiceEach, IsRow, choiceIn, punchTop, punchTerm, rowBody, HasBodies}
-use Rattle.meaning.proofs.Lists.{by-test, choose-true, choose-false, eqb-eq, eqb-self, countFrom-mem}
-use Rattle.meaning.proofs.Lists.{at-mem}
+use Rattle.meaning.proofs.Lists.{by-test, choose-true, choose-false, eqb-eq, eqb-self}
+use Rattle.meaning.proofs.Lists.{at-mem, keep-distinct, distinct-countFrom}
 use Rattle.meaning.proofs.Renaming.{one-injective}
-use Rattle.meaning.proofs.Ordered.{keep-ordered, ordered-distinct}
 use Rattle.meaning.proofs.ChoiceLaws.{rows-are}
 use Rattle.meaning.proofs.Punching.{blank, holesOf, holes-length, punch-holes, fits-holes, clear-holes, punch-unique}
 use Rattle.meaning.proofs.BodyChoice.{fits-choice, choice-clear}
@@ -171,11 +170,7 @@ same-row p (f ∷ fs) (c ∷ r) (c′ ∷ r′) d h g e =
 
 functions-distinct : (p : Problem) → Distinct (functions p)
 unfolding functions
-functions-distinct p = ordered-distinct (λ (x y : ℕ). x < y) (λ x h. omega arith) (keep (isFunction p) (upTo metavariableCount)) (keep-ordered (λ (x y : ℕ). x < y) (isFunction p) (upTo metavariableCount) (ascending 0 metavariableCount))
-  where
-    ascending : (k n : ℕ) → Ordered (λ (x y : ℕ). x < y) (countFrom k n)
-    ascending k zero = empty
-    ascending k (suc n) = more {x = k} (λ y q. let r = countFrom-mem (suc k) n y q in omega arith) (ascending (suc k) n)
+functions-distinct p = keep-distinct (isFunction p) (upTo metavariableCount) (distinct-countFrom 0 metavariableCount)
 
 -- The body of a function in a row
 row-body : (p : Problem) (r : Row) (f : ℕ) (b : Term) → punch (choiceIn (functions p) r f) (one (faceOf p f)) ≡ one b → rowBody p r f ≡ b

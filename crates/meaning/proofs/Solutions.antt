@@ -2,14 +2,14 @@
 use mathlib.Core.Path.{_≡_, refl, ap, sym, _∙_, subst, fun-ext}
 use mathlib.Core.Logic.{_⊎_, inl, inr, _↔_}
 use Prim.Native.Nat.{ℕ, _<_}
-use mathlib.Core.Bool.{true, false, _||_, true≢false, false≢true}
+use mathlib.Core.Bool.{true, false, true≢false, false≢true}
 use mathlib.Core.List.{[], _∷_, map, List·Memᴰ·head, List·Memᴰ·tail}
 use mathlib.Core.Option.{none, some}
 use native.Mathlib.Omega.{arith}
 use lib.Dec.{T}
 use lib.ListN.{drop}
-use Rattle.meaning.specs.Limits.{metavariableCount, placeCount}
-use Rattle.meaning.specs.Basics.{keep, every, upTo, _∈_, Distinct}
+use Rattle.meaning.specs.Limits.{placeCount}
+use Rattle.meaning.specs.Basics.{keep, every, _∈_, Distinct}
 use Rattle.meaning.specs.Term.{nil, cons, one, size, own, slot, Terms, Term, IsExpression}
 use Rattle.meaning.specs.Shift.{ClosedTerm}
 use Rattle.meaning.specs.Equal.{sameTerms}
@@ -21,13 +21,13 @@ use Rattle.meaning.specs.Choice.{Marks, punch, Choice}
 use Rattle.meaning.specs.Row.{Row, faceOf, rows, IsRow, choiceIn, rowBody, HasBodies, SolutionRow}
 use Rattle.meaning.specs.Value.{Source, sources, lookup, given, candidate, isClosedEntry, solves, solutionRows, fullList}
 use Rattle.meaning.specs.Readable.{Accepted}
-use Rattle.meaning.proofs.Lists.{T-true, true-T, and-T, T-and, by-test, mem-map, map-mem, mem-keep, keep-mem, mem-upTo, isIn-mem, mem-isIn, all-mem, mem-all, every-all, all-every}
+use Rattle.meaning.proofs.Lists.{T-true, true-T, and-T, T-and, by-test, mem-map, map-mem, mem-keep, keep-mem, isIn-mem, mem-isIn, all-mem, mem-all, every-all, all-every}
 use Rattle.meaning.proofs.ShiftLaws.{test-closed, closed-test}
 use Rattle.meaning.proofs.Alike.{sameTerms-eq, sameTerms-refl}
 use Rattle.meaning.proofs.ChoiceLaws.{rows-are, rows-once}
-use Rattle.meaning.proofs.Proper.{Proper, accepted-proper, applied-functions, functions-applied}
+use Rattle.meaning.proofs.Proper.{Proper, accepted-proper, applied-functions, functions-applied, applied-occurs, plain-occurs}
 use Rattle.meaning.proofs.Candidate.{Fitting, candidate-function, candidate-plain, candidate-other, fitting-source, fitting-idle, lookup-cases, solution-candidate}
-use Rattle.meaning.proofs.Lists.{drop-mem, mem-at, is-some, keep-distinct, or-left, or-right}
+use Rattle.meaning.proofs.Lists.{drop-mem, mem-at, is-some, keep-distinct}
 use Rattle.meaning.proofs.RowBodies.{face-expression, choice-in, row-exists, row-only, body-row}
 
 -- A punched expression is a body
@@ -65,18 +65,6 @@ module _ (p : Problem) (r : Row) (passes : solves p r ≡ true) where
   pub passes-fitting : Proper p → IsRow p r → Fitting p (candidate p r) (rowBody p r)
   passes-fitting c i = record { proper = c; meets = passes-meets; agree = candidate-function p r; shapes = row-body-shape p r c i }
 
-occurs : (p : Problem) → Proper p → (m : ℕ) → (m ∈ applied (patterns p)) ⊎ (m ∈ plain (patterns p)) → m ∈ metavariables p
-unfolding metavariables
-occurs p c m h = mem-keep (λ k. isFunction p k || isPlain p k) m (upTo metavariableCount) (mem-upTo metavariableCount m (small h)) (either h)
-  where
-    small : (m ∈ applied (patterns p)) ⊎ (m ∈ plain (patterns p)) → m < metavariableCount
-    small (inl a) = c .smallApplied m a
-    small (inr b) = c .smallPlain m b
-
-    either : (m ∈ applied (patterns p)) ⊎ (m ∈ plain (patterns p)) → (isFunction p m || isPlain p m) ≡ true
-    either (inl a) = or-left (isFunction p m) (isPlain p m) (mem-isIn m (applied (patterns p)) a)
-    either (inr b) = or-right (isFunction p m) (isPlain p m) (mem-isIn m (plain (patterns p)) b)
-
 -- THE CANDIDATE OF A ROW THAT PASSES IS A SOLUTION
 pub candidate-solution : (p : Problem) (r : Row) → Proper p → IsRow p r → solves p r ≡ true → Solution p (candidate p r)
 candidate-solution p r c i e = record {
@@ -96,7 +84,7 @@ candidate-solution p r c i e = record {
 
     bodies-closed : (f : ℕ) → f ∈ applied (patterns p) → ClosedTerm (rowBody p r f)
     bodies-closed f a =
-        test-closed 0 (one (rowBody p r f)) (true-T (ap isClosedEntry (sym (candidate-function p r f a)) ∙ passes-closed p r e f (occurs p c f (inl a))))
+        test-closed 0 (one (rowBody p r f)) (true-T (ap isClosedEntry (sym (candidate-function p r f a)) ∙ passes-closed p r e f (applied-occurs p c f a)))
 
     valued : (m : ℕ) → m ∈ plain (patterns p) → (lookup m (sources p r) ≡ none) ⊎ ((s : Source) × (lookup m (sources p r) ≡ some s))
         → (candidate p r m ≡ leftOpen) ⊎ ((t : Term) × (candidate p r m ≡ value t) × IsExpression (one t) × ClosedTerm t)
@@ -107,7 +95,7 @@ candidate-solution p r c i e = record {
           s .0 .term,
           v,
           fitting-source p r (candidate p r) fit m (s .0) (s .1) .0 .expression,
-          test-closed 0 (one (s .0 .term)) (true-T (ap isClosedEntry (sym v) ∙ passes-closed p r e m (occurs p c m (inr q)))),
+          test-closed 0 (one (s .0 .term)) (true-T (ap isClosedEntry (sym v) ∙ passes-closed p r e m (plain-occurs p c m q))),
         )
 
     opened : (m : ℕ) → candidate p r m ≡ leftOpen → (lookup m (sources p r) ≡ none) ⊎ ((s : Source) × (lookup m (sources p r) ≡ some s)) → Idle p (candidate p r) m

@@ -204,5 +204,29 @@ tableThird = record {
   texts = [];
 }
 
+-- Which spelling is written. A value comes from an occurrence outside arguments, though one in an argument stands before it
+abbrev self : ℕ → NamedTerm
+self x = all x (var x)
+
+abbrev pub outsideSpelling : Case
+outsideSpelling = record {
+  problem = con (P X) (self 4) ∷ con X (self 5) ∷ [];
+  texts = (bodyP box ∷ isX (self 5) ∷ []) ∷ (bodyP (self 4) ∷ isX (self 5) ∷ []) ∷ [];
+}
+
+-- Of two holes that are equal up to bound names, the lowest one's names
+abbrev pub lowestSpelling : Case
+lowestSpelling = record {
+  problem = con (P X) (equals (self 4) (self 5)) ∷ [];
+  texts =
+      (bodyP box ∷ isX (equals (self 4) (self 5)) ∷ [])
+      ∷ (bodyP (app (box ∷ self 4 ∷ self 5 ∷ [])) ∷ isX (sym 10) ∷ [])
+      ∷ (bodyP (equals box box) ∷ isX (self 4) ∷ [])
+      ∷ (bodyP (equals box (self 5)) ∷ isX (self 4) ∷ [])
+      ∷ (bodyP (equals (self 4) box) ∷ isX (self 5) ∷ [])
+      ∷ (bodyP (equals (self 4) (self 5)) ∷ openX ∷ [])
+      ∷ [];
+}
+
 abbrev pub further : List Case
-further = conjunction ∷ twoDifferences ∷ tableFirst ∷ tableSecond ∷ tableThird ∷ []
+further = outsideSpelling ∷ lowestSpelling ∷ conjunction ∷ twoDifferences ∷ tableFirst ∷ tableSecond ∷ tableThird ∷ []

@@ -1,0 +1,79 @@
+-- The second demand, as far as it concerns definitions: every written text is read back and passes, and every solution has a row whose
+-- text names it. That a text passes exactly when the filling that it names is a solution is the definition `Passes`.
+use mathlib.Core.Path.{_≡_, _∙_, subst}
+use Prim.Native.Nat.{ℕ, zero, suc, _≤_}
+use mathlib.Core.Bool.{Bool, true, false}
+use mathlib.Core.List.{List, [], _∷_}
+use native.Mathlib.Omega.{arith}
+use lib.ListN.{length}
+use Rattle.meaning.specs.Limits.{maxInput, maxText, metavariableCount}
+use Rattle.meaning.specs.Basics.{choose, keep, countFrom, upTo, _∈_}
+use Rattle.meaning.specs.Problem.{Problem, metavariables}
+use Rattle.meaning.specs.Filling.{Filling}
+use Rattle.meaning.specs.Solution.{Solution}
+use Rattle.meaning.specs.Row.{Row, rows}
+use Rattle.meaning.specs.Value.{candidate, solves}
+use Rattle.meaning.specs.Text.{encodeText, textOf, readText, Says, Passes}
+use Rattle.meaning.specs.Field.{encodeProblem}
+use Rattle.meaning.specs.Read.{got}
+use Rattle.meaning.specs.Readable.{Accepted}
+use Rattle.meaning.proofs.ChoiceLaws.{rows-are}
+use Rattle.meaning.proofs.Proper.{accepted-proper}
+use Rattle.meaning.proofs.Solutions.{row-solution-unique, solution-complete, solves-is-right, candidate-solution, OnlyRow}
+use Rattle.meaning.proofs.TextReading.{read-text}
+use Rattle.meaning.proofs.TextLaws.{text-says, text-readable}
+use Rattle.meaning.proofs.TextLength.{text-length}
+
+keep-length : {A : Type 0} (p : A → Bool) (xs : List A) → length (keep p xs) ≤ length xs
+keep-length p [] = omega arith
+keep-length {A} p (x ∷ xs) = go (p x) (keep-length p xs)
+  where
+    go : (b : Bool) → length (keep p xs) ≤ length xs → length (choose b (x ∷ keep p xs) (keep p xs)) ≤ suc (length xs)
+    go true h = omega arith
+    go false h = omega arith
+
+count-length : (k n : ℕ) → length (countFrom k n) ≡ n
+count-length k zero = omega arith
+count-length k (suc n) = let h = count-length (suc k) n in omega arith
+
+few-metavariables : (p : Problem) → length (metavariables p) ≤ metavariableCount
+unfolding metavariables
+few-metavariables p =
+    subst (λ (n : ℕ). length (metavariables p) ≤ n) (count-length 0 metavariableCount) (keep-length _ (upTo metavariableCount))
+
+-- A written text is never over the limit of a text
+text-fits : (p : Problem) (r : Row) → Accepted p → solves p r ≡ true → length (encodeText (textOf p r)) ≤ maxText
+unfolding maxText maxInput metavariableCount
+text-fits p r a e =
+    let l = text-length p r a e in
+    let i : length (encodeProblem p) ≤ 4096 = a .within .input in
+    let m : length (metavariables p) ≤ 32 = few-metavariables p in
+    omega arith
+
+-- EVERY WRITTEN TEXT READS BACK
+pub text-read-back : (p : Problem) (r : Row) → Accepted p → r ∈ rows p → solves p r ≡ true → readText (encodeText (textOf p r)) ≡ got (textOf p r)
+text-read-back p r a i e = read-text (textOf p r) (text-readable p r a i e) (text-fits p r a e)
+
+-- ... AND PASSES, as the row's one solution
+pub text-passes : (p : Problem) (r : Row) → Accepted p → r ∈ rows p → solves p r ≡ true → Passes p (textOf p r)
+text-passes p r a i e =
+    record { filling = candidate p r; says = text-says p r a e; solution = candidate-solution p r (accepted-proper p a) (rows-are p r .0 i) e }
+
+-- EVERY SOLUTION HAS A ROW WHOSE TEXT NAMES IT
+pub record Written (p : Problem) (σ : Filling) : Type 0 where
+  pub row : Row
+  pub isRow : row ∈ rows p
+  pub isSolutionRow : solves p row ≡ true
+  pub says : Says (textOf p row) σ
+
+pub solution-written : (p : Problem) (σ : Filling) → Accepted p → Solution p σ → Written p σ
+solution-written p σ a s =
+    let o : OnlyRow p σ = solution-complete p σ a s in
+    let e : solves p (o .row) ≡ true = solves-is-right p (o .row) a (o .isRow) .1 (σ, s, o .hasBodies) in
+    let t : Says (textOf p (o .row)) (candidate p (o .row)) = text-says p (o .row) a e in
+    record {
+      row = o .row;
+      isRow = o .isRow;
+      isSolutionRow = e;
+      says = record { once = t .once; names = λ m. row-solution-unique p (o .row) σ a s (o .hasBodies) m ∙ t .names m };
+    }
