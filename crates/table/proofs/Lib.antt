@@ -1,0 +1,2 @@
+-- The theorems about the token table.
+pub mod KeyLaws

@@ -1,0 +1,3 @@
+// The reader and the token table.
+pub mod same;
+pub mod token;
