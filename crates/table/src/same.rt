@@ -48,7 +48,7 @@ fn key_of_payload(d: u64, tag: u64, depth: u64, load: u64) -> u64
 }
 
 // A token's key, seen from a root at depth d.
-fn key_of(d: u64, x: u64) -> u64
+pub fn key_of(d: u64, x: u64) -> u64
     ensures { λ r. ⌜ r ≡ keyOf d x ⌝ }
 {
     let kind = tag(x);
@@ -56,7 +56,7 @@ fn key_of(d: u64, x: u64) -> u64
 }
 
 // Whether a pair of nodes agrees, each seen from its own root, at depths d and e.
-fn same_node(d: u64, x: u64, e: u64, y: u64) -> bool
+pub fn same_node(d: u64, x: u64, e: u64, y: u64) -> bool
     ensures { λ r. ⌜ r ≡ eqb (keyOf d x) (keyOf e y) ⌝ }
 {
     key_of(d, x) == key_of(e, y)
