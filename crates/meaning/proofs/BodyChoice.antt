@@ -18,6 +18,7 @@ use Rattle.meaning.proofs.ShiftLaws.{relabel-size}
 use Rattle.meaning.proofs.ChoiceLaws.{length-views, at-other}
 use Rattle.meaning.proofs.Lowered.{view-shift, view-shift-unbound}
 use Rattle.meaning.proofs.Punching.{Fits, Clear, blank}
+use Rattle.meaning.proofs.Lists.{never}
 
 -- The marks run at least as far as the views
 abbrev Along : (Mark → View Owner → Type 0) → Marks → List (View Owner) → Type 0
@@ -37,7 +38,7 @@ module _ (R : Mark → View Owner → Type 0) where
   append-along (m ∷ ms) (u ∷ us) vs a = let r = append-along ms us vs (a .1) in ((a .0, r .0), r .1)
 
   along-at : (ms : Marks) (vs : List (View Owner)) → Along R ms vs → (k : ℕ) (m : Mark) (v : View Owner) → getElem? ms k ≡ some m → getElem? vs k ≡ some v → R m v
-  along-at ms [] a k m v e f = absurd (let z : _≡_ {A = ℕ} 0 1 = cc in omega arith)
+  along-at ms [] a k m v e f = never (cc)
   along-at [] (u ∷ us) a k m v e f = absurd a
   along-at (x ∷ ms) (u ∷ us) a zero m v e f =
       let p : x ≡ m = cc in let q : u ≡ v = cc in subst (λ (y : Mark). R y v) p (subst (R x) q (a .0))
@@ -76,13 +77,13 @@ abbrev SeenAs : (ℕ → Term) → Mark → View Owner → Type 0
 SeenAs a m v = (i : ℕ) → m ≡ some i → (v ≡ view (ownerOf []) (one (a i))) × (usesFace v ≡ false)
 
 unmarked : {A : Type 0} (i : ℕ) → _≡_ {A = Mark} none (some i) → A
-unmarked i e = absurd (let z : _≡_ {A = ℕ} 0 1 = cc in omega arith)
+unmarked i e = never (cc)
 
 blank-along : (a : ℕ → Term) (ms : Marks) (vs : List (View Owner)) → take (length vs) ms ≡ blank (length vs) → Along (SeenAs a) ms vs
 blank-along a ms [] e = tt
-blank-along a [] (v ∷ vs) e = absurd (let z : _≡_ {A = ℕ} 0 1 = cc in omega arith)
+blank-along a [] (v ∷ vs) e = never (cc)
 blank-along a (none ∷ ms) (v ∷ vs) e = (λ i q. unmarked i q, blank-along a ms vs (cc))
-blank-along a (some j ∷ ms) (v ∷ vs) e = absurd (let z : _≡_ {A = ℕ} 0 1 = cc in omega arith)
+blank-along a (some j ∷ ms) (v ∷ vs) e = never (cc)
 
 module _ (a : ℕ → Term) where
   fits-along : (bs : List ℕ) (n : ℕ) (ms : Marks) (u : Terms) → size u ≤ length ms → Fits a (length bs) ms u → Clear ms u → Along (SeenAs a) ms (viewsFrom bs n u)
@@ -162,12 +163,12 @@ sizes-clear w bs n (some i ∷ ms) (cons t c s) l a =
 
 -- Some node is marked, or none is
 some-marked : (ms : Marks) → ((k i : ℕ) × (getElem? ms k ≡ some (some i))) ⊎ ((k i : ℕ) → getElem? ms k ≡ some (some i) → ⊥)
-some-marked [] = inr (λ k i e. let z : _≡_ {A = ℕ} 0 1 = cc in omega arith)
+some-marked [] = inr (λ k i e. never (cc))
 some-marked (some j ∷ ms) = inl (0, j, refl)
 some-marked (none ∷ ms) = go (some-marked ms)
   where
     later : ((k i : ℕ) → getElem? ms k ≡ some (some i) → ⊥) → (k i : ℕ) → getElem? (none ∷ ms) k ≡ some (some i) → ⊥
-    later f zero i e = let z : _≡_ {A = ℕ} 0 1 = cc in omega arith
+    later f zero i e = never (cc)
     later f (suc k) i e = f k i e
 
     go : ((k i : ℕ) × (getElem? ms k ≡ some (some i))) ⊎ ((k i : ℕ) → getElem? ms k ≡ some (some i) → ⊥)

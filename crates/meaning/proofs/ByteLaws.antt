@@ -13,7 +13,7 @@ use borrow.Author.Tests.{ltb-false, le-ltb, ne-eqb}
 use Rattle.meaning.specs.Basics.{choose, All}
 use Rattle.meaning.specs.Field.{Bytes, word, field}
 use Rattle.meaning.specs.Read.{Answer, refused, got, after, wordAt, Parts, partsOf}
-use Rattle.meaning.proofs.Lists.{append-all, all-append}
+use Rattle.meaning.proofs.Lists.{never, append-all, all-append}
 
 abbrev pub Byte : ℕ → Type 0
 Byte b = b < 256
@@ -23,7 +23,7 @@ pub got-is : {A : Type 0} {x y : A} → got x ≡ got y → x ≡ y
 got-is e = cc
 
 pub refused-not : {A : Type 0} {r : ℕ} {y : A} → refused r ≡ got y → ⊥
-refused-not e = let z : _≡_ {A = ℕ} 0 1 = cc in omega arith
+refused-not e = never (cc)
 
 pub by-got : {A B C : Type 0} (a : Answer A) (f : A → Answer B) {y : B} → after a f ≡ got y → ((x : A) → a ≡ got x → f x ≡ got y → C) → C
 by-got (refused r) f e k = absurd (refused-not e)

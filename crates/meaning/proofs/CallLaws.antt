@@ -15,7 +15,7 @@ use Rattle.meaning.specs.Row.{Row, rows}
 use Rattle.meaning.specs.Value.{solves}
 use Rattle.meaning.specs.Search.{Place, at, placeOf, start, Reply, found, end, paused, refusedCall, Keeps, finds, ends, pauses, From, Searches, noAllowance, noPlace, searches}
 use Rattle.meaning.specs.Calls.{Call, left, Run, KeptCall, Kept, callsOf, foundIn, founds, HasEnd, allowed, ThirdDemand}
-use Rattle.meaning.proofs.Lists.{by-test, choose-true, choose-false}
+use Rattle.meaning.proofs.Lists.{never, by-test, choose-true, choose-false}
 use Rattle.meaning.proofs.ChoiceLaws.{rows-once}
 
 -- Lists
@@ -44,8 +44,8 @@ module _ {A : Type 0} where
 one-suffix : {R : Type 0} (rs : List R) (place : Place R) (from from′ : List R)
     → Distinct rs → From rs place from → From rs place from′ → from ≡ from′
 one-suffix rs place [] [] d f g = refl
-one-suffix rs place [] (y ∷ ys) d f g = absurd (let z : _≡_ {A = ℕ} 0 1 = cc in omega arith)
-one-suffix rs place (x ∷ xs) [] d f g = absurd (let z : _≡_ {A = ℕ} 0 1 = cc in omega arith)
+one-suffix rs place [] (y ∷ ys) d f g = never (cc)
+one-suffix rs place (x ∷ xs) [] d f g = never (cc)
 one-suffix rs place (x ∷ xs) (y ∷ ys) d f g =
     let same : x ≡ y = cc in
     let split : f .before ++ (x ∷ xs) ≡ g .before ++ (x ∷ ys) = cc in
@@ -79,7 +79,7 @@ module _ {R : Type 0} (isSolution : R → Bool) where
         next = refl;
         gives = keep-after isSolution skipped (r ∷ later) a ∙ choose-true (r ∷ keep isSolution later) (keep isSolution later) e;
         moves = inr (omega (arith, allowed-one n, length-append skipped (r ∷ [])));
-        last = λ q. absurd (let z : _≡_ {A = ℕ} 0 1 = cc in omega arith);
+        last = λ q. never (cc);
       }
   keeps-step place h (ends from a l) =
       record {
@@ -99,7 +99,7 @@ module _ {R : Type 0} (isSolution : R → Bool) where
         next = refl;
         gives = keep-after isSolution passed (r ∷ later) a;
         moves = inr (omega (arith, allowed-one n));
-        last = λ q. absurd (let z : _≡_ {A = ℕ} 0 1 = cc in omega arith);
+        last = λ q. never (cc);
       }
 
   -- A refusal 15 leaves all as it was; 16 cannot be the answer, as the place names a suffix of the rows
@@ -113,7 +113,7 @@ module _ {R : Type 0} (isSolution : R → Bool) where
         next = f .begins;
         gives = refl;
         moves = inr (omega (arith, ap allowed e));
-        last = λ q. absurd (let z : _≡_ {A = ℕ} 0 1 = cc in omega arith);
+        last = λ q. never (cc);
       }
   step rs place from d f (noPlace h g) = absurd (g from f)
   step {n} {reply} rs place from d f (searches h from′ g k) =
@@ -153,7 +153,7 @@ module _ {R : Type 0} (isSolution : R → Bool) where
   -- Where no row is left nothing more is found
   none-left : (from : List R) (cs : List (Call R)) → from ≡ [] → ThirdDemand isSolution from cs → length (founds cs) ≡ length (keep isSolution from)
   none-left [] cs e t = ap length (t .prefix ∙ take-nil (length (founds cs)))
-  none-left (x ∷ xs) cs e t = absurd (let z : _≡_ {A = ℕ} 0 1 = cc in omega arith)
+  none-left (x ∷ xs) cs e t = never (cc)
 
   -- From the rows that a call leaves back to those that it had
   add-call : {place : Place R} {from : List R} (c : Call R) (cs : List (Call R)) (s : Step isSolution place (c .allowance) from (c .reply))

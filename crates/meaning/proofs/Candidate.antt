@@ -18,7 +18,7 @@ use Rattle.meaning.specs.Solution.{hasHole, needs, Idle, Solution}
 use Rattle.meaning.specs.Face.{Face}
 use Rattle.meaning.specs.Row.{Row, rowBody, HasBodies}
 use Rattle.meaning.specs.Value.{Source, sourceOf, fromApplication, sourcesIn, sources, lookup, given, candidate}
-use Rattle.meaning.proofs.Lists.{by-test, choose-true, choose-false, eqb-eq, eqb-self, mem-each, each-mem, isIn-mem, mem-isIn, not-isIn}
+use Rattle.meaning.proofs.Lists.{never, by-test, choose-true, choose-false, eqb-eq, eqb-self, mem-each, each-mem, isIn-mem, mem-isIn, not-isIn}
 use Rattle.meaning.proofs.Proper.{IsArgument, Proper, applied-functions}
 use Rattle.meaning.proofs.Slots.{slots, standingAt, face-slot, slot-face, faces-expression, slot-standing, standing-slot, in-arguments, arguments-in, slot-applied, pattern-slot}
 use Rattle.meaning.proofs.Sources.{value-is, Walked, walked, HasSource, Told, application-told, application-has, source-at, face-source}
@@ -129,7 +129,7 @@ module _ (p : Problem) (σ : Filling) (b : ℕ → Term) (fit : Fitting p σ b) 
 
 -- Looking a source up
 pub lookup-is : (m : ℕ) (ss : List Source) (s : Source) → lookup m ss ≡ some s → (s ∈ ss) × (s .number ≡ m)
-lookup-is m [] s e = absurd (let z : _≡_ {A = ℕ} 0 1 = cc in omega arith)
+lookup-is m [] s e = never (cc)
 lookup-is m (x ∷ xs) s e = go (eqb m (x .number)) refl (lookup-is m xs s) e
   where
     go : (b : Bool) → eqb m (x .number) ≡ b → (lookup m xs ≡ some s → (s ∈ xs) × (s .number ≡ m)) → choose b (some x) (lookup m xs) ≡ some s → (s ∈ (x ∷ xs)) × (s .number ≡ m)
@@ -141,7 +141,7 @@ lookup-none m [] e h = List·Memᴰ·not-nil (h .1)
 lookup-none m (x ∷ xs) e h = go (eqb m (x .number)) refl (λ q i. lookup-none m xs q (h .0, i, h .2)) e (List·Memᴰ·cases-cons (h .1))
   where
     go : (b : Bool) → eqb m (x .number) ≡ b → (lookup m xs ≡ none → h .0 ∈ xs → ⊥) → choose b (some x) (lookup m xs) ≡ none → (h .0 ≡ x) ⊎ (h .0 ∈ xs) → ⊥
-    go true q ih r j = let z : _≡_ {A = ℕ} 0 1 = cc in omega arith
+    go true q ih r j = never (cc)
     go false q ih r (inl j) =
         let k : x .number ≡ m = ap (λ (y : Source). y .number) (sym j) ∙ h .2 in
         false≢true (sym q ∙ ap (eqb m) k ∙ eqb-self m)

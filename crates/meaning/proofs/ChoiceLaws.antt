@@ -16,19 +16,19 @@ use Rattle.meaning.specs.Problem.{Problem, functions}
 use Rattle.meaning.specs.Face.{Face, faces}
 use Rattle.meaning.specs.Choice.{Mark, Marks, Owner, below, viewsFrom, views, usesFace, Choice, isPlace, chosen, sameOwned, allSame, fitsPlace, isChoice, Earlier, Ordered, empty, allMarks, choices}
 use Rattle.meaning.specs.Row.{Row, faceOf, rowsOver, rows, ChoiceEach, IsRow, EarlierRow}
-use Rattle.meaning.proofs.Lists.{T-true, true-T, and-T, T-and, eqb-self, eqb-eq, mem-keep, keep-mem, mem-upTo, all-mem, mem-all, every-all, all-every, at-mem, mem-at}
+use Rattle.meaning.proofs.Lists.{never, T-true, true-T, and-T, T-and, eqb-self, eqb-eq, mem-keep, keep-mem, mem-upTo, all-mem, mem-all, every-all, all-every, at-mem, mem-at}
 use Rattle.meaning.proofs.Alike.{sameOwned-eq, sameOwned-refl}
 use Rattle.meaning.proofs.Ordered.{keep-ordered, ordered-distinct, Placed, allMarks-ordered, allMarks-are, OneOfEach, product-ordered, product-are, earlier-strict, earlierRow-strict}
 
 -- Where one list has an element, so has each list of the same length
 pub at-other : {A B : Type 0} (xs : List A) (ys : List B) (k : ℕ) (x : A) → length xs ≡ length ys → getElem? xs k ≡ some x → (y : B) × (getElem? ys k ≡ some y)
-at-other [] ys k x l e = absurd (let z : _≡_ {A = ℕ} 0 1 = cc in omega arith)
+at-other [] ys k x l e = never (cc)
 at-other (z ∷ xs) [] k x l e = absurd (omega arith)
 at-other (z ∷ xs) (y ∷ ys) zero x l e = (y, refl)
 at-other (z ∷ xs) (y ∷ ys) (suc k) x l e = at-other xs ys k x (omega arith) e
 
 at-replicate : {A : Type 0} (n k : ℕ) (x y : A) → getElem? (replicate n x) k ≡ some y → x ≡ y
-at-replicate zero k x y e = absurd (let z : _≡_ {A = ℕ} 0 1 = cc in omega arith)
+at-replicate zero k x y e = never (cc)
 at-replicate (suc n) zero x y e = cc
 at-replicate (suc n) (suc k) x y e = at-replicate n k x y e
 
@@ -61,8 +61,8 @@ choose-mem true x y xs m = ⊎-elim (λ e. inl (refl, e)) inr (List·Memᴰ·cas
 choose-mem false x y xs m = inr m
 
 mem-chosen : (i k : ℕ) (ms : Marks) (us : List (View Owner)) (u : View Owner) → getElem? ms k ≡ some (some i) → getElem? us k ≡ some u → u ∈ chosen i ms us
-mem-chosen i k [] us u e d = absurd (let z : _≡_ {A = ℕ} 0 1 = cc in omega arith)
-mem-chosen i k (m ∷ ms) [] u e d = absurd (let z : _≡_ {A = ℕ} 0 1 = cc in omega arith)
+mem-chosen i k [] us u e d = never (cc)
+mem-chosen i k (m ∷ ms) [] u e d = never (cc)
 mem-chosen i zero (m ∷ ms) (v ∷ us) u e d =
     let p : m ≡ some i = cc in
     let q : u ≡ v = cc in

@@ -10,6 +10,10 @@ use lib.ListN.{drop, getElem?}
 use lib.Dec.{eqb, eqb→eq, eqb-refl, T}
 use Rattle.meaning.specs.Basics.{choose, keep, each, countFrom, upTo, isIn, every, All, _∈_, Distinct, isSome, join, guard, AllO}
 
+-- Two constructors are never equal: `cc` gives 0 ≡ 1 from an equation of two
+pub never : {A : Type 0} → _≡_ {A = ℕ} 0 1 → A
+never e = absurd (omega arith)
+
 -- Tests as types and as equations
 pub T-true : {b : Bool} → T b → b ≡ true
 T-true {b = true} t = refl
@@ -159,7 +163,7 @@ upTo-mem n m h = let r = countFrom-mem 0 n m h in omega arith
 
 -- The element at a number
 pub at-mem : {A : Type 0} (xs : List A) (k : ℕ) (x : A) → getElem? xs k ≡ some x → x ∈ xs
-at-mem [] k x e = absurd (let z : _≡_ {A = ℕ} 0 1 = cc in omega arith)
+at-mem [] k x e = never (cc)
 at-mem (y ∷ xs) zero x e = List·Memᴰ·head (let p : x ≡ y = cc in p)
 at-mem (y ∷ xs) (suc k) x e = List·Memᴰ·tail (at-mem xs k x e)
 

@@ -5,14 +5,13 @@ use mathlib.Core.Logic.{_↔_}
 use Prim.Native.Nat.{ℕ, suc, _+_}
 use mathlib.Core.List.{List}
 use mathlib.Core.Option.{Option}
-use native.Mathlib.Omega.{arith}
 use lib.Dec.{T}
 use Rattle.meaning.specs.Basics.{AllO}
 use Rattle.meaning.specs.Term.{nil, cons, Own, own, slot, Variable, Nameless, Terms, Term, size, inner}
 use Rattle.meaning.specs.Equal.{sameVariable}
 use Rattle.meaning.specs.Filling.{Handler, fillLabel, fill}
 use Rattle.meaning.specs.Face.{Face, agrees, meet, walk, Satisfied}
-use Rattle.meaning.proofs.Lists.{join-in, join-out, guard-in, guard-out}
+use Rattle.meaning.proofs.Lists.{never, join-in, join-out, guard-in, guard-out}
 use Rattle.meaning.proofs.Alike.{variable-eq, variable-refl, own-eq, own-refl}
 use Rattle.meaning.proofs.ShiftLaws.{pair-eq}
 use Rattle.meaning.proofs.Punching.{graft-eq}
@@ -40,8 +39,8 @@ module _ (h : Handler) where
 
   pub walk-in : (k n : ℕ) (p e : Terms) → fill h k p ≡ e → AllO (Satisfied h) (walk k n p e)
   walk-in k n nil nil q = tt
-  walk-in k n nil (cons l c s) q = absurd (let z : _≡_ {A = ℕ} 0 1 = cc in omega arith)
-  walk-in k n (cons l c s) nil q = absurd (let z : _≡_ {A = ℕ} 0 1 = cc in omega arith)
+  walk-in k n nil (cons l c s) q = never (cc)
+  walk-in k n (cons l c s) nil q = never (cc)
   walk-in k n (cons l c s) (cons l′ c′ s′) q =
       join-in (Satisfied h) (meet k n l c (l′, c′) (walk (inner l k) (suc n) c c′)) (walk k (suc n + size c′) s s′)
       (meet-in k n l c (l′, c′) (walk (inner l k) (suc n) c c′) (walk-in (inner l k) (suc n) c c′) (pair-eq (cc) (cc)))

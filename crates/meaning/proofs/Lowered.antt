@@ -20,7 +20,7 @@ use Rattle.meaning.specs.Shift.{withVariable, raise, shiftTerm, sink, lo
 use Rattle.meaning.specs.Equal.{Seen, seenFree, inside, outside, see, View, view}
 use Rattle.meaning.specs.Choice.{Mark, Marks, Owner, nodeOfFace, aboveFace, ownerOf, below, viewsFrom, views, ofFace, usesLabel, usesFace, Choice, isPlace}
 use Rattle.meaning.proofs.ShiftLaws.{ltb-yes, ltb-no, inner-with, pair-eq, shift-lower-term, lowered}
-use Rattle.meaning.proofs.Lists.{by-test, eqb-self}
+use Rattle.meaning.proofs.Lists.{never, by-test, eqb-self}
 use Rattle.meaning.proofs.ChoiceLaws.{at-other, length-views, isPlace-eq}
 
 -- Relabelling twice, and with nothing changed
@@ -224,7 +224,7 @@ lowers-nodes bs n (cons l c s) =
     rw (← length-below n l bs, lowers-nodes (below n l bs) (suc n) c, lowers-nodes bs (suc n + size c) s, map-append nodeLowered (nodesFrom (below n l bs) (suc n) c) (nodesFrom bs (suc n + size c) s))
 
 at-map : {A B : Type 0} (f : A → B) (xs : List A) (k : ℕ) (x : A) → getElem? xs k ≡ some x → getElem? (map f xs) k ≡ some (f x)
-at-map f [] k x e = absurd (let z : _≡_ {A = ℕ} 0 1 = cc in omega arith)
+at-map f [] k x e = never (cc)
 at-map f (y ∷ xs) zero x e = let p : y ≡ x = cc in rw p
 at-map f (y ∷ xs) (suc k) x e = at-map f xs k x e
 

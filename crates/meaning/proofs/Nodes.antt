@@ -25,7 +25,7 @@ use Rattle.meaning.specs.Choice.{Marks, punch}
 use Rattle.meaning.specs.Row.{Row, punchTerm, rowBody}
 use Rattle.meaning.specs.Face.{Face, agrees, walk, faces}
 use Rattle.meaning.specs.Value.{Source, sourceAt, sourceOf, lowestHole, fromHole, fromApplication, sourcesIn, sources}
-use Rattle.meaning.proofs.Lists.{choose-true, choose-false, true-T, each-mem}
+use Rattle.meaning.proofs.Lists.{never, choose-true, choose-false, true-T, each-mem}
 use Rattle.meaning.proofs.ShiftLaws.{pair-eq, ltb-yes, ltb-no, relabel-size, shift-closed, shift-lower-term}
 use Rattle.meaning.proofs.Sources.{source-at, lowest-is}
 use Rattle.meaning.proofs.Renaming.{cons-eq, one-injective}
@@ -50,7 +50,7 @@ stands-node {L} (beside {l} {c} {s} {t} {n} h e) =
     ∙ ap (λ (k : ℕ). nodeAt k s) d ∙ stands-node h
 
 pub node-stands : {L : Type 0} (n : ℕ) (u : Forest L) (t : Tree L) → nodeAt n u ≡ some t → Stands n u t
-node-stands n nil t e = absurd (let z : _≡_ {A = ℕ} 0 1 = cc in omega arith)
+node-stands n nil t e = never (cc)
 node-stands zero (cons l c s) t e = let p : (l, c) ≡ t = cc in subst (λ x. Stands 0 (cons l c s) x) p here
 node-stands (suc n) (cons l c s) t e =
     elim (decLt n (size c)) [
@@ -108,9 +108,9 @@ walked-own k n o c s t s′ xs q = go (agrees o (t .0)) (walk (inner (own o) k) 
     go : (b : Bool) (x y : Option (List Face)) → agrees o (t .0) ≡ b → walk (inner (own o) k) (suc n) c (t .1) ≡ x → walk k (suc n + size (t .1)) s s′ ≡ y
         → join (guard b x) y ≡ some xs → WalkedOwn k n o c s t s′ xs
     go true (some x) (some y) d e f r = record { agree = true-T d; inside = x; later = y; areInside = e; areLater = f; whole = cc }
-    go true (some x) none d e f r = absurd (let z : _≡_ {A = ℕ} 0 1 = cc in omega arith)
-    go true none y d e f r = absurd (let z : _≡_ {A = ℕ} 0 1 = cc in omega arith)
-    go false x y d e f r = absurd (let z : _≡_ {A = ℕ} 0 1 = cc in omega arith)
+    go true (some x) none d e f r = never (cc)
+    go true none y d e f r = never (cc)
+    go false x y d e f r = never (cc)
 
 pub record WalkedSlot (k n : ℕ) (z : Slot) (c s : Terms) (t : Term) (s′ : Terms) (xs : List Face) : Type 0 where
   pub later : List Face
@@ -124,7 +124,7 @@ walked-slot k n z c s t s′ xs q = go (walk k (suc n + size (t .1)) s s′) ref
     go : (y : Option (List Face)) → walk k (suc n + size (t .1)) s s′ ≡ y
         → join (some (record { under = k; what = z; children = c; node = n; term = t } ∷ [])) y ≡ some xs → WalkedSlot k n z c s t s′ xs
     go (some y) f r = record { later = y; areLater = f; whole = cc }
-    go none f r = absurd (let w : _≡_ {A = ℕ} 0 1 = cc in omega arith)
+    go none f r = never (cc)
 
 within-later : (n : ℕ) (t : Term) (s : Terms) (x : Face) → Within (suc n + size (t .1)) s x → Within n (graft t s) x
 within-later n t s x r =
@@ -133,8 +133,8 @@ within-later n t s x r =
 
 face-within : (k n : ℕ) (p e : Terms) (xs : List Face) → walk k n p e ≡ some xs → (x : Face) → x ∈ xs → Within n e x
 face-within k n nil nil xs q x m = let d : [] ≡ xs = cc in absurd (List·Memᴰ·not-nil (subst (λ ys. x ∈ ys) (sym d) m))
-face-within k n nil (cons l c s) xs q x m = absurd (let z : _≡_ {A = ℕ} 0 1 = cc in omega arith)
-face-within k n (cons l c s) nil xs q x m = absurd (let z : _≡_ {A = ℕ} 0 1 = cc in omega arith)
+face-within k n nil (cons l c s) xs q x m = never (cc)
+face-within k n (cons l c s) nil xs q x m = never (cc)
 face-within k n (cons (own o) c s) (cons l′ c′ s′) xs q x m =
     let w = walked-own k n o c s (l′, c′) s′ xs q in
     ⊎-elim

@@ -6,7 +6,6 @@ use mathlib.Core.Logic.{⊎-elim}
 use Prim.Native.Nat.{ℕ, zero, suc, _<_}
 use mathlib.Core.Bool.{Bool, true, false, _&&_, _||_, not, true≢false, false≢true}
 use mathlib.Core.List.{List, [], _∷_, _++_, map, List·Memᴰ·append-cases, List·Memᴰ·cases-cons, List·Memᴰ·not-nil}
-use native.Mathlib.Omega.{arith}
 use lib.ListN.{length}
 use lib.Dec.{T, ltb}
 use Rattle.meaning.specs.Limits.{metavariableCount, maxFunctions, placeCount, maxDepth}
@@ -17,7 +16,7 @@ use Rattle.meaning.specs.Problem.{Constraint, Problem, forestOf, pattern
 use Rattle.meaning.specs.Read.{Answer, refused, got, Context, inPattern, inArgument, inExpression, contextBelow}
 use Rattle.meaning.specs.Accept.{bothWays, overlarge, checkProblem}
 use Rattle.meaning.specs.Readable.{Readable, ReadableConstraint, Accepted}
-use Rattle.meaning.proofs.Lists.{or-left, or-right, by-test, choose-true, mem-keep, keep-mem, isIn-mem, mem-isIn, mem-upTo, all-mem, every-all}
+use Rattle.meaning.proofs.Lists.{never, or-left, or-right, by-test, choose-true, mem-keep, keep-mem, isIn-mem, mem-isIn, mem-upTo, all-mem, every-all}
 
 -- In an argument there are only metavariables besides the expression's own nodes
 abbrev pub argumentLabel : Nameless → Terms → Type 0
@@ -155,7 +154,7 @@ pub not-both-ways : (p : Problem) → checkProblem p ≡ got p → bothWays p �
 unfolding checkProblem
 not-both-ways p e =
     by-test (bothWays p)
-    (λ h. absurd (let z : _≡_ {A = ℕ} 0 1 = cc (choose-true {A = Answer Problem} (refused 12) (choose (ltb maxFunctions (length (functions p))) (refused 13) (choose (overlarge p) (refused 14) (got p))) h) in omega arith))
+    (λ h. never (cc (choose-true {A = Answer Problem} (refused 12) (choose (ltb maxFunctions (length (functions p))) (refused 13) (choose (overlarge p) (refused 14) (got p))) h)))
     (λ h. h)
 
 separated : (p : Problem) → bothWays p ≡ false → (m : ℕ) → m < metavariableCount → m ∈ applied (patterns p) → m ∈ plain (patterns p) → ⊥

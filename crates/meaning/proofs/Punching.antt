@@ -14,6 +14,7 @@ use Rattle.meaning.specs.Shift.{shift, shiftTerm}
 use Rattle.meaning.specs.Filling.{fill, plugHandler, IsBody}
 use Rattle.meaning.specs.Choice.{Mark, Marks, mark, rest, punch}
 use Rattle.meaning.proofs.ShiftLaws.{shift-size}
+use Rattle.meaning.proofs.Lists.{never}
 
 abbrev pub plugAll : (ℕ → Term) → ℕ → Terms → Terms
 plugAll a k u = fill (plugHandler a) k u
@@ -158,8 +159,8 @@ same-front (none ∷ p) (none ∷ q) (cons (own o) c s) h x y f g e =
     ap (λ (z : Marks). none ∷ z) (split-eq (size c) (size s) p q
     (same-front p q c (h .1) (omega arith) (omega arith) (f .0) (g .0) (cc))
     (same-front (drop (size c) p) (drop (size c) q) s (h .2) (rw length-drop (omega arith)) (rw length-drop (omega arith)) (f .1) (g .1) (cc)))
-same-front (none ∷ p) (some j ∷ q) (cons (own o) c s) h x y f g e = absurd (let z : _≡_ {A = ℕ} 0 1 = cc in omega arith)
-same-front (some i ∷ p) (none ∷ q) (cons (own o) c s) h x y f g e = absurd (let z : _≡_ {A = ℕ} 0 1 = cc in omega arith)
+same-front (none ∷ p) (some j ∷ q) (cons (own o) c s) h x y f g e = never (cc)
+same-front (some i ∷ p) (none ∷ q) (cons (own o) c s) h x y f g e = never (cc)
 same-front (some i ∷ p) (some j ∷ q) (cons (own o) c s) h x y f g e =
     let ij : i ≡ j = cc in
     rw ij (ap (λ (z : Marks). some j ∷ z) (split-eq (size c) (size s) p q

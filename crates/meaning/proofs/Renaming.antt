@@ -17,7 +17,7 @@ use Rattle.meaning.specs.Scope.{resolve, enter, namelessLabel, nameless,
 use Rattle.meaning.specs.Shift.{withVariable}
 use Rattle.meaning.specs.Equal.{Equal, EqualWhole, sameVariable}
 use Rattle.meaning.specs.Rename.{occursLabel, occurs, binds, newName, rename, Alpha, step, node, same, back, chain}
-use Rattle.meaning.proofs.Lists.{eqb-self, eqb-eq, eqb-other, by-test, choose-true, choose-false}
+use Rattle.meaning.proofs.Lists.{never, eqb-self, eqb-eq, eqb-other, by-test, choose-true, choose-false}
 
 -- General laws of tests and trees
 or-false : (a b : Bool) → (a || b) ≡ false → (a ≡ false) × (b ≡ false)
@@ -254,8 +254,8 @@ same-below z l l′ c c′ sc o o′ r e =
 nameless-alpha-within : (n : ℕ) (u v : Forest Named) (sc : List ℕ) → size u < n → nameless sc u ≡ nameless sc v → Alpha u v
 nameless-alpha-within zero u v sc h e = absurd (omega arith)
 nameless-alpha-within (suc n) nil nil sc h e = same
-nameless-alpha-within (suc n) nil (cons l′ c′ s′) sc h e = absurd (let z : _≡_ {A = ℕ} 0 1 = cc in omega arith)
-nameless-alpha-within (suc n) (cons l c s) nil sc h e = absurd (let z : _≡_ {A = ℕ} 0 1 = cc in omega arith)
+nameless-alpha-within (suc n) nil (cons l′ c′ s′) sc h e = never (cc)
+nameless-alpha-within (suc n) (cons l c s) nil sc h e = never (cc)
 nameless-alpha-within (suc n) (cons l c s) (cons l′ c′ s′) sc h e =
     let z = above c + above c′ in
     let o = fresh z c (omega arith) in

@@ -7,7 +7,6 @@ use Prim.Native.Nat.{ℕ, zero, suc, _<_}
 use mathlib.Core.Bool.{Bool, true, false, false≢true}
 use mathlib.Core.List.{List, [], _∷_, List·Memᴰ·head, List·Memᴰ·tail, List·Memᴰ·append-cases, List·Memᴰ·cases-cons, List·Memᴰ·not-nil}
 use mathlib.Core.Option.{Option, none, some}
-use native.Mathlib.Omega.{arith}
 use lib.Dec.{eqb}
 use Rattle.meaning.specs.Limits.{metavariableCount, placeCount}
 use Rattle.meaning.specs.Basics.{choose, upTo, orNone, isSome, _∈_, Distinct}
@@ -18,7 +17,7 @@ use Rattle.meaning.specs.Solution.{Solution}
 use Rattle.meaning.specs.Face.{Face, faces, isApplication, firstFace, Satisfied}
 use Rattle.meaning.specs.Choice.{Mark, Marks, mark, rest, punch, punchNode, Choice}
 use Rattle.meaning.specs.Row.{Row, faceTerm, faceOf, rows, ChoiceEach, IsRow, choiceIn, punchTop, punchTerm, rowBody, HasBodies}
-use Rattle.meaning.proofs.Lists.{by-test, choose-true, choose-false, eqb-eq, eqb-self}
+use Rattle.meaning.proofs.Lists.{never, by-test, choose-true, choose-false, eqb-eq, eqb-self}
 use Rattle.meaning.proofs.Lists.{at-mem, keep-distinct, distinct-countFrom}
 use Rattle.meaning.proofs.Renaming.{one-injective}
 use Rattle.meaning.proofs.ChoiceLaws.{rows-are}
@@ -49,7 +48,7 @@ first-there f (z ∷ zs) x m e = go (isApplication f (z .what)) refl (λ q. firs
 holes-places : (n : ℕ) (a : ℕ → Term) (b : Terms) → IsBody n b → (i : ℕ) → some i ∈ holesOf a b → i < n
 holes-places n a nil h i q = absurd (List·Memᴰ·not-nil q)
 holes-places n a (cons (own o) c s) h i q =
-    ⊎-elim (λ (e : some i ≡ none). absurd (let z : _≡_ {A = ℕ} 0 1 = cc in omega arith))
+    ⊎-elim (λ (e : some i ≡ none). never (cc))
     (λ r. ⊎-elim (holes-places n a c (h .1) i) (holes-places n a s (h .2) i) (List·Memᴰ·append-cases (holesOf a c) r)) (List·Memᴰ·cases-cons q)
 holes-places n a (cons (slot (metavariable m)) c s) h i q = absurd (h .0)
 holes-places n a (cons (slot (function m)) c s) h i q = absurd (h .0)
@@ -59,7 +58,7 @@ holes-places n a (cons (slot (hole j)) c s) h i q =
   where
     none-blank : (k i : ℕ) → some i ∈ blank k → ⊥
     none-blank zero i z = List·Memᴰ·not-nil z
-    none-blank (suc k) i z = ⊎-elim (λ (e : some i ≡ none). let y : _≡_ {A = ℕ} 0 1 = cc in omega arith) (none-blank k i) (List·Memᴰ·cases-cons z)
+    none-blank (suc k) i z = ⊎-elim (λ (e : some i ≡ none). never (cc)) (none-blank k i) (List·Memᴰ·cases-cons z)
 
 -- A tree with holes
 pub punch-one : {X B : Type 0} (ms : Marks) (t : Tree (Label X B)) → one (punchTerm ms t) ≡ punch ms (one t)

@@ -9,7 +9,7 @@ use lib.Dec.{ltb, T, ltb→lt, lt→ltb}
 use Rattle.meaning.specs.Basics.{andThen}
 use Rattle.meaning.specs.Term.{Forest, nil, cons, Tree, one, size, relabel, symbol, variable, application, binder, Label, own, slot, Variable, free, bound, Nameless, Terms, Term, inner, ownLabel, IsExpression}
 use Rattle.meaning.specs.Shift.{withVariable, raise, shiftLabel, shift, shiftTerm, sink, lowerLabel, lower, lowerTerm, closedVariable, closedLabel, Closed, ClosedTerm, isClosedVariable, isClosedLabel, isClosed}
-use Rattle.meaning.proofs.Lists.{T-true, not-T, and-T, T-and}
+use Rattle.meaning.proofs.Lists.{never, T-true, not-T, and-T, T-and}
 
 pub ltb-yes : (m n : ℕ) → m < n → ltb m n ≡ true
 ltb-yes m n h = T-true (lt→ltb m n h)
@@ -49,7 +49,7 @@ raise-sink n k (bound i) w e = go (decLt i k) (decLt i (k + n))
   where
     go : Dec (i < k) → Dec (i < k + n) → raise n k w ≡ bound i
     go (yes h) d = let p : bound i ≡ w = cc (sink-low n k i h) in rw (← p) (raise-low n k i h)
-    go (no h) (yes g) = absurd (let z : _≡_ {A = ℕ} 0 1 = cc (sink-between n k i (omega arith) g) in omega arith)
+    go (no h) (yes g) = never (cc (sink-between n k i (omega arith) g))
     go (no h) (no g) =
         let p : bound (i - n) ≡ w = cc (sink-high n k i (omega arith)) in
         let q : (i - n) + n ≡ i = omega arith in
@@ -75,7 +75,7 @@ shift-lower-label n k (own (symbol i)) m e = let p : m ≡ own (symbol i) = cc i
 shift-lower-label n k (own (variable v)) m e = go (sink n k v) refl
   where
     go : (o : Option Variable) → sink n k v ≡ o → shiftLabel n k m ≡ own (variable v)
-    go none q = absurd (let z : _≡_ {A = ℕ} 0 1 = cc in omega arith)
+    go none q = never (cc)
     go (some w) q = let p : m ≡ own (variable w) = cc in rw (p, raise-sink n k v w q)
 shift-lower-label n k (own (application i)) m e = let p : m ≡ own (application i) = cc in rw p
 shift-lower-label n k (own (binder b x)) m e = let p : m ≡ own (binder b x) = cc in rw p
@@ -95,9 +95,9 @@ pub lowered : (n k : ℕ) (l : Nameless) (c s v : Terms) → lower n k (cons l c
 lowered n k l c s v e = go (lowerLabel n k l) (lower n (inner l k) c) (lower n k s) refl refl refl
   where
     go : (o : Option Nameless) (p q : Option Terms) → lowerLabel n k l ≡ o → lower n (inner l k) c ≡ p → lower n k s ≡ q → Lowered n k l c s v
-    go none p q a b d = absurd (let z : _≡_ {A = ℕ} 0 1 = cc in omega arith)
-    go (some l′) none q a b d = absurd (let z : _≡_ {A = ℕ} 0 1 = cc in omega arith)
-    go (some l′) (some c′) none a b d = absurd (let z : _≡_ {A = ℕ} 0 1 = cc in omega arith)
+    go none p q a b d = never (cc)
+    go (some l′) none q a b d = never (cc)
+    go (some l′) (some c′) none a b d = never (cc)
     go (some l′) (some c′) (some s′) a b d =
         record { label = l′; children = c′; siblings = s′; isLabel = a; areChildren = b; areSiblings = d; whole = cc }
 
@@ -128,8 +128,8 @@ lowered-term n t a e = go (lowerLabel n 0 (t .0)) (lower n (inner (t .0) 0) (t .
   where
     go : (o : Option Nameless) (q : Option Terms) → lowerLabel n 0 (t .0) ≡ o → lower n (inner (t .0) 0) (t .1) ≡ q
         → (lowerLabel n 0 (t .0) ≡ some (a .0)) × (lower n (inner (t .0) 0) (t .1) ≡ some (a .1))
-    go none q x y = absurd (let z : _≡_ {A = ℕ} 0 1 = cc in omega arith)
-    go (some l) none x y = absurd (let z : _≡_ {A = ℕ} 0 1 = cc in omega arith)
+    go none q x y = never (cc)
+    go (some l) none x y = never (cc)
     go (some l) (some c) x y =
         let p : _≡_ {A = Term} (l, c) a = cc in
         (x ∙ ap (λ (u : Term). some (u .0)) p, y ∙ ap (λ (u : Term). some (u .1)) p)

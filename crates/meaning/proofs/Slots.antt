@@ -15,7 +15,7 @@ use Rattle.meaning.specs.Problem.{plain, applied, alone, argumentOf, Sta
 use Rattle.meaning.specs.Filling.{argument, IsBody}
 use Rattle.meaning.specs.Solution.{hasHole}
 use Rattle.meaning.specs.Face.{Face, agrees, meet, walk}
-use Rattle.meaning.proofs.Lists.{eqb-eq, eqb-self, or-cases, or-left, or-right, each-append, mem-map, map-mem, mem-each, each-mem}
+use Rattle.meaning.proofs.Lists.{never, eqb-eq, eqb-self, or-cases, or-left, or-right, each-append, mem-map, map-mem, mem-each, each-mem}
 use Rattle.meaning.proofs.Proper.{IsArgument, IsPattern}
 
 abbrev pub slotsNode : Nameless → Terms → List (Slot × Terms) → List (Slot × Terms)
@@ -57,6 +57,10 @@ walk-keys k n (cons l c s) (cons l′ c′ s′) =
     join-keys (slotsNode l c (slots c)) (slots s) (meet k n l c (l′, c′) (walk (inner l k) (suc n) c c′)) (walk k (suc n + size c′) s s′)
     (meet-keys k n l c (l′, c′) (walk (inner l k) (suc n) c c′) (slots c) (walk-keys (inner l k) (suc n) c c′))
     (walk-keys k (suc n + size c′) s s′)
+
+-- The first slot of a list, or one of the others
+slot-cases : {z y : Slot} {d c : Terms} {xs : List (Slot × Terms)} → (z, d) ∈ ((y, c) ∷ xs) → (z ≡ y) ⊎ ((z, d) ∈ xs)
+slot-cases q = ⊎-elim (λ e. inl (ap (λ (x : Slot × Terms). x .0) e)) inr (List·Memᴰ·cases-cons q)
 
 -- The faces of a walk stand for the pattern's slots, in order
 pub faces-slots : (k n : ℕ) (p e : Terms) (xs : List Face) → walk k n p e ≡ some xs → map key xs ≡ slots p
@@ -179,14 +183,14 @@ slot-plain nil m d q = absurd (List·Memᴰ·not-nil q)
 slot-plain (cons (own o) c s) m d q =
     ⊎-elim (λ x. Memᴰ·append-left (plain s) (slot-plain c m d x)) (λ x. Memᴰ·append-right (plain c) (slot-plain s m d x)) (List·Memᴰ·append-cases (slots c) q)
 slot-plain (cons (slot (metavariable k)) c s) m d q =
-    ⊎-elim (λ (e : _≡_ {A = Slot × Terms} (metavariable m, d) (metavariable k, c)). let z : metavariable m ≡ metavariable k = ap (λ (y : Slot × Terms). y .0) e in let w : m ≡ k = cc in List·Memᴰ·head w)
-    (λ x. List·Memᴰ·tail (slot-plain s m d x)) (List·Memᴰ·cases-cons q)
+    ⊎-elim (λ (e : metavariable m ≡ metavariable k). let w : m ≡ k = cc in List·Memᴰ·head w)
+    (λ x. List·Memᴰ·tail (slot-plain s m d x)) (slot-cases q)
 slot-plain (cons (slot (function f)) c s) m d q =
-    ⊎-elim (λ (e : _≡_ {A = Slot × Terms} (metavariable m, d) (function f, c)). absurd (let z : metavariable m ≡ function f = ap (λ (y : Slot × Terms). y .0) e in let w : _≡_ {A = ℕ} 0 1 = cc in omega arith))
-    (λ x. Memᴰ·append-right (plain c) (slot-plain s m d x)) (List·Memᴰ·cases-cons q)
+    ⊎-elim (λ (e : metavariable m ≡ function f). never (cc))
+    (λ x. Memᴰ·append-right (plain c) (slot-plain s m d x)) (slot-cases q)
 slot-plain (cons (slot (hole i)) c s) m d q =
-    ⊎-elim (λ (e : _≡_ {A = Slot × Terms} (metavariable m, d) (hole i, c)). absurd (let z : metavariable m ≡ hole i = ap (λ (y : Slot × Terms). y .0) e in let w : _≡_ {A = ℕ} 0 1 = cc in omega arith))
-    (λ x. slot-plain s m d x) (List·Memᴰ·cases-cons q)
+    ⊎-elim (λ (e : metavariable m ≡ hole i). never (cc))
+    (λ x. slot-plain s m d x) (slot-cases q)
 
 -- Functions of a pattern
 argument-unapplied : (u : Terms) → IsArgument u → (f : ℕ) → f ∈ applied u → ⊥
@@ -219,21 +223,21 @@ slot-applied nil f d q = absurd (List·Memᴰ·not-nil q)
 slot-applied (cons (own o) c s) f d q =
     ⊎-elim (λ x. Memᴰ·append-left (applied s) (slot-applied c f d x)) (λ x. Memᴰ·append-right (applied c) (slot-applied s f d x)) (List·Memᴰ·append-cases (slots c) q)
 slot-applied (cons (slot (metavariable m)) c s) f d q =
-    ⊎-elim (λ (e : _≡_ {A = Slot × Terms} (function f, d) (metavariable m, c)). absurd (let z : function f ≡ metavariable m = ap (λ (y : Slot × Terms). y .0) e in let w : _≡_ {A = ℕ} 0 1 = cc in omega arith))
-    (λ x. slot-applied s f d x) (List·Memᴰ·cases-cons q)
+    ⊎-elim (λ (e : function f ≡ metavariable m). never (cc))
+    (λ x. slot-applied s f d x) (slot-cases q)
 slot-applied (cons (slot (function g)) c s) f d q =
-    ⊎-elim (λ (e : _≡_ {A = Slot × Terms} (function f, d) (function g, c)). let z : function f ≡ function g = ap (λ (y : Slot × Terms). y .0) e in let w : f ≡ g = cc in List·Memᴰ·head w)
-    (λ x. List·Memᴰ·tail (Memᴰ·append-right (applied c) (slot-applied s f d x))) (List·Memᴰ·cases-cons q)
+    ⊎-elim (λ (e : function f ≡ function g). let w : f ≡ g = cc in List·Memᴰ·head w)
+    (λ x. List·Memᴰ·tail (Memᴰ·append-right (applied c) (slot-applied s f d x))) (slot-cases q)
 slot-applied (cons (slot (hole i)) c s) f d q =
-    ⊎-elim (λ (e : _≡_ {A = Slot × Terms} (function f, d) (hole i, c)). absurd (let z : function f ≡ hole i = ap (λ (y : Slot × Terms). y .0) e in let w : _≡_ {A = ℕ} 0 1 = cc in omega arith))
-    (λ x. slot-applied s f d x) (List·Memᴰ·cases-cons q)
+    ⊎-elim (λ (e : function f ≡ hole i). never (cc))
+    (λ x. slot-applied s f d x) (slot-cases q)
 
 pub pattern-slot : (u : Terms) → IsPattern u → (f : ℕ) (c : Terms) → (function f, c) ∈ slots u → (trees c ≡ placeCount) × IsArgument c
 pattern-slot nil h f d q = absurd (List·Memᴰ·not-nil q)
 pattern-slot (cons (own o) c s) h f d q = ⊎-elim (pattern-slot c (h .1) f d) (pattern-slot s (h .2) f d) (List·Memᴰ·append-cases (slots c) q)
 pattern-slot (cons (slot (metavariable m)) c s) h f d q =
-    ⊎-elim (λ (e : _≡_ {A = Slot × Terms} (function f, d) (metavariable m, c)). absurd (let z : function f ≡ metavariable m = ap (λ (y : Slot × Terms). y .0) e in let w : _≡_ {A = ℕ} 0 1 = cc in omega arith))
-    (pattern-slot s (h .2) f d) (List·Memᴰ·cases-cons q)
+    ⊎-elim (λ (e : function f ≡ metavariable m). never (cc))
+    (pattern-slot s (h .2) f d) (slot-cases q)
 pattern-slot (cons (slot (function g)) c s) h f d q =
     ⊎-elim (λ (e : _≡_ {A = Slot × Terms} (function f, d) (function g, c)). subst (λ (y : Terms). (trees y ≡ placeCount) × IsArgument y) (sym (ap (λ (y : Slot × Terms). y .1) e)) (h .0))
     (pattern-slot s (h .2) f d) (List·Memᴰ·cases-cons q)
@@ -265,11 +269,11 @@ slot-hole nil i d q = absurd (List·Memᴰ·not-nil q)
 slot-hole (cons (own o) c s) i d q =
     ⊎-elim (λ x. or-left (hasHole i c) (hasHole i s) (slot-hole c i d x)) (λ x. or-right (hasHole i c) (hasHole i s) (slot-hole s i d x)) (List·Memᴰ·append-cases (slots c) q)
 slot-hole (cons (slot (metavariable m)) c s) i d q =
-    ⊎-elim (λ (e : _≡_ {A = Slot × Terms} (hole i, d) (metavariable m, c)). absurd (let z : hole i ≡ metavariable m = ap (λ (y : Slot × Terms). y .0) e in let w : _≡_ {A = ℕ} 0 1 = cc in omega arith))
-    (λ x. or-right (hasHole i c) (hasHole i s) (slot-hole s i d x)) (List·Memᴰ·cases-cons q)
+    ⊎-elim (λ (e : hole i ≡ metavariable m). never (cc))
+    (λ x. or-right (hasHole i c) (hasHole i s) (slot-hole s i d x)) (slot-cases q)
 slot-hole (cons (slot (function f)) c s) i d q =
-    ⊎-elim (λ (e : _≡_ {A = Slot × Terms} (hole i, d) (function f, c)). absurd (let z : hole i ≡ function f = ap (λ (y : Slot × Terms). y .0) e in let w : _≡_ {A = ℕ} 0 1 = cc in omega arith))
-    (λ x. or-right (hasHole i c) (hasHole i s) (slot-hole s i d x)) (List·Memᴰ·cases-cons q)
+    ⊎-elim (λ (e : hole i ≡ function f). never (cc))
+    (λ x. or-right (hasHole i c) (hasHole i s) (slot-hole s i d x)) (slot-cases q)
 slot-hole (cons (slot (hole j)) c s) i d q =
-    ⊎-elim (λ (e : _≡_ {A = Slot × Terms} (hole i, d) (hole j, c)). let z : hole i ≡ hole j = ap (λ (y : Slot × Terms). y .0) e in let w : i ≡ j = cc in or-left (eqb i j) (hasHole i c || hasHole i s) (ap (λ (x : ℕ). eqb i x) (sym w) ∙ eqb-self i))
-    (λ x. or-right (eqb i j) (hasHole i c || hasHole i s) (or-right (hasHole i c) (hasHole i s) (slot-hole s i d x))) (List·Memᴰ·cases-cons q)
+    ⊎-elim (λ (e : hole i ≡ hole j). let w : i ≡ j = cc in or-left (eqb i j) (hasHole i c || hasHole i s) (ap (λ (x : ℕ). eqb i x) (sym w) ∙ eqb-self i))
+    (λ x. or-right (eqb i j) (hasHole i c || hasHole i s) (or-right (hasHole i c) (hasHole i s) (slot-hole s i d x))) (slot-cases q)

@@ -5,7 +5,6 @@ use Prim.Native.Nat.{ℕ, _<_}
 use mathlib.Core.Bool.{true, false, true≢false, false≢true}
 use mathlib.Core.List.{[], _∷_, map, List·Memᴰ·head, List·Memᴰ·tail}
 use mathlib.Core.Option.{none, some}
-use native.Mathlib.Omega.{arith}
 use lib.Dec.{T}
 use lib.ListN.{drop}
 use Rattle.meaning.specs.Limits.{placeCount}
@@ -21,7 +20,7 @@ use Rattle.meaning.specs.Choice.{Marks, punch, Choice}
 use Rattle.meaning.specs.Row.{Row, faceOf, rows, IsRow, choiceIn, rowBody, HasBodies, SolutionRow}
 use Rattle.meaning.specs.Value.{Source, sources, lookup, given, candidate, isClosedEntry, solves, solutionRows, fullList}
 use Rattle.meaning.specs.Readable.{Accepted}
-use Rattle.meaning.proofs.Lists.{T-true, true-T, and-T, T-and, by-test, mem-map, map-mem, mem-keep, keep-mem, isIn-mem, mem-isIn, all-mem, mem-all, every-all, all-every}
+use Rattle.meaning.proofs.Lists.{never, T-true, true-T, and-T, T-and, by-test, mem-map, map-mem, mem-keep, keep-mem, isIn-mem, mem-isIn, all-mem, mem-all, every-all, all-every}
 use Rattle.meaning.proofs.ShiftLaws.{test-closed, closed-test}
 use Rattle.meaning.proofs.Alike.{sameTerms-eq, sameTerms-refl}
 use Rattle.meaning.proofs.ChoiceLaws.{rows-are, rows-once}
@@ -102,7 +101,7 @@ candidate-solution p r c i e = record {
     opened m q (inl n) = fitting-idle p r (candidate p r) fit m n
     opened m q (inr s) =
         let x = fitting-source p r (candidate p r) fit m (s .0) (s .1) in
-        absurd (let v : candidate p r m ≡ value (s .0 .term) = ap (candidate p r) (sym (x .1)) ∙ x .0 .holds in let z : _≡_ {A = ℕ} 0 1 = cc in omega arith)
+        absurd (let v : candidate p r m ≡ value (s .0 .term) = ap (candidate p r) (sym (x .1)) ∙ x .0 .holds in never (cc))
 
     idles : (m : ℕ) → m ∈ plain (patterns p) → Idle p (candidate p r) m → (lookup m (sources p r) ≡ none) ⊎ ((s : Source) × (lookup m (sources p r) ≡ some s)) → candidate p r m ≡ leftOpen
     idles m q idle (inl n) = candidate-plain p r m (unapplied m q) q ∙ ap given n

@@ -16,7 +16,7 @@ use Rattle.meaning.specs.Filling.{Handler, fill, fillTerm, plugHandler, 
 use Rattle.meaning.specs.Solution.{hasHole}
 use Rattle.meaning.specs.Face.{Face, walk, Satisfied}
 use Rattle.meaning.specs.Value.{Source, sourceAt, sourceOf, isHole, lowestHole, fromHole}
-use Rattle.meaning.proofs.Lists.{eqb-eq, eqb-self, mem-each, each-mem, mem-upTo, upTo-mem, all-mem}
+use Rattle.meaning.proofs.Lists.{never, eqb-eq, eqb-self, mem-each, each-mem, mem-upTo, upTo-mem, all-mem}
 use Rattle.meaning.proofs.ShiftLaws.{lower-shift-term, lower-expression}
 use Rattle.meaning.proofs.Lockstep.{walk-in}
 use Rattle.meaning.proofs.Proper.{IsArgument}
@@ -69,7 +69,7 @@ hole-is i (function f) e = absurd (false≢true e)
 hole-is i (hole j) e = ap hole (sym (eqb-eq i j e))
 
 pub lowest-is : (i : ℕ) (xs : List Face) (h : Face) → lowestHole i xs ≡ some h → (h ∈ xs) × (h .what ≡ hole i)
-lowest-is i [] h e = absurd (let z : _≡_ {A = ℕ} 0 1 = cc in omega arith)
+lowest-is i [] h e = never (cc)
 lowest-is i (x ∷ xs) h e = go (isHole i (x .what)) refl (lowest-is i xs h) e
   where
     go : (b : Bool) → isHole i (x .what) ≡ b → (lowestHole i xs ≡ some h → (h ∈ xs) × (h .what ≡ hole i)) → choose b (some x) (lowestHole i xs) ≡ some h

@@ -7,7 +7,6 @@ use Prim.Native.Nat.{ℕ, zero, suc, _<_}
 use mathlib.Core.Bool.{Bool, true, false, _||_, true≢false, false≢true}
 use mathlib.Core.List.{List, [], _∷_, map, List·Memᴰ·head, List·Memᴰ·tail, List·Memᴰ·cases-cons, List·Memᴰ·not-nil}
 use mathlib.Core.Option.{Option, none, some}
-use native.Mathlib.Omega.{arith}
 use lib.ListN.{drop}
 use lib.Dec.{eqb, T}
 use Rattle.meaning.specs.Limits.{metavariableCount, maxDepth, placeCount}
@@ -24,7 +23,7 @@ use Rattle.meaning.specs.Value.{Source, sources, lookup, given, candidat
 use Rattle.meaning.specs.Read.{Context, inExpression, inBody, contextBelow}
 use Rattle.meaning.specs.Readable.{NodeFits, Readable, ReadableConstraint, Accepted}
 use Rattle.meaning.specs.Text.{Item, termOr, termAt, faceNode, writtenBody, writtenValue, entryOf, textOf, meant, said, Says, ReadableEntry, ReadableItem}
-use Rattle.meaning.proofs.Lists.{true-T, keep-distinct, eqb-eq, eqb-self, eqb-other, by-test, choose-true, choose-false, keep-mem, isIn-mem, mem-isIn, not-isIn, upTo-mem, all-mem, mem-all, distinct-countFrom}
+use Rattle.meaning.proofs.Lists.{never, true-T, keep-distinct, eqb-eq, eqb-self, eqb-other, by-test, choose-true, choose-false, keep-mem, isIn-mem, mem-isIn, not-isIn, upTo-mem, all-mem, mem-all, distinct-countFrom}
 use Rattle.meaning.proofs.ShiftLaws.{test-closed}
 use Rattle.meaning.proofs.ChoiceLaws.{rows-are}
 use Rattle.meaning.proofs.Proper.{Proper, accepted-proper, applied-occurs, plain-occurs}
@@ -54,7 +53,7 @@ by-kind p m h asFunction asOther =
 
 -- A function's first face
 first-in : (f : ℕ) (xs : List Face) (y : Face) → firstFace f xs ≡ some y → y ∈ xs
-first-in f [] y e = absurd (let z : _≡_ {A = ℕ} 0 1 = cc in omega arith)
+first-in f [] y e = never (cc)
 first-in f (x ∷ xs) y e = go (isApplication f (x .what)) (first-in f xs y) e
   where
     go : (b : Bool) → (firstFace f xs ≡ some y → y ∈ xs) → choose b (some x) (firstFace f xs) ≡ some y → y ∈ (x ∷ xs)

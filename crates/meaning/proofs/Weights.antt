@@ -20,6 +20,7 @@ use Rattle.meaning.proofs.ShiftLaws.{shift-lower-term}
 use Rattle.meaning.proofs.ByteLaws.{field-length}
 use Rattle.meaning.proofs.Nodes.{WalkedOwn, walked-own, WalkedSlot, walked-slot}
 use Rattle.meaning.proofs.Sums.{total, total-append}
+use Rattle.meaning.proofs.Lists.{never}
 
 -- A field's tag, length and fixed part
 abbrev pub labelWeight : {X B : Type 0} → Label X B → ℕ
@@ -119,8 +120,8 @@ agrees-weight o l t = ap (λ (x : Nameless). labelWeight x) (agrees-eq o l t)
 pub walk-weight : (k n : ℕ) (p e : Terms) (xs : List Face) → walk k n p e ≡ some xs
     → (weight p + total faced xs ≡ weight e + total slotted xs) × (total slotted xs ≤ weight p)
 walk-weight k n nil nil xs q = let d : [] ≡ xs = cc in subst (λ (ys : List Face). (0 + total faced ys ≡ 0 + total slotted ys) × (total slotted ys ≤ 0)) d (refl, omega arith)
-walk-weight k n nil (cons l c s) xs q = absurd (let z : _≡_ {A = ℕ} 0 1 = cc in omega arith)
-walk-weight k n (cons l c s) nil xs q = absurd (let z : _≡_ {A = ℕ} 0 1 = cc in omega arith)
+walk-weight k n nil (cons l c s) xs q = never (cc)
+walk-weight k n (cons l c s) nil xs q = never (cc)
 walk-weight k n (cons (own o) c s) (cons l′ c′ s′) xs q =
     let w : WalkedOwn k n o c s (l′, c′) s′ xs = walked-own k n o c s (l′, c′) s′ xs q in
     let a = agrees-weight o l′ (w .agree) in
