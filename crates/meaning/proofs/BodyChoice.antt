@@ -8,12 +8,12 @@ use mathlib.Core.List.{List, [], _∷_, _++_}
 use mathlib.Core.Option.{none, some}
 use native.Mathlib.Omega.{arith}
 use lib.ListN.{length, take, drop, getElem?, length-drop, replicate-append-replicate}
-use lib.Seq.{take-add}
+use lib.Seq.{take-add, take-length}
 use Rattle.meaning.specs.Limits.{placeCount}
-use Rattle.meaning.specs.Term.{nil, cons, one, size, own, slot, symbol, variable, application, binder, Nameless, Terms, Term, inner}
+use Rattle.meaning.specs.Term.{nil, cons, one, size, own, slot, symbol, variable, application, binder, Nameless, Terms, Term, inner, IsExpression}
 use Rattle.meaning.specs.Shift.{withVariable, shiftTerm}
 use Rattle.meaning.specs.Equal.{View, see, view}
-use Rattle.meaning.specs.Choice.{Mark, Marks, Owner, ownerOf, below, viewsFrom, views, usesFace, Choice}
+use Rattle.meaning.specs.Choice.{Mark, Marks, Owner, ownerOf, below, viewsFrom, views, usesFace, Choice, punch, setSize, holesIn}
 use Rattle.meaning.proofs.ShiftLaws.{relabel-size}
 use Rattle.meaning.proofs.ChoiceLaws.{length-views, at-other}
 use Rattle.meaning.proofs.Lowered.{view-shift, view-shift-unbound}
@@ -203,3 +203,37 @@ choice-clear face ms c = go (some-marked ms)
         let same : getElem? (views face) k ≡ getElem? (views face) (x .0) = c .equal k (x .0) (x .1) (e ∙ ap (λ (y : ℕ). some (some y)) ij) (x .2) in
         let uv : u ≡ v .0 = cc (v .1) in
         ap (λ (y : View Owner). size y) uv)
+
+-- The size of a set
+size-append : (ms ns : Marks) → setSize (ms ++ ns) ≡ setSize ms + setSize ns
+size-append [] ns = omega arith
+size-append (none ∷ ms) ns = size-append ms ns
+size-append (some i ∷ ms) ns = let h = size-append ms ns in omega arith
+
+size-blank : (n : ℕ) → setSize (blank n) ≡ 0
+size-blank zero = refl
+size-blank (suc n) = size-blank n
+
+size-front : (n m : ℕ) (ms : Marks) → setSize (take (n + m) ms) ≡ setSize (take n ms) + setSize (take m (drop n ms))
+size-front n m ms = ap setSize (take-add n m ms) ∙ size-append (take n ms) (take m (drop n ms))
+
+holes-counted : (ms : Marks) (u : Terms) → IsExpression u → size u ≤ length ms → Clear ms u → holesIn (punch ms u) ≡ setSize (take (size u) ms)
+holes-counted ms nil x h g = refl
+holes-counted ms (cons (slot z) c s) x h g = absurd (x .0)
+holes-counted [] (cons (own o) c s) x h g = absurd (omega arith)
+holes-counted (none ∷ ms) (cons (own o) c s) x h g =
+    let a = holes-counted ms c (x .1) (omega arith) (g .0) in
+    let b = holes-counted (drop (size c) ms) s (x .2) (rw length-drop (omega arith)) (g .1) in
+    let f = size-front (size c) (size s) ms in
+    omega arith
+holes-counted (some i ∷ ms) (cons (own o) c s) x h g =
+    let b = holes-counted (drop (size c) ms) s (x .2) (rw length-drop (omega arith)) (g .1) in
+    let f = size-front (size c) (size s) ms in
+    let e : setSize (take (size c) ms) ≡ 0 = ap setSize (g .0) ∙ size-blank (size c) in
+    omega arith
+
+-- "a body's number of holes is the size of its set"
+pub holes-are-set : (face : Term) (ms : Marks) → IsExpression (one face) → Choice placeCount face ms → holesIn (punch ms (one face)) ≡ setSize ms
+holes-are-set face ms x c =
+    let l : length ms ≡ size (one face) = c .long in
+    holes-counted ms (one face) x (omega arith) (choice-clear face ms c) ∙ ap setSize (ap (λ (n : ℕ). take n ms) (sym l) ∙ take-length ms)

@@ -10,7 +10,7 @@ use mathlib.Core.Option.{Option, none, some}
 use lib.ListN.{length, drop, getElem?}
 use lib.Dec.{eqb}
 use Rattle.meaning.specs.Basics.{choose, keep, each, upTo, every, _∈_}
-use Rattle.meaning.specs.Term.{Forest, nil, cons, one, size, symbol, variable, application, binder, Label, own, slot, hole, Nameless, Terms, Term}
+use Rattle.meaning.specs.Term.{Forest, nil, cons, one, size, symbol, variable, application, binder, Label, own, slot, hole, Nameless, Terms, Term, metavariable, function}
 use Rattle.meaning.specs.Equal.{Seen, seenFree, inside, outside, View, view, sameView}
 
 abbrev pub Mark : Type 0
@@ -36,11 +36,18 @@ abbrev pub punch : {X B : Type 0} → Marks → Forest (Label X B) → Forest (L
 punch ms nil = nil
 punch ms (cons l c s) = punchNode (mark ms) l (punch (rest ms) c) (punch (drop (size c) (rest ms)) s)
 
--- The holes of a set: "a body's number of holes is the size of its set"
-abbrev pub holeCount : Marks → ℕ
-holeCount [] = 0
-holeCount (none ∷ ms) = holeCount ms
-holeCount (some i ∷ ms) = suc (holeCount ms)
+-- "a body's number of holes is the size of its set": the size of a set, and the holes of a body
+abbrev pub setSize : Marks → ℕ
+setSize [] = 0
+setSize (none ∷ ms) = setSize ms
+setSize (some i ∷ ms) = suc (setSize ms)
+
+abbrev pub holesIn : {X B : Type 0} → Forest (Label X B) → ℕ
+holesIn nil = 0
+holesIn (cons (own o) c s) = holesIn c + holesIn s
+holesIn (cons (slot (metavariable m)) c s) = holesIn c + holesIn s
+holesIn (cons (slot (function f)) c s) = holesIn c + holesIn s
+holesIn (cons (slot (hole i)) c s) = suc (holesIn c + holesIn s)
 
 -- Which binder an index that reaches out of a node belongs to; above the node stand these binders of the face, the innermost first
 pub data Owner : Type 0 where
