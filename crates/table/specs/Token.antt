@@ -49,7 +49,7 @@ unfoldable pub tokens : List ℕ → Forest Named → List ℕ
 tokens sc nil = []
 tokens sc (cons l c s) = tokenOf (tagOf l) (length sc) (suc (size c)) (payloadOf sc l) ∷ (tokens (enter l sc) c ++ tokens sc s)
 
--- The two tables of a problem
+-- The two tables of a problem: of all its patterns, and of all its expressions
 unfoldable pub patternTokens : Problem → List ℕ
 patternTokens p = tokens [] (namedPatterns p)
 

@@ -1,27 +1,44 @@
-// What a token says: its tag, its binder depth, its subterm's size and its payload.
+// One token for each node: its parts, and how it is put together.
 ghost use mathlib.Core.Path.{_≡_};
-ghost use Rattle.table.specs.Token.{tagIn, depthIn, sizeIn, payloadIn};
+ghost use Prim.Native.Nat.{_+_, _*_, _<_};
+ghost use Rattle.table.specs.Token.{tokenOf, tagIn, depthIn, sizeIn, payloadIn};
 
-pub fn tag(x: u64) -> u64
-    ensures { λ r. ⌜ r ≡ tagIn x ⌝ }
+pub fn tag(token: u64) -> u64
+    ensures { λ r. ⌜ r ≡ tagIn token ⌝ }
 {
-    x % 256
+    token % 256
 }
 
-pub fn depth(x: u64) -> u64
-    ensures { λ r. ⌜ r ≡ depthIn x ⌝ }
+// The number of binders above the node.
+pub fn depth(token: u64) -> u64
+    ensures { λ r. ⌜ r ≡ depthIn token ⌝ }
 {
-    x / 256 % 256
+    token / 256 % 256
 }
 
-pub fn size(x: u64) -> u64
-    ensures { λ r. ⌜ r ≡ sizeIn x ⌝ }
+// The number of nodes of the subterm.
+pub fn size(token: u64) -> u64
+    ensures { λ r. ⌜ r ≡ sizeIn token ⌝ }
 {
-    x / 65536 % 65536
+    token / 65536 % 65536
 }
 
-pub fn payload(x: u64) -> u64
-    ensures { λ r. ⌜ r ≡ payloadIn x ⌝ }
+pub fn payload(token: u64) -> u64
+    ensures { λ r. ⌜ r ≡ payloadIn token ⌝ }
 {
-    x / 4294967296
+    token / 4294967296
+}
+
+pub fn token(tag: u64, depth: usize, size: usize, payload: u64) -> u64
+    requires { ⌜ (tag < 256) × (depth < 256) × (size < 65536) × (payload < 4294967296) ⌝ }
+    ensures { λ r. ⌜ r ≡ tokenOf tag depth size payload ⌝ }
+{
+    tag + 256 * (depth as u64) + 65536 * (size as u64) + 4294967296 * payload
+}
+
+// Two numbers in one payload.
+pub fn pair(low: u16, high: u16) -> u64
+    ensures { λ r. ⌜ (r ≡ low + 65536 * high) × (r < 4294967296) ⌝ }
+{
+    (low as u64) + 65536 * (high as u64)
 }
