@@ -10,3 +10,5 @@ pub mod Levels
 pub mod FaceTable
 pub mod FaceNodes
 pub mod Entries
+pub mod Filling
+pub mod ProblemTables

@@ -8,7 +8,8 @@ use mathlib.Core.Bool.{Bool, _&&_, not}
 use mathlib.Core.List.{List}
 use Prim.Native.Nat.{ℕ, _+_, _≤_, _<_}
 use lib.Dec.{ltb}
-use lib.ListN.{length}
+use lib.ListN.{length, getD}
+use Rattle.meaning.specs.Limits.{maxFunctions}
 use Rattle.meaning.specs.Term.{NamedTerm, Term}
 use Rattle.meaning.specs.Scope.{namelessTerm}
 use Rattle.meaning.specs.Read.{Context}
@@ -16,6 +17,7 @@ use Rattle.table.specs.Token.{depthIn, sizeIn}
 use Rattle.table.specs.Key.{at, sameAt, Inside, usesAt, Held, Stands}
 use Rattle.masks.specs.Mask.{width}
 use Rattle.masks.specs.Face.{Classes}
+use Rattle.rows.specs.Rows.{Long, classesAt}
 
 abbrev pub sizeFrom : List ℕ → ℕ → ℕ
 sizeFrom es root = sizeIn (at es root)
@@ -45,3 +47,14 @@ pub record FaceAt (es : List ℕ) (root : ℕ) (face : Term) : Type 0 where
   pub held : Held levels ctx scope named
   pub stands : Stands es root scope named
   pub is : namelessTerm scope named ≡ face
+
+-- The nodes of so many faces, one for each function.
+pub record Faces (es nodes : List ℕ) (count : ℕ) : Type 0 where
+  pub few : count ≤ maxFunctions
+  pub whole : (k : ℕ) → k < count → Whole es (getD nodes k 0)
+
+-- The class tables of these faces, one after the other, and none but empty classes after them.
+pub record TablesFrom (es nodes : List ℕ) (count : ℕ) (ds : List ℕ) : Type 0 where
+  pub long : Long ds
+  pub there : (k : ℕ) → k < count → ClassesFrom es (getD nodes k 0) (classesAt ds k)
+  pub absent : (k i : ℕ) → count ≤ k → getD (classesAt ds k) i 0 ≡ 0

@@ -7,7 +7,7 @@ ghost use mathlib.Core.Path.{_≡_};
 ghost use mathlib.Core.Logic.{_↔_};
 ghost use mathlib.Core.Bool.{true};
 ghost use Prim.Native.Nat.{_<_};
-ghost use lib.ListN.{length};
+ghost use lib.ListN.{length, replicate};
 ghost use Rattle.meaning.specs.Limits.{maxFunctions};
 ghost use Rattle.meaning.specs.Basics.{_∈_};
 ghost use Rattle.meaning.specs.Search.{at, placeOf};
@@ -15,7 +15,7 @@ ghost use Rattle.masks.specs.Mask.{width};
 ghost use Rattle.masks.specs.Table.{Next, NotLast, firstClass};
 ghost use Rattle.masks.specs.Face.{Grown, Entry};
 ghost use Rattle.rows.specs.Rows.{classesAt, choicesAt, maskRows, Long, Tables, Steps};
-ghost use Rattle.rows.specs.FaceTable.{sizeFrom, freeFrom, sameFrom, ClassesFrom, Whole};
+ghost use Rattle.rows.specs.FaceTable.{sizeFrom, freeFrom, sameFrom, ClassesFrom, Whole, Faces, TablesFrom};
 use table::same::same;
 use table::same::uses_between;
 use table::token::depth;
@@ -154,5 +154,31 @@ pub fn face_classes(es: &[u64], root: usize, out: &mut [u64])
     while i < masks::WIDTH {
         out[i] = entry_of(es, root, i);
         i += 1;
+    }
+}
+
+// No class of any function.
+fn clear(ds: &mut [u64])
+    ensures { λ _. ⌜ now (ds .exit) ≡ replicate (length (now (ds .entry))) 0 ⌝ }
+{
+    let mut i = 0;
+    while i < ds.len() {
+        ds[i] = 0;
+        i += 1;
+    }
+}
+
+// The class tables of the functions whose faces stand at the nodes, by ascending number, and none of the others.
+pub fn class_tables(es: &[u64], nodes: [usize; FUNCTIONS], count: usize, ds: &mut [u64])
+    requires { ⌜ Faces (now es) nodes count ⌝ ∗ ⌜ Long (now ds) ⌝ }
+    ensures { λ _. ⌜ TablesFrom (now (es .entry)) nodes count (now (ds .exit)) ⌝ }
+{
+    clear(ds);
+    let mut k = 0;
+    while k < count {
+        let a = k * masks::WIDTH;
+        let e = a + masks::WIDTH;
+        face_classes(es, nodes[k], &mut ds[a..e]);
+        k += 1;
     }
 }

@@ -63,18 +63,18 @@ expressionOf : NamedTerm → NamedTerm × Bytes → Answer Constraint
 expressionOf t e = choose (eqb (length (e .1)) 0) (got (record { pattern = t; expression = e .0 })) (refused 7)
 
 pair-chosen : (b : Bool) (o p x y : List ℕ) (t e : NamedTerm) {m : ℕ} {r : Pair} → m ≡ length (tokens [] (one t))
-  → p ≡ tokens [] (one t) ++ drop (length (tokens [] (one t))) o → y ≡ tokens [] (one e) ++ drop (length (tokens [] (one e))) x
-  → r ≡ choose b (pairs.Read m (length (tokens [] (one e)))) (pairs.Refused 7)
-  → PairDone (choose b (got (record { pattern = t; expression = e })) (refused 7)) o p x y r
+    → p ≡ tokens [] (one t) ++ drop (length (tokens [] (one t))) o → y ≡ tokens [] (one e) ++ drop (length (tokens [] (one e))) x
+    → r ≡ choose b (pairs.Read m (length (tokens [] (one e)))) (pairs.Refused 7)
+    → PairDone (choose b (got (record { pattern = t; expression = e })) (refused 7)) o p x y r
 unfolding pairAnswer Written
 pair-chosen false o p x y t e hm hp hy j = record { answer = j; patternTable = tt; expressionTable = tt }
 pair-chosen true o p x y t e hm hp hy j = record { answer = j ∙ rw hm; patternTable = hp; expressionTable = hy }
 
 -- The pattern is read, and the expression after it
 pair-read : (o p x y : List ℕ) (t : NamedTerm) (later : Bytes) (a : Answer (NamedTerm × Bytes)) (e : Term) {m due : ℕ} {r : Pair}
-  → ((z : NamedTerm × Bytes) → a ≡ got z → length (z .1) ≤ length later) → due ≡ length later → m ≡ length (tokens [] (one t))
-  → p ≡ tokens [] (one t) ++ drop (length (tokens [] (one t))) o → TermDone [] later a x y e → r ≡ pairedOf m due e
-  → PairDone (after a (expressionOf t)) o p x y r
+    → ((z : NamedTerm × Bytes) → a ≡ got z → length (z .1) ≤ length later) → due ≡ length later → m ≡ length (tokens [] (one t))
+    → p ≡ tokens [] (one t) ++ drop (length (tokens [] (one t))) o → TermDone [] later a x y e → r ≡ pairedOf m due e
+    → PairDone (after a (expressionOf t)) o p x y r
 unfolding pairAnswer Written termAnswer expressionOf
 pair-read o p x y t later (refused q) e hf hd hm hp d j = record { answer = j ∙ rw (d .answer); patternTable = tt; expressionTable = tt }
 pair-read o p x y t later (got z) e hf hd hm hp d j =
@@ -88,14 +88,14 @@ module _ (s o x : List ℕ) where
   pair-refused {r} p p′ y d = go (readTerm maxDepth inPattern s) (d .answer)
     where
       go : (a : Answer (NamedTerm × Bytes)) → terms.Refused r ≡ termAnswer [] s a
-        → PairDone (after a (λ t. after (readTerm maxDepth inExpression (t .1)) (expressionOf (t .0)))) o p′ x y (pairs.Refused r)
+          → PairDone (after a (λ t. after (readTerm maxDepth inExpression (t .1)) (expressionOf (t .0)))) o p′ x y (pairs.Refused r)
       go (refused z) e = record { answer = cc; patternTable = tt; expressionTable = tt }
       go (got z) e = absurd (let w : _≡_ {A = ℕ} 0 1 = cc in omega arith)
 
   pub pair-paired : {k m : ℕ} (p y : List ℕ) (e : Term) (r : Pair) → TermDone [] s (readTerm maxDepth inPattern s) o p (terms.Took k m)
-    → TermDone [] (take (length s - k) (drop k s)) (readTerm maxDepth inExpression (take (length s - k) (drop k s))) x y e
-    → r ≡ pairedOf m (length s - k) e
-    → PairDone (readPair s) o p x y r
+      → TermDone [] (take (length s - k) (drop k s)) (readTerm maxDepth inExpression (take (length s - k) (drop k s))) x y e
+      → r ≡ pairedOf m (length s - k) e
+      → PairDone (readPair s) o p x y r
   unfolding readPair expressionOf
   pair-paired {k} {m} p y e r d f j =
       let t = took [] s (readTerm maxDepth inPattern s) o p k m d in
@@ -103,8 +103,8 @@ module _ (s o x : List ℕ) where
       let within = term-fine maxDepth inPattern s (t .term, t .later) (t .reads) in
       rw (t .reads)
       (pair-read o p x y (t .term) (t .later) (readTerm maxDepth inExpression (t .later)) e
-        (λ z q. omega (arith, term-fine maxDepth inExpression (t .later) z q .room))
-        (omega (arith, t .bytesAre, within .room)) (t .nodesAre) (t .row) (rw part at f) j)
+      (λ z q. omega (arith, term-fine maxDepth inExpression (t .later) z q .room))
+      (omega (arith, t .bytesAre, within .room)) (t .nodesAre) (t .row) (rw part at f) j)
 
 -- Room for constraints
 pair-room : (s : Bytes) (c : Constraint) → readPair s ≡ got c → (3 * length (patternRow c) ≤ length s) × (3 * length (expressionRow c) ≤ length s)
@@ -116,8 +116,8 @@ pair-room s c h =
     let b = term-fine maxDepth inExpression (p .0 .1) (e .0) (e .1) .room in
     by-choose (eqb (length (e .0 .1)) 0) _ (refused 7) (e .2)
     (λ t q.
-      let w : record { pattern = p .0 .0; expression = e .0 .0 } ≡ c = got-same q in
-      rw (← w) (omega (arith, a, b, tokens-length [] (one (p .0 .0))), omega (arith, a, b, tokens-length [] (one (e .0 .0)))))
+    let w : record { pattern = p .0 .0; expression = e .0 .0 } ≡ c = got-same q in
+    rw (← w) (omega (arith, a, b, tokens-length [] (one (p .0 .0))), omega (arith, a, b, tokens-length [] (one (e .0 .0)))))
     (λ t q. refused-got q)
 
 pub record PairTook (s : Bytes) (o p x y : List ℕ) (m n : ℕ) : Type 0 where
@@ -148,7 +148,7 @@ pair-took s o p x y m n d = go (readPair s) refl (d .answer) (d .patternTable) (
           patternTable = w;
           expressionTable = v;
           patternRoom = omega (arith, hm, room .0);
-          expressionRoom = omega (arith, hn, room .1)
+          expressionRoom = omega (arith, hn, room .1);
         }
 
 -- The tables of a problem, constraint by constraint
@@ -179,19 +179,19 @@ problem-room (suc left) s p h =
     by-choose (eqb (length s) 0) (got []) _ h
     (λ b e. let w : [] ≡ p = got-same e in rw (← w) (no-room s))
     (λ b e.
-      let t = after-inv (constraintHead (suc left) s) _ e in
-      let c = after-inv (readPair (t .0 .content)) _ (t .2) in
-      let l = after-inv (readConstraints left (t .0 .later)) _ (c .2) in
-      let w : c .0 ∷ l .0 ≡ p = got-same (l .2) in
-      let f = field-lengths (top-read (suc left) s (t .0) (t .1)) in
-      let i = problem-room left (t .0 .later) (l .0) (l .1) in
-      let room = pair-room (t .0 .content) (c .0) (c .1) in
-      rw (← w)
-      (record {
-        patterns = omega (arith, f, i .patterns, room .0, ap length (patterns-joined (c .0) (l .0)), length-append (patternRow (c .0)) (patternTokens (l .0)));
-        expressions = omega (arith, f, i .expressions, room .1, ap length (expressions-joined (c .0) (l .0)), length-append (expressionRow (c .0)) (expressionTokens (l .0)));
-        count = omega (arith, f, i .count)
-      }))
+    let t = after-inv (constraintHead (suc left) s) _ e in
+    let c = after-inv (readPair (t .0 .content)) _ (t .2) in
+    let l = after-inv (readConstraints left (t .0 .later)) _ (c .2) in
+    let w : c .0 ∷ l .0 ≡ p = got-same (l .2) in
+    let f = field-lengths (top-read (suc left) s (t .0) (t .1)) in
+    let i = problem-room left (t .0 .later) (l .0) (l .1) in
+    let room = pair-room (t .0 .content) (c .0) (c .1) in
+    rw (← w)
+    (record {
+      patterns = omega (arith, f, i .patterns, room .0, ap length (patterns-joined (c .0) (l .0)), length-append (patternRow (c .0)) (patternTokens (l .0)));
+      expressions = omega (arith, f, i .expressions, room .1, ap length (expressions-joined (c .0) (l .0)), length-append (expressionRow (c .0)) (expressionTokens (l .0)));
+      count = omega (arith, f, i .count);
+    }))
 
 pub problem-fits : (left : ℕ) (s o p x y : List ℕ) (r : Read) → ProblemDone (readConstraints left s) o p x y r → length s < 3 * 65536 → ReadFits r
 unfolding problemAnswer
@@ -214,24 +214,24 @@ constraints-cut zero s z h = rw (ne-eqb (length s) 0 z, h)
 constraints-cut (suc left) s z h = rw (ne-eqb (length s) 0 z, h)
 
 constraints-step : (left : ℕ) (s : Bytes) {p : Parts} → (length s ≡ 0 → ⊥) → 1 ≤ left → constraintHead left s ≡ got p
-  → readConstraints left s ≡ after (readPair (p .content)) (λ c. after (readConstraints (left - 1) (p .later)) (λ cs. got (c ∷ cs)))
+    → readConstraints left s ≡ after (readPair (p .content)) (λ c. after (readConstraints (left - 1) (p .later)) (λ cs. got (c ∷ cs)))
 unfolding readConstraints
 constraints-step zero s z l h = absurd (omega arith)
 constraints-step (suc left) s z l h = let w : suc left - 1 ≡ left = omega arith in rw (w, ne-eqb (length s) 0 z, h)
 
 -- The constraints after the first, joined to it
 problem-joined : (o p p′ x y y′ : List ℕ) (c : Constraint) (a : Answer Problem) (inner : Read) {m n : ℕ} {r : Read}
-  → m ≡ length (patternRow c) → n ≡ length (expressionRow c)
-  → p ≡ patternRow c ++ drop (length (patternRow c)) o → y ≡ expressionRow c ++ drop (length (expressionRow c)) x
-  → ProblemDone a (take (length p - m) (drop m p)) p′ (take (length y - n) (drop n y)) y′ inner → r ≡ listedOf m n inner
-  → ProblemDone (after a (λ cs. got (c ∷ cs))) o (putMid m (length p - m) p p′) x (putMid n (length y - n) y y′) r
+    → m ≡ length (patternRow c) → n ≡ length (expressionRow c)
+    → p ≡ patternRow c ++ drop (length (patternRow c)) o → y ≡ expressionRow c ++ drop (length (expressionRow c)) x
+    → ProblemDone a (take (length p - m) (drop m p)) p′ (take (length y - n) (drop n y)) y′ inner → r ≡ listedOf m n inner
+    → ProblemDone (after a (λ cs. got (c ∷ cs))) o (putMid m (length p - m) p p′) x (putMid n (length y - n) y y′) r
 unfolding problemAnswer Written
 problem-joined o p p′ x y y′ c (refused q) inner hm hn hp hy d j = record { answer = j ∙ rw (d .answer); patternTable = tt; expressionTable = tt }
 problem-joined o p p′ x y y′ c (got cs) inner hm hn hp hy d j =
     record {
       answer = j ∙ rw (d .answer, problemAnswer, hm, hn, patterns-joined c cs, expressions-joined c cs, length-append (patternRow c) (patternTokens cs), length-append (expressionRow c) (expressionTokens cs), add-one);
       patternTable = rw (patterns-joined c cs, hm) (rows-joined (patternRow c) (patternTokens cs) o p p′ hp (rw hm at (d .patternTable)));
-      expressionTable = rw (expressions-joined c cs, hn) (rows-joined (expressionRow c) (expressionTokens cs) x y y′ hy (rw hn at (d .expressionTable)))
+      expressionTable = rw (expressions-joined c cs, hn) (rows-joined (expressionRow c) (expressionTokens cs) x y y′ hy (rw hn at (d .expressionTable)));
     }
 
 -- The returns of `read_constraints`
@@ -247,30 +247,30 @@ module _ (left : ℕ) (s o x : List ℕ) where
       record { answer = rw (e, problemAnswer); patternTable = rw (e, Written) tt; expressionTable = rw (e, Written) tt }
 
   top-step : {n : ℕ} → (length s ≡ 0 → ⊥) → TopDone left s (tops.Content n)
-    → readConstraints left s
-    ≡ after (readPair (take (3 + n - 3) (drop 3 s))) (λ c. after (readConstraints (left - 1) (take (length s - (3 + n)) (drop (3 + n) s))) (λ cs. got (c ∷ cs)))
+      → readConstraints left s
+      ≡ after (readPair (take (3 + n - 3) (drop 3 s))) (λ c. after (readConstraints (left - 1) (take (length s - (3 + n)) (drop (3 + n) s))) (λ cs. got (c ∷ cs)))
   top-step {n} z h = constraints-step left s z (h .fits .1) (sym (h .says)) ∙ rw (add-sub-cancel-left 3 n, rest-all (3 + n) s)
 
   pub problem-first : {n r : ℕ} (p p′ y y′ : List ℕ) → (length s ≡ 0 → ⊥) → TopDone left s (tops.Content n)
-    → PairDone (readPair (take (3 + n - 3) (drop 3 s))) o p x y (pairs.Refused r) → ProblemDone (readConstraints left s) o p′ x y′ (answers.Refused r)
+      → PairDone (readPair (take (3 + n - 3) (drop 3 s))) o p x y (pairs.Refused r) → ProblemDone (readConstraints left s) o p′ x y′ (answers.Refused r)
   unfolding problemAnswer Written pairAnswer
   problem-first {n} {r} p p′ y y′ z h d = rw (top-step z h) (go (readPair (take (3 + n - 3) (drop 3 s))) (d .answer))
     where
       go : (a : Answer Constraint) → pairs.Refused r ≡ pairAnswer a
-        → ProblemDone (after a (λ c. after (readConstraints (left - 1) (take (length s - (3 + n)) (drop (3 + n) s))) (λ cs. got (c ∷ cs)))) o p′ x y′ (answers.Refused r)
+          → ProblemDone (after a (λ c. after (readConstraints (left - 1) (take (length s - (3 + n)) (drop (3 + n) s))) (λ cs. got (c ∷ cs)))) o p′ x y′ (answers.Refused r)
       go (refused w) e = record { answer = cc; patternTable = tt; expressionTable = tt }
       go (got w) e = absurd (let v : _≡_ {A = ℕ} 0 1 = cc in omega arith)
 
   pub problem-listed : {n m k : ℕ} (p p′ y y′ : List ℕ) (inner r : Read) → (length s ≡ 0 → ⊥) → TopDone left s (tops.Content n)
-    → PairDone (readPair (take (3 + n - 3) (drop 3 s))) o p x y (pairs.Read m k)
-    → ProblemDone (readConstraints (left - 1) (take (length s - (3 + n)) (drop (3 + n) s))) (take (length p - m) (drop m p)) p′ (take (length y - k) (drop k y)) y′ inner
-    → r ≡ listedOf m k inner
-    → ProblemDone (readConstraints left s) o (putMid m (length p - m) p p′) x (putMid k (length y - k) y y′) r
+      → PairDone (readPair (take (3 + n - 3) (drop 3 s))) o p x y (pairs.Read m k)
+      → ProblemDone (readConstraints (left - 1) (take (length s - (3 + n)) (drop (3 + n) s))) (take (length p - m) (drop m p)) p′ (take (length y - k) (drop k y)) y′ inner
+      → r ≡ listedOf m k inner
+      → ProblemDone (readConstraints left s) o (putMid m (length p - m) p p′) x (putMid k (length y - k) y y′) r
   problem-listed {n} {m} {k} p p′ y y′ inner r z h d f j =
       let t = pair-took (take (3 + n - 3) (drop 3 s)) o p x y m k d in
       rw (top-step z h, t .reads)
       (problem-joined o p p′ x y y′ (t .constraint) (readConstraints (left - 1) (take (length s - (3 + n)) (drop (3 + n) s))) inner
-        (t .patternNodes) (t .expressionNodes) (t .patternTable) (t .expressionTable) f j)
+      (t .patternNodes) (t .expressionNodes) (t .patternTable) (t .expressionTable) f j)
 
 -- Room for its calls: the content of the first constraint, and what is after it
 module _ (n : ℕ) (s : Bytes) (fits : 3 + n ≤ length s) where
@@ -287,13 +287,13 @@ module _ (n : ℕ) (s : Bytes) (fits : 3 + n ≤ length s) where
   constraints-length = part-length (3 + n) (length s) s (fits) (omega arith)
 
   rest-space : (m : ℕ) (p : List ℕ) → 3 * m ≤ n → Space (length s) (length p)
-    → Space (length (take (length s - (3 + n)) (drop (3 + n) s))) (length (take (length p - m) (drop m p)))
+      → Space (length (take (length s - (3 + n)) (drop (3 + n) s))) (length (take (length p - m) (drop m p)))
   rest-space m p h r =
       let b = part-length m (length p) p (omega (arith, h, r .table, fits)) (omega arith) in
       record { table = omega (arith, constraints-length, b, h, r .table, fits); small = omega (arith, constraints-length, r .small) }
 
   pub constraints-spaces : (m k : ℕ) (p y : List ℕ) → 3 * m ≤ n → 3 * k ≤ n → Spaces (length s) (length p) (length y)
-    → Spaces (length (take (length s - (3 + n)) (drop (3 + n) s))) (length (take (length p - m) (drop m p))) (length (take (length y - k) (drop k y)))
+      → Spaces (length (take (length s - (3 + n)) (drop (3 + n) s))) (length (take (length p - m) (drop m p))) (length (take (length y - k) (drop k y)))
   constraints-spaces m k p y h g r = record { pattern = rest-space m p h (r .pattern); expression = rest-space k y g (r .expression) }
 
 -- The whole input: the returns of `read`

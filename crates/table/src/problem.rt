@@ -51,7 +51,11 @@ fn paired(nodes: usize, due: usize, expression: Term) -> Pair
     match expression {
         Term::Refused(r) => Pair::Refused(r),
         Term::Took(k, more) => {
-            if k == due { Pair::Read(nodes, more) } else { Pair::Refused(7) }
+            if k == due {
+                Pair::Read(nodes, more)
+            } else {
+                Pair::Refused(7)
+            }
         }
     }
 }
@@ -76,7 +80,11 @@ fn listed(pattern: usize, expression: usize, later: Read) -> Read
 {
     match later {
         Read::Refused(r) => Read::Refused(r),
-        Read::Problem(patterns, expressions, count) => Read::Problem(pattern + patterns, expression + expressions, count + 1),
+        Read::Problem(patterns, expressions, count) => Read::Problem(
+            pattern + patterns,
+            expression + expressions,
+            count + 1,
+        ),
     }
 }
 
@@ -93,7 +101,16 @@ fn read_constraints(s: &[u8], left: usize, patterns: &mut [u64], expressions: &m
             let end = 3 + n;
             match read_pair(&s[3..end], patterns, expressions) {
                 Pair::Refused(r) => Read::Refused(r),
-                Pair::Read(p, e) => listed(p, e, read_constraints(&s[end..], left - 1, &mut patterns[p..], &mut expressions[e..])),
+                Pair::Read(p, e) => listed(
+                    p,
+                    e,
+                    read_constraints(
+                        &s[end..],
+                        left - 1,
+                        &mut patterns[p..],
+                        &mut expressions[e..],
+                    ),
+                ),
             }
         }
     }

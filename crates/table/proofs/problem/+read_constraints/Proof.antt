@@ -46,12 +46,12 @@ callees t =
 
 -- The first constraint's head
 top : (t : ℕ) (c : lts.After-n (callees t) (read-constraints-at t) read-constraints.Post)
-  → TopDone (c .before .before .before .before .before .before .before .args .left) (now (c .before .before .before .before .before .before .before .args .s)) (tops.Content (c .n .given .0 .0))
+    → TopDone (c .before .before .before .before .before .before .before .args .left) (now (c .before .before .before .before .before .before .before .args .s)) (tops.Content (c .n .given .0 .0))
 top t c = rw (c .n .given .1) at (c .before .before .constraint-head .ensures)
 
 -- The constraint, once it is read
 first : (t : ℕ) (c : lts.After-p (callees t) (read-constraints-at t) read-constraints.Post)
-  → PairDone
+    → PairDone
     (readPair (take (3 + c .before .before .before .before .before .before .before .before .before .before .before .n .given .0 .0 - 3) (drop 3 (now (c .before .before .before .before .before .before .before .before .before .before .before .before .before .before .before .before .before .before .args .s)))))
     (now (c .before .before .before .before .before .before .before .before .before .before .before .before .before .before .before .before .before .before .args .patterns))
     (c .before .before .before .before .before .before .read-pair .last .1 .0)
@@ -62,7 +62,7 @@ first t c = rw (c .p .given .1) at (c .before .before .before .before .before .b
 
 -- its nodes take three bytes each
 first-room : (t : ℕ) (c : lts.After-p (callees t) (read-constraints-at t) read-constraints.Post)
-  → (3 * c .p .given .0 .0 ≤ c .before .before .before .before .before .before .before .before .before .before .before .n .given .0 .0) × (3 * c .p .given .0 .1 .0 ≤ c .before .before .before .before .before .before .before .before .before .before .before .n .given .0 .0)
+    → (3 * c .p .given .0 .0 ≤ c .before .before .before .before .before .before .before .before .before .before .before .n .given .0 .0) × (3 * c .p .given .0 .1 .0 ≤ c .before .before .before .before .before .before .before .before .before .before .before .n .given .0 .0)
 first-room t c =
     let k = pair-took _ _ _ _ _ _ _ (first t c) in
     let l = content-length (c .before .before .before .before .before .before .before .before .before .before .before .n .given .0 .0) (now (c .before .before .before .before .before .before .before .before .before .before .before .before .before .before .before .before .before .before .args .s)) (top t (c .before .before .before .before .before .before .before .before .before .before .before) .fits .0) in
@@ -70,7 +70,7 @@ first-room t c =
 
 -- room after it
 first-spaces : (t : ℕ) (c : lts.After-p (callees t) (read-constraints-at t) read-constraints.Post)
-  → Spaces (length (now (c .before .before .before .before .before .before .before .before .before .before .before .before .before .before .before .before .before .before .args .s))) (length (c .before .before .before .before .before .before .read-pair .last .1 .0)) (length (c .before .before .before .before .before .before .read-pair .last .1 .1 .0))
+    → Spaces (length (now (c .before .before .before .before .before .before .before .before .before .before .before .before .before .before .before .before .before .before .args .s))) (length (c .before .before .before .before .before .before .read-pair .last .1 .0)) (length (c .before .before .before .before .before .before .read-pair .last .1 .1 .0))
 first-spaces t c = rw (c .before .before .before .before .before .before .read-pair .kept .1 .0, c .before .before .before .before .before .before .read-pair .kept .1 .1 .0) (c .before .before .before .before .before .before .before .before .before .before .before .before .before .before .before .before .before .before .pre .1)
 
 returns : (t : ℕ) → lts.Need-returns (callees t) (read-constraints-at t) read-constraints.Post
@@ -143,7 +143,7 @@ part-read-constraints-end-3 : (t : ℕ) → lts.Need-part-read-constraints-end-3
 part-read-constraints-end-3 t c = search needs
 
 read-constraints-requires : (t : ℕ) → lts.Need-read-constraints-requires (callees t) (read-constraints-at t) read-constraints.Post
-read-constraints-requires t c κs = 
+read-constraints-requires t c κs =
     let n = c .before .before .before .before .before .before .before .before .before .before .before .before .before .before .before .n .given .0 .0 in
     let fits = top t (c .before .before .before .before .before .before .before .before .before .before .before .before .before .before .before) .fits .0 in
     let s = now (c .before .before .before .before .before .before .before .before .before .before .before .before .before .before .before .before .before .before .before .before .before .before .args .s) in
@@ -151,13 +151,15 @@ read-constraints-requires t c κs =
     (omega (arith, constraints-length n s fits, c .before .before .before .before .before .before .before .before .before .before .before .before .before .before .before .before .before .before .before .before .before .before .pre .0), constraints-spaces n s fits (c .before .before .before .before .p .given .0 .0) (c .before .before .before .before .p .given .0 .1 .0) (c .before .before .before .before .before .before .before .before .before .before .read-pair .last .1 .0) (c .before .before .before .before .before .before .before .before .before .before .read-pair .last .1 .1 .0) (room .0) (room .1) (first-spaces t (c .before .before .before .before)))
 
 listed-requires : (t : ℕ) → lts.Need-listed-requires (callees t) (read-constraints-at t) read-constraints.Post
-listed-requires t c κs = 
+listed-requires t c κs =
     let n = c .before .before .before .before .before .before .before .before .before .before .before .before .before .before .before .before .before .before .before .before .n .given .0 .0 in
     let fits = top t (c .before .before .before .before .before .before .before .before .before .before .before .before .before .before .before .before .before .before .before .before) .fits .0 in
     let spaces = first-spaces t (c .before .before .before .before .before .before .before .before .before) in
-    let room = first-room t (c .before .before .before .before .before .before .before .before .before) in
-    (omega (arith, room .0, spaces .pattern .small, fits), omega (arith, room .1, spaces .pattern .small, fits),
-      problem-fits _ _ _ _ _ _ _ (c .before .before .before .before .read-constraints .ensures) (omega (arith, constraints-length n (now (c .before .before .before .before .before .before .before .before .before .before .before .before .before .before .before .before .before .before .before .before .before .before .before .before .before .before .before .args .s)) fits, spaces .pattern .small)))
+    let room = first-room t (c .before .before .before .before .before .before .before .before .before) in (
+      omega (arith, room .0, spaces .pattern .small, fits),
+      omega (arith, room .1, spaces .pattern .small, fits),
+      problem-fits _ _ _ _ _ _ _ (c .before .before .before .before .read-constraints .ensures) (omega (arith, constraints-length n (now (c .before .before .before .before .before .before .before .before .before .before .before .before .before .before .before .before .before .before .before .before .before .before .before .before .before .before .before .args .s)) fits, spaces .pattern .small)),
+    )
 
 returns-2 : (t : ℕ) → lts.Need-returns-2 (callees t) (read-constraints-at t) read-constraints.Post
 returns-2 t c = problem-cut _ _ _ _ (c .before .before .before .before .if1 .left) (rw (c .before .r .given .1) at (c .before .before .before .constraint-head .ensures))

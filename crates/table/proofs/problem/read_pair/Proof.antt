@@ -15,7 +15,7 @@ use Rattle.table.proofs.problem.read_pair.Tie as tie
 
 -- The pattern, once it is read
 first : (c : tie.After-k)
-  → TermDone
+    → TermDone
     []
     (now (c .before .before .before .before .before .before .before .before .before .args .s))
     (readTerm maxDepth inPattern (now (c .before .before .before .before .before .before .before .before .before .args .s)))
