@@ -23,9 +23,11 @@ use Rattle.meaning.proofs.Lists.{by-test, choose-true, choose-false}
 use Rattle.table.specs.Token.{tagIn, sizeIn, payloadIn, payloadOf, tokens, patternTokens, expressionTokens}
 use Rattle.table.specs.Key.{at, Held, Stands}
 use Rattle.table.proofs.KeyLaws.{stands-size, stands-inside}
-use Rattle.faces.proofs.TokenLaws.{length-tokens, tokenAt, tag-at, payload-at, Room, room-below, room-later, patterns-readable, expressions-readable, patterns-room, expressions-room}
+use Rattle.faces.proofs.TokenLaws.{tokenAt, tag-at, payload-at, Room, room-below, room-later, patterns-room, expressions-room}
 use Rattle.faces.proofs.TopKeys.{meant, meant-label}
 use Rattle.faces.proofs.WalkTrees.{nameless-size}
+use Rattle.meaning.proofs.Proper.{patterns-readable, expressions-readable}
+use Rattle.table.proofs.TermLaws.{tokens-length}
 
 pub record AtNode (table : List ℕ) (i : ℕ) (t : Term) : Type 0 where
   pub scope : List ℕ
@@ -80,7 +82,7 @@ at-node (suc levels) ctx sc (cons l c s) r m (suc n) t e =
     ts = tokens sc s
 
     long : size (nameless (enter l sc) c) ≡ length tc
-    long = nameless-size (enter l sc) c ∙ sym (length-tokens (enter l sc) c)
+    long = nameless-size (enter l sc) c ∙ sym (tokens-length (enter l sc) c)
 
     below : ltb n (size (nameless (enter l sc) c)) ≡ true → AtNode tc n t → AtNode (tokenAt sc l c ∷ (tc ++ ts)) (suc n) t
     below y k = moved tc (tokenAt sc l c ∷ (tc ++ ts)) ts n (suc n) t (drop-append-le n tc ts (omega (arith, long, ltb-true n (size (nameless (enter l sc) c)) y))) k

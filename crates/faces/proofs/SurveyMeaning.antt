@@ -2,7 +2,7 @@
 use mathlib.Core.Path.{_≡_, refl, ap, ap₂, _∙_}
 use mathlib.Core.Bool.{Bool, true, false, _&&_, not}
 use mathlib.Core.List.{List, [], _∷_, _++_}
-use Prim.Native.Nat.{ℕ, zero, suc, _+_, _<_}
+use Prim.Native.Nat.{ℕ, zero, suc, _<_}
 use lib.ListN.{length}
 use lib.Dec.{eqb}
 use Rattle.meaning.specs.Limits.{metavariableCount, maxDepth}
@@ -18,7 +18,8 @@ use Rattle.table.specs.Token.{tagIn, payloadIn, payloadOf, tokens, patternToken
 use Rattle.faces.specs.declared.survey.Occurring.{Occurring}
 use Rattle.faces.specs.Survey.{has, numbers, Surveyed, meets, count, functionsIn, bothIn}
 use Rattle.faces.proofs.SurveyLaws.{functions-set, both-set, count-set}
-use Rattle.faces.proofs.TokenLaws.{tag-at, payload-at, Room, room-depth, room-size, room-below, room-later, patterns-readable, patterns-room}
+use Rattle.faces.proofs.TokenLaws.{tag-at, payload-at, Room, room-depth, room-size, room-below, room-later, patterns-room}
+use Rattle.meaning.proofs.Proper.{patterns-readable}
 
 numbers-append : (g : ℕ) (xs ys : List ℕ) → numbers g (xs ++ ys) ≡ numbers g xs ++ numbers g ys
 unfolding numbers

@@ -1,30 +1,26 @@
 -- The token tables of a problem that can be read: one token for each node, few enough, and each says what its node is.
 --   Room   a forest that the table has room for: a token has 8 bits for the depth and 16 for the size, and the limits of document 01
 --          keep both far below
-use mathlib.Core.Path.{_≡_, refl, ap, ap₂, _∙_}
+use mathlib.Core.Path.{_≡_, ap}
 use mathlib.Core.List.{List, [], _∷_, _++_}
-use Prim.Native.Nat.{ℕ, zero, suc, _+_, _*_, _-_, _<_, _≤_}
+use Prim.Native.Nat.{ℕ, zero, suc, _+_, _*_, _<_, _≤_}
 use native.Mathlib.Omega.{arith}
 use lib.ListN.{length, length-append}
 use Rattle.meaning.specs.Limits.{maxInput, maxDepth}
 use Rattle.meaning.specs.Basics.{All}
-use Rattle.meaning.specs.Term.{Forest, nil, cons, one, size, symbol, variable, application, binder, own, slot, metavariable, function, hole, Named}
+use Rattle.meaning.specs.Term.{Forest, nil, cons, one, size, Named}
 use Rattle.meaning.specs.Scope.{enter}
-use Rattle.meaning.specs.Problem.{Constraint, Problem, namedPatterns, namedExpressions}
+use Rattle.meaning.specs.Problem.{Problem, namedPatterns, namedExpressions}
 use Rattle.meaning.specs.Field.{word, field, tagOf, fixedPart, encode, encodeConstraint, encodeProblem}
 use Rattle.meaning.specs.Read.{Context, inPattern, inExpression, contextBelow}
 use Rattle.meaning.specs.Readable.{Readable, WithinLimits}
 use Rattle.meaning.proofs.Lists.{all-append}
 use Rattle.table.specs.Token.{tokenOf, tagIn, depthIn, sizeIn, payloadIn, payloadOf, tokens, patternTokens, expressionTokens}
 use Rattle.table.specs.Key.{at}
-use Rattle.table.proofs.KeyLaws.{tag-token, depth-token, size-token, payload-token}
+use Rattle.table.proofs.KeyLaws.{tag-token, depth-token, size-token, payload-token, tag-room, enter-room}
 use Rattle.faces.specs.FlatWalk.{slotTag, isSlot, Table}
-
-pub length-tokens : (sc : List ℕ) (u : Forest Named) → length (tokens sc u) ≡ size u
-unfolding tokens
-length-tokens sc nil = refl
-length-tokens sc (cons l c s) =
-    ap suc (length-append (tokens (enter l sc) c) (tokens sc s) ∙ ap₂ _+_ (length-tokens (enter l sc) c) (length-tokens sc s))
+use Rattle.table.proofs.TermLaws.{tokens-length}
+use Rattle.meaning.proofs.Proper.{patterns-readable, expressions-readable}
 
 -- Each node has 3 bytes or more
 node-bytes : (u : Forest Named) → 3 * size u ≤ length (encode u)
@@ -52,62 +48,31 @@ pub nodes-few : (p : Problem) → WithinLimits p → size (namedPatterns p) + si
 unfolding maxInput
 nodes-few p w = omega (arith, problem-bytes p, w .input)
 
--- The terms of all constraints, one after the other, can be read
-readable-terms : (levels : ℕ) (p : Problem) → All (λ (c : Constraint). Readable levels inPattern (one (c .pattern)) × Readable levels inExpression (one (c .expression))) p
-    → Readable levels inPattern (namedPatterns p) × Readable levels inExpression (namedExpressions p)
-readable-terms levels [] h = (tt, tt)
-readable-terms zero (c ∷ p) h = absurd (h .0 .0)
-readable-terms (suc levels) (c ∷ p) h =
-    let r = readable-terms (suc levels) p (h .1) in
-    ((h .0 .0 .0, h .0 .0 .1, r .0), (h .0 .1 .0, h .0 .1 .1, r .1))
-
-pub patterns-readable : (p : Problem) → WithinLimits p → Readable maxDepth inPattern (namedPatterns p)
-patterns-readable p w = readable-terms maxDepth p (w .constraints) .0
-
-pub expressions-readable : (p : Problem) → WithinLimits p → Readable maxDepth inExpression (namedExpressions p)
-expressions-readable p w = readable-terms maxDepth p (w .constraints) .1
-
 -- One token
-tag-small : (l : Named) → tagOf l < 256
-tag-small (own (symbol n)) = omega arith
-tag-small (own (variable x)) = omega arith
-tag-small (own (application n)) = omega arith
-tag-small (own (binder b x)) = omega arith
-tag-small (slot (metavariable m)) = omega arith
-tag-small (slot (function f)) = omega arith
-tag-small (slot (hole i)) = omega arith
-
 abbrev pub tokenAt : List ℕ → Named → Forest Named → ℕ
 tokenAt sc l c = tokenOf (tagOf l) (length sc) (suc (size c)) (payloadOf sc l)
 
 module _ (sc : List ℕ) (l : Named) (c : Forest Named) (room : length sc < 256) (small : suc (size c) < 65536) where
   pub tag-at : tagIn (tokenAt sc l c) ≡ tagOf l
-  tag-at = tag-token (tagOf l) (length sc) (suc (size c)) (payloadOf sc l) (tag-small l) room small
+  tag-at = tag-token (tagOf l) (length sc) (suc (size c)) (payloadOf sc l) (tag-room l) room small
 
   pub slot-at : isSlot (tokenAt sc l c) ≡ slotTag (tagOf l)
   unfolding isSlot
   slot-at = ap slotTag tag-at
 
   pub size-at : sizeIn (tokenAt sc l c) ≡ suc (size c)
-  size-at = size-token (tagOf l) (length sc) (suc (size c)) (payloadOf sc l) (tag-small l) room small
+  size-at = size-token (tagOf l) (length sc) (suc (size c)) (payloadOf sc l) (tag-room l) room small
 
   pub depth-at : depthIn (tokenAt sc l c) ≡ length sc
-  depth-at = depth-token (tagOf l) (length sc) (suc (size c)) (payloadOf sc l) (tag-small l) room small
+  depth-at = depth-token (tagOf l) (length sc) (suc (size c)) (payloadOf sc l) (tag-room l) room small
 
   pub payload-at : payloadIn (tokenAt sc l c) ≡ payloadOf sc l
-  payload-at = payload-token (tagOf l) (length sc) (suc (size c)) (payloadOf sc l) (tag-small l) room small
+  payload-at = payload-token (tagOf l) (length sc) (suc (size c)) (payloadOf sc l) (tag-room l) room small
 
 -- A forest that the table has room for
 pub record Room (levels : ℕ) (sc : List ℕ) (u : Forest Named) : Type 0 where
   pub depths : length sc + levels ≤ 256
   pub sizes : size u < 65536
-
-enter-long : (sc : List ℕ) (l : Named) → length (enter l sc) ≤ suc (length sc)
-enter-long sc (own (symbol n)) = omega arith
-enter-long sc (own (variable x)) = omega arith
-enter-long sc (own (application n)) = omega arith
-enter-long sc (own (binder b x)) = omega arith
-enter-long sc (slot z) = omega arith
 
 module _ (levels : ℕ) (sc : List ℕ) (l : Named) (c s : Forest Named) (h : Room (suc levels) sc (cons l c s)) where
   pub room-depth : length sc < 256
@@ -117,7 +82,7 @@ module _ (levels : ℕ) (sc : List ℕ) (l : Named) (c s : Forest Named) (h : Ro
   room-size = omega (arith, h .sizes)
 
   pub room-below : Room levels (enter l sc) c
-  room-below = record { depths = omega (arith, h .depths, enter-long sc l); sizes = omega (arith, h .sizes) }
+  room-below = record { depths = omega (arith, h .depths, enter-room sc l); sizes = omega (arith, h .sizes) }
 
   pub room-later : Room (suc levels) sc s
   room-later = record { depths = h .depths; sizes = omega (arith, h .sizes) }
@@ -141,7 +106,7 @@ all-at P (x ∷ xs) a (suc k) h = all-at P xs (a .1) k (omega arith)
 
 tokens-table : (levels : ℕ) (ctx : Context) (u : Forest Named) → Readable levels ctx u → Room levels [] u → Table (tokens [] u)
 tokens-table levels ctx u r h =
-    record { counted = all-at (λ x. 1 ≤ sizeIn x) (tokens [] u) (tokens-counted levels ctx [] u r h); small = omega (arith, length-tokens [] u, h .sizes) }
+    record { counted = all-at (λ x. 1 ≤ sizeIn x) (tokens [] u) (tokens-counted levels ctx [] u r h); small = omega (arith, tokens-length [] u, h .sizes) }
 
 module _ (p : Problem) (w : WithinLimits p) where
   pub patterns-room : Room maxDepth [] (namedPatterns p)

@@ -19,8 +19,9 @@ use Rattle.meaning.proofs.Lists.{choose-true, choose-false}
 use Rattle.table.specs.Token.{patternTokens, expressionTokens}
 use Rattle.faces.specs.FlatWalk.{faceCode, patternNode, expressionNode, flatWalk}
 use Rattle.faces.specs.Recorded.{RecordedBy, Recorded, Both, Means}
-use Rattle.faces.proofs.TokenLaws.{nodes-few, patterns-readable, expressions-readable, patterns-room, expressions-room}
+use Rattle.faces.proofs.TokenLaws.{nodes-few, patterns-room, expressions-room}
 use Rattle.faces.proofs.WalkTrees.{meetCode, walkCodes, nameless-size, flat-trees}
+use Rattle.meaning.proofs.Proper.{patterns-readable, expressions-readable}
 
 -- A forest stands in a larger one from node i on
 Looks : (ℕ → Option Term) → ℕ → Terms → Type 0

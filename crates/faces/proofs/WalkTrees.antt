@@ -22,8 +22,9 @@ use Rattle.table.specs.Token.{tokens}
 use Rattle.table.specs.Key.{keyOf}
 use Rattle.faces.specs.FlatWalk.{slotTag, isSlot, faceCode, lockstep, flatWalk}
 use Rattle.faces.proofs.FlatLaws.{join-assoc, join-nothing, lockstep-differs, lockstep-same, lockstep-face, lockstep-skip}
-use Rattle.faces.proofs.TokenLaws.{length-tokens, tokenAt, size-at, slot-at, Room, room-depth, room-size, room-below, room-later}
+use Rattle.faces.proofs.TokenLaws.{tokenAt, size-at, slot-at, Room, room-depth, room-size, room-below, room-later}
 use Rattle.faces.proofs.TopKeys.{meant, meant-label, keys-agree, agree-trees}
+use Rattle.table.proofs.TermLaws.{tokens-length}
 
 abbrev pub meetCode : ℕ → ℕ → Nameless → Nameless → Option (List ℕ) → Option (List ℕ)
 meetCode i j (own o) l below = guard (agrees o l) below
@@ -65,8 +66,8 @@ module _ (i j : ℕ) (sc sc′ : List ℕ) (l l′ : Named) (c c′ : Forest Nam
       ∙ lockstep-skip (suc (size c) - 1) (suc i) (j + suc (size c′)) u (drop (suc (size c′)) (y ∷ v))
       ∙ ap₂ (λ (a b : ℕ). lockstep 0 (suc i + a) b (drop a u) (drop (suc (size c′)) (y ∷ v))) k n
       ∙ ap₂ (lockstep 0 (suc i + size c) (suc j + size c′))
-      (drop-at (tokens (enter l sc) c) ps (size c) (length-tokens (enter l sc) c))
-      (drop-at (y ∷ tokens (enter l′ sc′) c′) es (suc (size c′)) (ap suc (length-tokens (enter l′ sc′) c′))))
+      (drop-at (tokens (enter l sc) c) ps (size c) (tokens-length (enter l sc) c))
+      (drop-at (y ∷ tokens (enter l′ sc′) c′) es (suc (size c′)) (ap suc (tokens-length (enter l′ sc′) c′))))
 
 -- Two nodes of expressions: where the labels agree, so do the numbers of children
 module _ (i j : ℕ) (sc sc′ : List ℕ) (o o′ : Own ℕ ℕ) (c c′ : Forest Named) (ps es : List ℕ) (below : Option (List ℕ))

@@ -12,10 +12,10 @@ use Rattle.meaning.specs.Limits.{metavariableCount, maxFunctions, placeC
 use Rattle.meaning.specs.Basics.{choose, every, upTo, All, _∈_}
 use Rattle.meaning.specs.Term.{Forest, nil, cons, one, trees, relabel, symbol, variable, application, binder, own, slot, metavariable, function, hole, Named, Nameless, NamedTerm, Terms, IsExpression}
 use Rattle.meaning.specs.Scope.{enter, namelessLabel, nameless}
-use Rattle.meaning.specs.Problem.{Constraint, Problem, forestOf, patterns, expressions, plain, applied, isFunction, isPlain, functions, metavariables}
+use Rattle.meaning.specs.Problem.{Constraint, Problem, forestOf, patterns, expressions, plain, applied, isFunction, isPlain, functions, metavariables, namedPatterns, namedExpressions}
 use Rattle.meaning.specs.Read.{Answer, refused, got, Context, inPattern, inArgument, inExpression, contextBelow}
 use Rattle.meaning.specs.Accept.{bothWays, overlarge, checkProblem}
-use Rattle.meaning.specs.Readable.{Readable, ReadableConstraint, Accepted}
+use Rattle.meaning.specs.Readable.{Readable, ReadableConstraint, Accepted, WithinLimits}
 use Rattle.meaning.proofs.Lists.{never, or-left, or-right, by-test, choose-true, mem-keep, keep-mem, isIn-mem, mem-isIn, mem-upTo, all-mem, every-all}
 
 -- In an argument there are only metavariables besides the expression's own nodes
@@ -141,13 +141,19 @@ readable-forest levels ctx [] h = tt
 readable-forest zero ctx (t ∷ ts) h = absurd (h .0)
 readable-forest (suc levels) ctx (t ∷ ts) h = (h .0 .0, h .0 .1, readable-forest (suc levels) ctx ts (h .1))
 
-patterns-readable : (cs : Problem) → All ReadableConstraint cs → All (λ t. Readable maxDepth inPattern (one t)) (map (λ (c : Constraint). c .pattern) cs)
-patterns-readable [] h = tt
-patterns-readable (c ∷ cs) h = (h .0 .0, patterns-readable cs (h .1))
+pub patterns-readable : (p : Problem) → WithinLimits p → Readable maxDepth inPattern (namedPatterns p)
+patterns-readable p w = readable-forest maxDepth inPattern (map (λ (c : Constraint). c .pattern) p) (each-pattern p (w .constraints))
+  where
+    each-pattern : (cs : Problem) → All ReadableConstraint cs → All (λ t. Readable maxDepth inPattern (one t)) (map (λ (c : Constraint). c .pattern) cs)
+    each-pattern [] h = tt
+    each-pattern (c ∷ cs) h = (h .0 .0, each-pattern cs (h .1))
 
-expressions-readable : (cs : Problem) → All ReadableConstraint cs → All (λ t. Readable maxDepth inExpression (one t)) (map (λ (c : Constraint). c .expression) cs)
-expressions-readable [] h = tt
-expressions-readable (c ∷ cs) h = (h .0 .1, expressions-readable cs (h .1))
+pub expressions-readable : (p : Problem) → WithinLimits p → Readable maxDepth inExpression (namedExpressions p)
+expressions-readable p w = readable-forest maxDepth inExpression (map (λ (c : Constraint). c .expression) p) (each-expression p (w .constraints))
+  where
+    each-expression : (cs : Problem) → All ReadableConstraint cs → All (λ t. Readable maxDepth inExpression (one t)) (map (λ (c : Constraint). c .expression) cs)
+    each-expression [] h = tt
+    each-expression (c ∷ cs) h = (h .0 .1, each-expression cs (h .1))
 
 -- 12 does not apply
 pub not-both-ways : (p : Problem) → checkProblem p ≡ got p → bothWays p ≡ false
@@ -175,15 +181,14 @@ separated p e m small a b =
 pub accepted-proper : (p : Problem) → Accepted p → Proper p
 unfolding Small
 accepted-proper p a =
-    let ps = readable-forest maxDepth inPattern (map (λ (c : Constraint). c .pattern) p) (patterns-readable p (a .within .constraints)) in
-    let es = readable-forest maxDepth inExpression (map (λ (c : Constraint). c .expression) p) (expressions-readable p (a .within .constraints)) in
-    let small = readable-small maxDepth inPattern [] (forestOf (map (λ (c : Constraint). c .pattern) p)) ps in
+    let ps = patterns-readable p (a .within) in
+    let small = readable-small maxDepth inPattern [] (namedPatterns p) ps in
     record {
-      expression = readable-expression maxDepth [] (forestOf (map (λ (c : Constraint). c .expression) p)) es;
-      pattern = readable-pattern maxDepth [] (forestOf (map (λ (c : Constraint). c .pattern) p)) ps;
+      expression = readable-expression maxDepth [] (namedExpressions p) (expressions-readable p (a .within));
+      pattern = readable-pattern maxDepth [] (namedPatterns p) ps;
       separate = λ m x y. separated p (not-both-ways p (a .checked)) m (small .0 m x) x y;
       smallApplied = small .0;
-      smallPlain = small .1;
+      smallPlain = small .1
     }
 
 -- The ascending lists hold just the metavariables that occur

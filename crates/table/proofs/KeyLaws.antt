@@ -33,6 +33,8 @@ use Rattle.meaning.proofs.ShiftLaws.{ltb-yes, ltb-no, test-closed, closed-test}
 use Rattle.table.specs.Token.{tokenOf, tagIn, depthIn, sizeIn, payloadIn, levelOf, payloadOf, tokens}
 use Rattle.table.specs.Key.{keyOfVariable, keyOfPayload, keyOf, keys, levelFrom, at, part, keysAt, sameAt, Inside, reaches, anyReaches, usesAt, closedAt, Held, Stands}
 use Rattle.table.proofs.same.Laws.{key-free, key-inside, key-outside, reaches-no-variable, reaches-level, sameList-true, same-sameList}
+use Rattle.table.proofs.TermLaws.{tokens-length}
+use Rattle.meaning.proofs.Proper.{relabel-trees}
 
 -- A token is what it was made of
 module _ (g e n p : ℕ) (hg : g < 256) (he : e < 256) (hn : n < 65536) where
@@ -53,11 +55,11 @@ module _ (g e n p : ℕ) (hg : g < 256) (he : e < 256) (hn : n < 65536) where
   key-token d = cc (tag-token, depth-token, payload-token)
 
 -- A variable that is resolved has the level of its binder
-data Resolved (sc : List ℕ) (i x : ℕ) : Type 0 where
+pub data Resolved (sc : List ℕ) (i x : ℕ) : Type 0 where
   isFree : resolve sc i x ≡ free x → levelOf sc x ≡ 0 → Resolved sc i x
   isBound : (j : ℕ) → j < length sc → resolve sc i x ≡ bound (i + j) → levelOf sc x + j ≡ length sc → Resolved sc i x
 
-resolved : (sc : List ℕ) (i x : ℕ) → Resolved sc i x
+pub resolved : (sc : List ℕ) (i x : ℕ) → Resolved sc i x
 unfolding levelOf
 resolved [] i x = isFree refl refl
 resolved (y ∷ sc) i x = by-test (eqb x y) here (λ e. later e (resolved sc (suc i) x))
@@ -75,15 +77,15 @@ resolved (y ∷ sc) i x = by-test (eqb x y) here (λ e. later e (resolved sc (su
         isBound (suc j) (omega arith) (choose-false _ _ e ∙ p ∙ ap bound z) (omega arith)
 
 -- Codes of views
-abbrev codeOfSeen : Seen ℕ → ℕ
+abbrev pub codeOfSeen : Seen ℕ → ℕ
 codeOfSeen (seenFree x) = 4 * x
 codeOfSeen (inside i) = 4 * i + 1
 codeOfSeen (outside w) = 4 * w + 2
 
-abbrev Viewed : Type 0
+abbrev pub Viewed : Type 0
 Viewed = Label (Seen ℕ) (Unit {0})
 
-abbrev code : Viewed → ℕ
+abbrev pub code : Viewed → ℕ
 code (own (symbol n)) = 1 + 256 * n
 code (own (variable v)) = 2 + 256 * codeOfSeen v
 code (own (application n)) = 3 + 256 * n
@@ -140,11 +142,11 @@ code-back (slot (metavariable m)) = read-back 5 m (omega arith)
 code-back (slot (function f)) = read-back 6 f (omega arith)
 code-back (slot (hole i)) = read-back 10 i (omega arith)
 
-code-injective : (l m : Viewed) → code l ≡ code m → l ≡ m
+pub code-injective : (l m : Viewed) → code l ≡ code m → l ≡ m
 code-injective l m e = sym (code-back l) ∙ ap (λ (n : ℕ). decode (n % 256) (n / 256)) e ∙ code-back m
 
 -- Views whose labels say how many children they have
-abbrev arity : {X B : Type 0} → Label X B → ℕ
+abbrev pub arity : {X B : Type 0} → Label X B → ℕ
 arity (own (symbol n)) = 0
 arity (own (variable v)) = 0
 arity (own (application n)) = n
@@ -173,7 +175,7 @@ codes-injective (cons l c s) (cons l′ c′ s′) xs ys n a b e =
 
 -- The key of a token is the code of the label's view. `root` is the scope of the term, and k binders of the term are above the node
 module _ (root : List ℕ) where
-  abbrev seenLabel : ℕ → Nameless → Viewed
+  abbrev pub seenLabel : ℕ → Nameless → Viewed
   seenLabel k l = withVariable (see (levelFrom root) k) l
 
   abbrev viewFrom : ℕ → Terms → View ℕ
@@ -199,7 +201,7 @@ module _ (root : List ℕ) where
           split j g q (decLt j k) ∙ sym (ap (λ (v : Variable). codeOfSeen (see (levelFrom root) k v)) (p ∙ ap bound z))
 
   module _ (ctx : Context) (k : ℕ) (sc : List ℕ) (n : ℕ) (deep : length sc ≡ k + length root) (room : length sc < 256) (small : n < 65536) where
-    label-code : (l : Named) (c : Forest Named) → NodeFits ctx l c
+    pub label-code : (l : Named) (c : Forest Named) → NodeFits ctx l c
         → keyOf (length root) (tokenOf (tagOf l) (length sc) n (payloadOf sc l)) ≡ code (seenLabel k (namelessLabel sc l))
     unfolding payloadOf keyOfPayload
     label-code (own (symbol m)) c f = key-token 1 (length sc) n m (omega arith) room small (length root)
@@ -224,7 +226,7 @@ enter-deep k d sc (own (application n)) h = h
 enter-deep k d sc (own (binder b x)) h = omega arith
 enter-deep k d sc (slot z) h = h
 
-enter-room : (sc : List ℕ) (l : Named) → length (enter l sc) ≤ suc (length sc)
+pub enter-room : (sc : List ℕ) (l : Named) → length (enter l sc) ≤ suc (length sc)
 enter-room sc (own (symbol n)) = omega arith
 enter-room sc (own (variable x)) = omega arith
 enter-room sc (own (application n)) = omega arith
@@ -244,11 +246,7 @@ keys-codes root k (suc levels) ctx sc (cons l c s) deep r room small =
     ap₂ _∷_ el (map-append (keyOf (length root)) (tokens (enter l sc) c) (tokens sc s) ∙ ap₂ _++_ ec es)
 
 -- A readable term's view is ranked
-trees-relabel : {E L M : Type 0} (into : L → E → E) (f : E → L → M) (e : E) (u : Forest L) → trees (relabel into f e u) ≡ trees u
-trees-relabel into f e nil = refl
-trees-relabel into f e (cons l c s) = ap suc (trees-relabel into f e s)
-
-fits-arity : (root : List ℕ) (k : ℕ) (ctx : Context) (sc : List ℕ) (l : Named) (c : Forest Named) → NodeFits ctx l c
+pub fits-arity : (root : List ℕ) (k : ℕ) (ctx : Context) (sc : List ℕ) (l : Named) (c : Forest Named) → NodeFits ctx l c
     → trees c ≡ arity (seenLabel root k (namelessLabel sc l))
 fits-arity root k ctx sc (own (symbol n)) c f = ap trees (f .1)
 fits-arity root k ctx sc (own (variable x)) c f = ap trees (f .1)
@@ -264,7 +262,7 @@ readable-ranked root k levels ctx sc nil r = tt
 readable-ranked root k zero ctx sc (cons l c s) r = absurd r
 readable-ranked root k (suc levels) ctx sc (cons l c s) r =
     let k′ = inner (namelessLabel sc l) k in (
-      trees-relabel inner (seenLabel root) k′ (nameless (enter l sc) c) ∙ trees-relabel enter namelessLabel (enter l sc) c ∙ fits-arity root k ctx sc l c (r .0),
+      relabel-trees inner (seenLabel root) k′ (nameless (enter l sc) c) ∙ relabel-trees enter namelessLabel (enter l sc) c ∙ fits-arity root k ctx sc l c (r .0),
       readable-ranked root k′ levels (contextBelow l ctx) (enter l sc) c (r .1),
       readable-ranked root k (suc levels) ctx sc s (r .2),
     )
@@ -442,13 +440,7 @@ term-ranked : (levels : ℕ) (ctx : Context) (sc : List ℕ) (t : NamedTerm) →
 term-ranked levels ctx sc t h = readable-ranked sc 0 levels ctx sc (one t) (h .readable)
 
 -- A term in a table
-length-tokens : (sc : List ℕ) (u : Forest Named) → length (tokens sc u) ≡ size u
-unfolding tokens
-length-tokens sc nil = refl
-length-tokens sc (cons l c s) =
-    ap suc (length-append (tokens (enter l sc) c) (tokens sc s) ∙ ap₂ _+_ (length-tokens (enter l sc) c) (length-tokens sc s))
-
-tag-room : (l : Named) → tagOf l < 256
+pub tag-room : (l : Named) → tagOf l < 256
 tag-room (own (symbol n)) = omega arith
 tag-room (own (variable x)) = omega arith
 tag-room (own (application n)) = omega arith
@@ -481,7 +473,7 @@ module _ (levels : ℕ) (ctx : Context) (table : List ℕ) (a : ℕ) (sc : List 
       ap sizeIn stands-at ∙ size-token (tagOf (t .0)) (length sc) (size (one t)) (payloadOf sc (t .0)) (tag-room (t .0)) root-room (h .sizes)
 
   pub stands-part : part table a ≡ tokens sc (one t)
-  stands-part = ap₂ take stands-size (s .split) ∙ take-at (tokens sc (one t)) (s .after) (size (one t)) (length-tokens sc (one t))
+  stands-part = ap₂ take stands-size (s .split) ∙ take-at (tokens sc (one t)) (s .after) (size (one t)) (tokens-length sc (one t))
 
   pub stands-keys : keysAt table a ≡ keys (length sc) (tokens sc (one t))
   unfolding keysAt
@@ -514,7 +506,7 @@ module _ (levels : ℕ) (ctx : Context) (table : List ℕ) (a : ℕ) (sc : List 
   stands-inside =
       let n : length table - a ≡ size (one t) + length (s .after) =
       sym (length-drop a table) ∙ ap length (s .split) ∙ length-append (tokens sc (one t)) (s .after)
-      ∙ ap (λ (m : ℕ). m + length (s .after)) (length-tokens sc (one t)) in
+      ∙ ap (λ (m : ℕ). m + length (s .after)) (tokens-length sc (one t)) in
       let z = stands-size levels ctx table a sc t h s in
       record { starts = omega arith; ends = omega arith }
 
