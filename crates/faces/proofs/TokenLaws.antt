@@ -15,9 +15,9 @@ use Rattle.meaning.specs.Field.{word, field, tagOf, fixedPart, encode, encodeCo
 use Rattle.meaning.specs.Read.{Context, inPattern, inExpression, contextBelow}
 use Rattle.meaning.specs.Readable.{Readable, WithinLimits}
 use Rattle.meaning.proofs.Lists.{all-append}
-use Rattle.table.specs.Token.{tokenOf, tagIn, depthIn, sizeIn, payloadIn, payloadOf, tokens, patternTokens, expressionTokens}
+use Rattle.table.specs.Token.{tokenOf, tagIn, sizeIn, payloadIn, payloadOf, tokens, patternTokens, expressionTokens}
 use Rattle.table.specs.Key.{at}
-use Rattle.table.proofs.KeyLaws.{tag-token, depth-token, size-token, payload-token, tag-room, enter-room}
+use Rattle.table.proofs.KeyLaws.{tag-token, size-token, payload-token, tag-room, enter-room}
 use Rattle.faces.specs.FlatWalk.{slotTag, isSlot, Table}
 use Rattle.table.proofs.TermLaws.{tokens-length}
 use Rattle.meaning.proofs.Proper.{patterns-readable, expressions-readable}
@@ -62,9 +62,6 @@ module _ (sc : List ℕ) (l : Named) (c : Forest Named) (room : length sc < 256)
 
   pub size-at : sizeIn (tokenAt sc l c) ≡ suc (size c)
   size-at = size-token (tagOf l) (length sc) (suc (size c)) (payloadOf sc l) (tag-room l) room small
-
-  pub depth-at : depthIn (tokenAt sc l c) ≡ length sc
-  depth-at = depth-token (tagOf l) (length sc) (suc (size c)) (payloadOf sc l) (tag-room l) room small
 
   pub payload-at : payloadIn (tokenAt sc l c) ≡ payloadOf sc l
   payload-at = payload-token (tagOf l) (length sc) (suc (size c)) (payloadOf sc l) (tag-room l) room small

@@ -8,7 +8,6 @@ pub mod Tables
 pub mod Spots
 pub mod Levels
 pub mod FaceTable
-pub mod FaceNodes
 pub mod Entries
 pub mod Filling
 pub mod ProblemTables

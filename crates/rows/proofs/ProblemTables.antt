@@ -7,7 +7,8 @@ use Prim.Native.Nat.{ℕ, zero, suc, _≤_, _<_}
 use native.Mathlib.Omega.{arith}
 use lib.ListN.{length, getD, take, getElem?}
 use lib.Seq.{getD-take, length-take-le}
-use Rattle.meaning.specs.Limits.{maxFunctions}
+use Rattle.meaning.specs.Limits.{maxFunctions, maxFaceNodes}
+use Rattle.meaning.specs.Basics.{isSome}
 use Rattle.meaning.specs.Problem.{Problem, functions}
 use Rattle.meaning.specs.Face.{Face, faces}
 use Rattle.meaning.specs.Row.{faceOf}
@@ -16,9 +17,12 @@ use Rattle.meaning.proofs.Lists.{never, at-mem}
 use Rattle.table.specs.Token.{expressionTokens}
 use Rattle.faces.specs.Verdict.{FirstAt, FirstsAt}
 use Rattle.rows.specs.Rows.{classesAt}
-use Rattle.rows.specs.FaceTable.{ClassesFrom, Whole, Faces, TablesFrom}
+use Rattle.rows.specs.FaceTable.{Whole, Faces, TablesFrom}
 use Rattle.rows.specs.Tabled.{FaceClasses, Tabled}
-use Rattle.rows.proofs.FaceNodes.{function-whole, function-classes}
+use Rattle.faces.proofs.NodeTokens.{expression-node}
+use Rattle.rows.specs.FaceTable.{FaceAt}
+use Rattle.rows.proofs.FaceTable.{face-whole, face-classes}
+use Rattle.rows.proofs.Problem.{small-faces}
 
 firsts-length : (p : Problem) (xs : List Face) (fs js : List ℕ) → FirstsAt p xs fs js → length fs ≡ length js
 firsts-length p xs [] [] h = refl
@@ -52,14 +56,21 @@ module _ (p : Problem) (a : Accepted p) (xs : List Face) (agree : faces p ≡ so
       let h : k < count = subst (λ (n : ℕ). k < n) counted (within (functions p) k f e) in
       subst (FirstAt p xs f) (getD-take count nodes k 0 h) (firsts-at p xs (functions p) (take count nodes) firsts k f e)
 
+  -- The function's face stands at the node
+  face-at : (k f : ℕ) → getElem? (functions p) k ≡ some f → FaceAt (expressionTokens p) (getD nodes k 0) (faceOf p f)
+  face-at k f e =
+      let n = expression-node p (a .within) (getD nodes k 0) (faceOf p f) (first k f e .term) in
+      record { levels = n .levels; ctx = n .context; scope = n .scope; named = n .named; held = n .held; stands = n .stands; is = sym (n .term) }
+
   -- THE CODE CAN MAKE THEM
   pub problem-faces : Faces (expressionTokens p) nodes count
+  unfolding maxFaceNodes
   problem-faces = record { few = few; whole = λ k h. whole k (element (functions p) k (subst (λ (n : ℕ). k < n) (sym counted) h)) }
     where
       whole : (k : ℕ) → (f : ℕ) × (getElem? (functions p) k ≡ some f) → Whole (expressionTokens p) (getD nodes k 0)
       whole k e =
-          let x = first k (e .0) (e .1) in
-          subst (Whole (expressionTokens p)) (sym (x .node)) (function-whole p a xs agree (e .0) (at-mem (functions p) k (e .0) (e .1)) (x .face) (x .isFirst))
+          face-whole (expressionTokens p) (getD nodes k 0) (faceOf p (e .0)) (face-at k (e .0) (e .1))
+          (small-faces p a (ap isSome agree) (e .0) (at-mem (functions p) k (e .0) (e .1)))
 
   -- ... AND THEY ARE THE PROBLEM'S
   pub problem-tabled : (ds : List ℕ) → TablesFrom (expressionTokens p) nodes count ds → Tabled p ds
@@ -67,7 +78,5 @@ module _ (p : Problem) (a : Accepted p) (xs : List Face) (agree : faces p ≡ so
     where
       there : (k f : ℕ) → getElem? (functions p) k ≡ some f → FaceClasses (faceOf p f) (classesAt ds k)
       there k f e =
-          let x = first k f e in
-          let h : k < count = subst (λ (n : ℕ). k < n) counted (within (functions p) k f e) in
-          function-classes p a xs agree f (at-mem (functions p) k f e) (x .face) (x .isFirst) (classesAt ds k)
-          (subst (λ (j : ℕ). ClassesFrom (expressionTokens p) j (classesAt ds k)) (x .node) (t .there k h))
+          face-classes (expressionTokens p) (getD nodes k 0) (faceOf p f) (face-at k f e) (classesAt ds k)
+          (t .there k (subst (λ (n : ℕ). k < n) counted (within (functions p) k f e)))
