@@ -188,7 +188,7 @@ accepted-proper p a =
       pattern = readable-pattern maxDepth [] (namedPatterns p) ps;
       separate = λ m x y. separated p (not-both-ways p (a .checked)) m (small .0 m x) x y;
       smallApplied = small .0;
-      smallPlain = small .1
+      smallPlain = small .1;
     }
 
 -- The ascending lists hold just the metavariables that occur

@@ -1,4 +1,4 @@
--- Laws of rows as masks.
+-- Laws of rows as masks (Lists to Tables), of the class table of a face (Spots to Entries), and of all functions (Filling, ProblemTables).
 pub mod Lists
 pub mod FaceChoices
 pub mod Problem

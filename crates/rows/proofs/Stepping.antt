@@ -1,7 +1,7 @@
 -- Stepping from one mask row to the next, for any tests of masks (p, top as in Order).
 --
 --   rowsAfter  the mask rows after a given one
---   firsts     the first choice of each function
+--   firstsFrom the first choice of each of so many functions; Fresh: from some function on a row has these
 --   Carried    what a step knows on its way from the last function to the first
 use mathlib.Core.Path.{_≡_, refl, ap, ap₂, sym, _∙_}
 use mathlib.Core.Logic.{⊎-elim}
@@ -124,17 +124,25 @@ drop-set row j v h =
 
 -- n functions, each with its first choice
 module _ (first : ℕ → ℕ) (n : ℕ) where
-  abbrev firstsFrom : ℕ → ℕ → MaskRow
+  abbrev pub firstsFrom : ℕ → ℕ → MaskRow
   firstsFrom f k = map first (countFrom f k)
 
   length-firsts : (f k : ℕ) → length (firstsFrom f k) ≡ k
   length-firsts f zero = refl
   length-firsts f (suc k) = ap suc (length-firsts (suc f) k)
 
+  pub firsts-at : (f k i : ℕ) → i < k → getD (firstsFrom f k) i 0 ≡ first (f + i)
+  firsts-at f zero i h = absurd (omega arith)
+  firsts-at f (suc k) zero h = let e : f ≡ f + 0 = omega arith in ap first e
+  firsts-at f (suc k) (suc i) h = let e : suc f + i ≡ f + suc i = omega arith in firsts-at (suc f) k i (omega arith) ∙ ap first e
+
   -- From function i on each mask is its function's first choice.
   pub record Fresh (row : MaskRow) (i : ℕ) : Type 0 where
     pub long : length row ≡ n
     pub firsts : drop i row ≡ firstsFrom i (n - i)
+
+  pub fresh-all : Fresh (firstsFrom 0 n) 0
+  fresh-all = let z : n ≡ n - 0 = omega arith in record { long = length-firsts 0 n; firsts = ap (firstsFrom 0) z }
 
   pub fresh-none : (row : MaskRow) → length row ≡ n → Fresh row n
   fresh-none row e =

@@ -16,7 +16,7 @@ use Rattle.masks.proofs.Order.{below-mem, mem-below}
 use Rattle.masks.proofs.Step.{first-choice, next-below, test-valid}
 use Rattle.rows.specs.Rows.{MaskRow, classesAt, choicesAt, maskRows, Tables, Steps}
 use Rattle.rows.proofs.Order.{allFrom, all-once, all-are}
-use Rattle.rows.proofs.Stepping.{rowsAfter, rows-after, Fresh, Carried, first-of-all, carried-at, carried-step, carried-end}
+use Rattle.rows.proofs.Stepping.{rowsAfter, rows-after, firstsFrom, firsts-at, Fresh, fresh-all, Carried, first-of-all, carried-at, carried-step, carried-end}
 
 -- Whether a mask is a choice of function k, and the function's first choice.
 abbrev pub passesAt : List ℕ → ℕ → ℕ → Bool
@@ -60,6 +60,14 @@ maskRows-once ds = rw (all-rows ds) (all-once (passesAt ds) (2 ^ width) 0 maxFun
 -- The first row is the row of all first choices.
 pub first-row : (ds : List ℕ) (row : MaskRow) → Tables ds → Fresh (firstAt ds) maxFunctions row 0 → placeOf (maskRows ds) ≡ at row
 first-row ds row t w = ap placeOf (all-rows ds ∙ first-of-all (passesAt ds) (2 ^ width) (firstAt ds) maxFunctions (starts ds t) row w)
+
+-- ... so that whatever row is the first has the first choice of each function.
+pub first-at : (ds : List ℕ) (row : MaskRow) → Tables ds → placeOf (maskRows ds) ≡ at row → (k : ℕ) → k < maxFunctions → getD row k 0 ≡ firstAt ds k
+first-at ds row t e k h =
+    let d = first-row ds (firstsFrom (firstAt ds) maxFunctions 0 maxFunctions) t (fresh-all (firstAt ds) maxFunctions) in
+    let q : row ≡ firstsFrom (firstAt ds) maxFunctions 0 maxFunctions = cc in
+    let z : 0 + k ≡ k = omega arith in
+    ap (λ (x : MaskRow). getD x k 0) q ∙ firsts-at (firstAt ds) maxFunctions 0 maxFunctions k h ∙ ap (firstAt ds) z
 
 -- The mask of a function that the step has come to, where it is not empty, is a choice that another follows.
 pub not-last : (ds : List ℕ) (old row : MaskRow) (j : ℕ) → Tables ds → old ∈ maskRows ds → j < maxFunctions

@@ -1,4 +1,4 @@
--- Class tables of a problem's functions, and the rows that they allow, as masks.
+-- Rows as masks, the class tables of a problem's functions, and the class table of one face.
 pub mod Rows
 pub mod Tabled
 pub mod FaceTable

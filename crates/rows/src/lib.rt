@@ -1,7 +1,7 @@
 // Class tables of the functions' faces, and the rows that they allow: one mask for each function.
 // What the rows of a table are and in what order they come is defined in specs/Rows; that they are the rows of a problem, in their order,
 // is proofs/Problem. What the class table of a face is in terms of the token table that it stands in is defined in specs/FaceTable; that
-// it is the face's class table is proofs/FaceTable.
+// it is the class table of a function's face is proofs/ProblemTables.
 
 ghost use mathlib.Core.Path.{_≡_};
 ghost use mathlib.Core.Logic.{_↔_};
@@ -90,9 +90,9 @@ pub fn first_row(ds: &[u64]) -> [u64; FUNCTIONS]
 }
 
 // The row after `row`, or that it is the last: the last function with a choice left takes its next one, and the later ones begin
-// again.
-pub fn next_row(ds: &[u64], row: [u64; FUNCTIONS]) -> Stepped
-    requires { ⌜ Tables (now ds) ⌝ ∗ ⌜ row ∈ maskRows (now ds) ⌝ }
+// again. The first row is lent so that beginning again costs nothing.
+pub fn next_row(ds: &[u64], first: [u64; FUNCTIONS], row: [u64; FUNCTIONS]) -> Stepped
+    requires { ⌜ Tables (now ds) ⌝ ∗ ⌜ row ∈ maskRows (now ds) ⌝ ∗ ⌜ placeOf (maskRows (now ds)) ≡ at first ⌝ }
     ensures { λ r. ⌜ Steps (now (ds .entry)) row (r .more) (r .row) ⌝ }
 {
     let mut next = row;
@@ -107,7 +107,7 @@ pub fn next_row(ds: &[u64], row: [u64; FUNCTIONS]) -> Stepped
                 row: next,
             };
         }
-        next[k] = first_choice(ds, k);
+        next[k] = first[k];
     }
     Stepped {
         more: false,

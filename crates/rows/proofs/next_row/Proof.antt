@@ -8,15 +8,15 @@ use lib.ListN.{length}
 use Rattle.meaning.specs.Limits.{maxFunctions}
 use Rattle.masks.specs.Mask.{width}
 use Rattle.rows.proofs.Stepping.{Carried, carried-none, carried-more}
-use Rattle.rows.proofs.Tables.{passesAt, firstAt, not-last, steps-on, steps-past}
+use Rattle.rows.proofs.Tables.{passesAt, firstAt, first-at, not-last, steps-on, steps-past}
 use Rattle.rows.proofs.next_row.Statement.{statement}
 use Rattle.rows.proofs.next_row.Tie as tie
 
 abbrev Inv-loop : tie.InvT-loop
-Inv-loop ds next₀ k₀ next k = (k ≤ maxFunctions) × Carried (passesAt ds) (2 ^ width) (firstAt ds) maxFunctions next₀ next k
+Inv-loop ds first next₀ k₀ next k = (k ≤ maxFunctions) × Carried (passesAt ds) (2 ^ width) (firstAt ds) maxFunctions next₀ next k
 
 abbrev μ-loop : tie.MeasureT-loop
-μ-loop ds next₀ k₀ next k = k
+μ-loop ds first next₀ k₀ next k = k
 
 -- the invariant, seen from the function that the turn is about
 before : (c : tie.At-loop Inv-loop μ-loop) → 0 < c .loop .k
@@ -49,7 +49,7 @@ next-choice-requires c κs =
       s .pre .0 .long,
       (
         omega arith,
-        not-last (s .args .ds .now) (s .args .row) (at .loop .next) (at .loop .k - 1) (s .pre .0) (s .pre .1) (omega arith) (before at (omega arith)) (omega arith),
+        not-last (s .args .ds .now) (s .args .row) (at .loop .next) (at .loop .k - 1) (s .pre .0) (s .pre .1 .0) (omega arith) (before at (omega arith)) (omega arith),
       ),
     )
 
@@ -68,13 +68,17 @@ returns c =
     let s = at .before .before in
     steps-on (s .args .ds .now) (s .args .row) (at .loop .next) (at .loop .k - 1) (c .next-choice .result) (s .pre .0) (omega arith) (before at (omega arith)) (c .next-choice .ensures)
 
-first-choice-requires : tie.Need-first-choice-requires Inv-loop μ-loop
-unfolding maxFunctions
-first-choice-requires c κs = (c .before .before .before .before .pre .0 .long, omega arith)
-
 mul-next-2 : tie.Need-mul-next-2 Inv-loop μ-loop
 unfolding maxFunctions
 mul-next-2 c = search needs
+
+array-read-next : tie.Need-array-read-next Inv-loop μ-loop
+unfolding maxFunctions
+array-read-next c = search needs
+
+mul-next-3 : tie.Need-mul-next-3 Inv-loop μ-loop
+unfolding maxFunctions
+mul-next-3 c = search needs
 
 array-write-next-2 : tie.Need-array-write-next-2 Inv-loop μ-loop
 unfolding maxFunctions
@@ -86,12 +90,13 @@ loop-less c = search needs
 loop-again : tie.Need-loop-again Inv-loop μ-loop
 unfolding maxFunctions
 loop-again c =
-    let at = c .before .before .before in
+    let at = c .before .before in
     let s = at .before .before in
-    let ds : List ℕ = s .args .ds .now in (
+    let ds : List ℕ = s .args .ds .now in
+    let few : at .loop .k - 1 < maxFunctions = omega arith in (
       omega arith,
-      rw (c .first-choice .ensures)
-          (carried-more (passesAt ds) (2 ^ width) (firstAt ds) maxFunctions (s .args .row) (at .loop .next) (at .loop .k - 1) (omega arith) (before at (omega arith)) (search needs)),
+      rw (first-at ds (s .args .t2) (s .pre .0) (s .pre .1 .1) (at .loop .k - 1) few)
+          (carried-more (passesAt ds) (2 ^ width) (firstAt ds) maxFunctions (s .args .row) (at .loop .next) (at .loop .k - 1) few (before at (omega arith)) (search needs)),
     )
 
 returns-2 : tie.Need-returns-2 Inv-loop μ-loop
@@ -116,8 +121,9 @@ next-row-spec =
     mul-next
     array-write-next
     returns
-    first-choice-requires
     mul-next-2
+    array-read-next
+    mul-next-3
     array-write-next-2
     loop-less
     loop-again
