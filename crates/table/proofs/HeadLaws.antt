@@ -35,9 +35,9 @@ module _ (s : Bytes) where
   unfolding partsOf
   parts-past h l = record { says = rw (le-ltb (length s) 3 h, lt-ltb (length s - 3) (wordAt s 1) l); fits = tt }
 
-  pub parts-field : 3 ≤ length s → wordAt s 1 ≤ length s - 3 → PartsDone s (parts.Field (getD s 0 0) (wordAt s 1))
+  pub parts-field : 3 ≤ length s → wordAt s 1 ≤ length s - 3 → wordAt s 1 < 65536 → PartsDone s (parts.Field (getD s 0 0) (wordAt s 1))
   unfolding partsOf
-  parts-field h l = record { says = rw (le-ltb (length s) 3 h, le-ltb (length s - 3) (wordAt s 1) l); fits = omega arith }
+  parts-field h l w = record { says = rw (le-ltb (length s) 3 h, le-ltb (length s - 3) (wordAt s 1) l); fits = (omega arith, w) }
 
 -- A term's head
 module _ (ctx : Context) (s : Bytes) where
@@ -139,7 +139,8 @@ module _ (levels : ℕ) (ctx : Context) (s : Bytes) where
             ∙ rw (part-at (fixedOf node) n s) refl;
         fits = record {
           deep = positive levels z;
-          start = omega (arith, due-fixed (dueOf node) (fixedOf node) (length (take n (drop 3 s))) d, rw (add-sub-cancel-left 3 n) at (part-length 3 (3 + n) s (omega arith) (h .fits)));
-          within = h .fits;
+          start = omega (arith, due-fixed (dueOf node) (fixedOf node) (length (take n (drop 3 s))) d, rw (add-sub-cancel-left 3 n) at (part-length 3 (3 + n) s (omega arith) (h .fits .0)));
+          within = h .fits .0;
+          short = omega (arith, h .fits .1);
         };
       }

@@ -49,7 +49,7 @@ module _ (left : ℕ) (s : Bytes) where
 
   pub top-content : {t n : ℕ} → PartsDone s (parts.Field t n) → t ≡ 7 → (left ≡ 0 → ⊥) → TopDone left s (tops.Content n)
   unfolding constraintHead
-  top-content {t} {n} p e z = record { says = rw (← p .says, eq-eqb t 7 e, ne-eqb left 0 z, e); fits = (p .fits, positive left z) }
+  top-content {t} {n} p e z = record { says = rw (← p .says, eq-eqb t 7 e, ne-eqb left 0 z, e); fits = (p .fits .0, positive left z) }
 
 -- A constraint
 pair-end : (k m : ℕ) → m ≤ k → eqb (k - m) k ≡ eqb m 0
@@ -278,10 +278,10 @@ module _ (n : ℕ) (s : Bytes) (fits : 3 + n ≤ length s) where
   content-length = part-length 3 (3 + n) s (omega arith) (fits) ∙ add-sub-cancel-left 3 n
 
   part-space : {room : ℕ} → Space (length s) room → Space (length (take (3 + n - 3) (drop 3 s))) room
-  part-space r = record { table = omega (arith, content-length, r .table, fits); small = omega (arith, content-length, r .small, fits) }
+  part-space r = record { table = omega (arith, content-length, r .table, fits) }
 
   pub content-spaces : {m k : ℕ} → Spaces (length s) m k → Spaces (length (take (3 + n - 3) (drop 3 s))) m k
-  content-spaces r = record { pattern = part-space (r .pattern); expression = part-space (r .expression) }
+  content-spaces r = record { pattern = part-space (r .pattern); expression = part-space (r .expression); small = omega (arith, content-length, r .small, fits) }
 
   pub constraints-length : length (take (length s - (3 + n)) (drop (3 + n) s)) ≡ length s - (3 + n)
   constraints-length = part-length (3 + n) (length s) s (fits) (omega arith)
@@ -290,11 +290,12 @@ module _ (n : ℕ) (s : Bytes) (fits : 3 + n ≤ length s) where
       → Space (length (take (length s - (3 + n)) (drop (3 + n) s))) (length (take (length p - m) (drop m p)))
   rest-space m p h r =
       let b = part-length m (length p) p (omega (arith, h, r .table, fits)) (omega arith) in
-      record { table = omega (arith, constraints-length, b, h, r .table, fits); small = omega (arith, constraints-length, r .small) }
+      record { table = omega (arith, constraints-length, b, h, r .table, fits) }
 
   pub constraints-spaces : (m k : ℕ) (p y : List ℕ) → 3 * m ≤ n → 3 * k ≤ n → Spaces (length s) (length p) (length y)
       → Spaces (length (take (length s - (3 + n)) (drop (3 + n) s))) (length (take (length p - m) (drop m p))) (length (take (length y - k) (drop k y)))
-  constraints-spaces m k p y h g r = record { pattern = rest-space m p h (r .pattern); expression = rest-space k y g (r .expression) }
+  constraints-spaces m k p y h g r =
+      record { pattern = rest-space m p h (r .pattern); expression = rest-space k y g (r .expression); small = omega (arith, constraints-length, r .small) }
 
 -- The whole input: the returns of `read`
 pub problem-over : (s o x : List ℕ) → 4096 < length s → ProblemDone (readProblem s) o o x x (answers.Refused 1)

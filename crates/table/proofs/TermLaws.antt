@@ -290,7 +290,10 @@ pub inner-space : {levels fixed end : ℕ} (s o : List ℕ) → OpenFits levels 
 inner-space {levels} {fixed} {end} s o h r =
     let a = part-length (3 + fixed) end s (h .start) (h .within) in
     let b = part-length 1 (length o) o (open-room s o h r) (omega arith) in
-    record { table = omega (arith, a, b, h .start, h .within, r .table); small = omega (arith, a, h .within, r .small) }
+    record { table = omega (arith, a, b, h .start, h .within, r .table) }
+
+pub inner-short : {levels fixed end : ℕ} (s : Bytes) → OpenFits levels (length s) fixed end → length (take (end - (3 + fixed)) (drop (3 + fixed) s)) < 65536
+inner-short {levels} {fixed} {end} s h = omega (arith, part-length (3 + fixed) end s (h .start) (h .within), h .short)
 
 pub later-less : {k m : ℕ} (s : Bytes) → TookFits s k m → length (take (length s - k) (drop k s)) + 3 ≤ length s
 later-less {k} s h = omega (arith, part-length k (length s) s (h .within) (omega arith), h .some, h .within)
@@ -300,4 +303,4 @@ pub later-space : {k m : ℕ} (s p : List ℕ) → TookFits s k m → Space (len
 later-space {k} {m} s p h r =
     let a = part-length k (length s) s (h .within) (omega arith) in
     let b = part-length m (length p) p (omega (arith, h .within, h .nodes, r .table)) (omega arith) in
-    record { table = omega (arith, a, b, h .within, h .nodes, r .table); small = omega (arith, a, r .small) }
+    record { table = omega (arith, a, b, h .within, h .nodes, r .table) }

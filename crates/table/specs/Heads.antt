@@ -4,7 +4,7 @@
 --   fixedOf    the length of the fixed part of its content
 --   dueOf      how many inner fields it must have
 use mathlib.Core.Path.{_≡_}
-use Prim.Native.Nat.{ℕ, zero, suc, _+_, _-_, _≤_}
+use Prim.Native.Nat.{ℕ, zero, suc, _+_, _-_, _≤_, _<_}
 use lib.ListN.{length, take, drop}
 use Rattle.meaning.specs.Term.{Forest, symbol, variable, application, binder, own, slot, metavariable, function, hole, Named, NamedTerm, trees}
 use Rattle.meaning.specs.Field.{Bytes}
@@ -102,9 +102,9 @@ unfoldable pub readFields : Due → Reader → Bytes → Answer (Forest Named)
 readFields dues.All read s = readAll (length s) read s
 readFields (dues.Exactly n) read s = readExactly n read s
 
--- A head that is read lies in the bytes
+-- A head that is read lies in the bytes, and its content is as long as two bytes can say
 abbrev pub PartsFit : ℕ → Parts → Type 0
-PartsFit k (parts.Field t n) = 3 + n ≤ k
+PartsFit k (parts.Field t n) = (3 + n ≤ k) × (n < 65536)
 PartsFit k (parts.Refused r) = Unit {0}
 
 pub record PartsDone (s : Bytes) (r : Parts) : Type 0 where
@@ -112,7 +112,7 @@ pub record PartsDone (s : Bytes) (r : Parts) : Type 0 where
   pub fits : PartsFit (length s) r
 
 abbrev pub HeadFits : ℕ → Head → Type 0
-HeadFits k (heads.Field t n) = 3 + n ≤ k
+HeadFits k (heads.Field t n) = (3 + n ≤ k) × (n < 65536)
 HeadFits k (heads.Refused r) = Unit {0}
 
 pub record HeadDone (ctx : read.Context) (s : Bytes) (r : Head) : Type 0 where
@@ -145,6 +145,7 @@ pub record OpenFits (levels length fixed end : ℕ) : Type 0 where
   pub deep : 1 ≤ levels
   pub start : 3 + fixed ≤ end
   pub within : end ≤ length
+  pub short : end < 3 + 65536
 
 abbrev pub OpenedFits : ℕ → ℕ → Opened → Type 0
 OpenedFits levels k (opens.Refused r) = Unit {0}

@@ -1,6 +1,7 @@
 -- What reading a term promises: the answer, and the front of the buffer that is lent.
---   Space     room for the tokens: a node takes three bytes or more, and its token has 16 bits for its size
---   Room      what a call of the recursive functions asks: a site, and space
+--   Space     room for the tokens: a node takes three bytes or more
+--   Room      what `read_term` asks: a site, and space
+--   Inner     what `read_fields` asks: the same, and bytes of a content, so that a token has room for the size
 --   Written   the buffer's front has the tokens of what is read, and no entry after them is changed
 --   ..Answer  the code's answer: the refusal's number, or counts of what is read
 --   ..Done    both
@@ -29,11 +30,14 @@ use Rattle.table.specs.declared.term.Next.the-variants as nexts
 
 pub record Space (bytes room : ℕ) : Type 0 where
   pub table : bytes ≤ 3 * room
-  pub small : bytes ≤ 3 * 65535
 
 pub record Room (x : Site) (bytes room : ℕ) : Type 0 where
   pub good : Good x
   pub space : Space bytes room
+
+pub record Inner (x : Site) (bytes room : ℕ) : Type 0 where
+  pub outer : Room x bytes room
+  pub short : bytes < 65536
 
 unfoldable pub Written : {A : Type 0} → (A → List ℕ) → Answer A → List ℕ → List ℕ → Type 0
 Written row (refused r) before after = Unit {0}

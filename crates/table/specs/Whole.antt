@@ -42,10 +42,11 @@ pub record TopDone (left : ℕ) (s : Bytes) (r : Top) : Type 0 where
   pub says : topFrom s r ≡ constraintHead left s
   pub fits : TopFits left (length s) r
 
--- Room in the two tables of a problem
+-- Room in the two tables of a problem, and bytes few enough for 16-bit counts of nodes
 pub record Spaces (bytes patterns expressions : ℕ) : Type 0 where
   pub pattern : Space bytes patterns
   pub expression : Space bytes expressions
+  pub small : bytes < 65536
 
 -- A constraint's two terms, each in its table
 abbrev pub pairedOf : ℕ → ℕ → Term → Pair

@@ -14,7 +14,7 @@ ghost use Rattle.meaning.specs.Limits.{maxDepth};
 ghost use Rattle.meaning.specs.Read.{readTerm, inPattern, inExpression, inBody};
 ghost use Rattle.table.specs.Heads.{readFields};
 ghost use Rattle.table.specs.Site.{siteScope, siteContext};
-ghost use Rattle.table.specs.Reading.{Space, Room, TermDone, FieldsDone, FieldsFit, nextOf, Closed, joinedOf};
+ghost use Rattle.table.specs.Reading.{Space, Room, Inner, TermDone, FieldsDone, FieldsFit, nextOf, Closed, joinedOf};
 
 enum Fields {
     // The nodes of all the fields, and how many fields.
@@ -96,7 +96,7 @@ pub fn read_term(s: &[u8], site: Site, out: &mut [u64]) -> Term
 }
 
 fn read_fields(s: &[u8], due: Due, site: Site, out: &mut [u64]) -> Fields
-    requires { ⌜ Room site (length (now s)) (length (now out)) ⌝ }
+    requires { ⌜ Inner site (length (now s)) (length (now out)) ⌝ }
     ensures { λ r. ⌜ FieldsDone (siteScope site) (readFields due (readTerm (site .levels) (siteContext site)) (now (s .entry))) (now (out .entry)) (now (out .exit)) r ⌝ }
 {
     match next_due(due, s.len()) {

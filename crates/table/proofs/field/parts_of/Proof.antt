@@ -1,4 +1,5 @@
--- `parts_of` meets its contract: 2, 3, or the parts of the field.
+-- `parts_of` meets its contract: 2, 3, or the parts of the field; two bytes make a length below 65,536.
+use native.Mathlib.Omega.{arith}
 use Rattle.table.proofs.HeadLaws.{parts-short, parts-past, parts-field}
 use borrow.Author.Needs.{needs}
 use Rattle.table.proofs.field.parts_of.Statement.{statement}
@@ -23,7 +24,10 @@ shared-slice-read-t8 : tie.Need-shared-slice-read-t8
 shared-slice-read-t8 c = search needs
 
 returns-3 : tie.Need-returns-3
-returns-3 c = rw (c .before .before .word .ensures) (parts-field _ (c .before .before .before .if1 .left) (rw (c .before .before .word .ensures) at (c .before .if2 .left)))
+returns-3 c =
+    let byte = c .shared-slice-known2 .given in
+    rw (c .before .before .word .ensures)
+    (parts-field _ (c .before .before .before .if1 .left) (rw (c .before .before .word .ensures) at (c .before .if2 .left)) (omega (arith, byte 1, byte 2)))
 
 pub parts-of-spec : {M : Type 1} → statement M
 parts-of-spec =

@@ -7,7 +7,7 @@ use Rattle.meaning.specs.Read.{readPair}
 use Rattle.table.specs.Whole.{Spaces, TopDone, PairDone}
 use Rattle.table.specs.declared.problem.Top.the-variants as tops
 use Rattle.table.specs.declared.problem.Pair.the-variants as pairs
-use Rattle.table.proofs.ProblemLaws.{PairTook, pair-took, problem-none, problem-cut, problem-first, problem-listed, problem-fits, content-length, content-spaces, constraints-length, constraints-spaces}
+use Rattle.table.proofs.ProblemLaws.{pair-took, problem-none, problem-cut, problem-first, problem-listed, problem-fits, content-length, content-spaces, constraints-length, constraints-spaces}
 use borrow.Author.Needs.{needs}
 use Prim.Native.Nat.{ℕ, _+_, _-_, _*_, _≤_, _<_}
 use borrow.Fn.Kinds.{In}
@@ -119,25 +119,25 @@ sub-read-constraints-2 : (t : ℕ) → lts.Need-sub-read-constraints-2 (callees 
 sub-read-constraints-2 t c = omega (arith, top t (c .before .before .before .before .before .before .before .before .before .before .before .before .before) .fits)
 
 mul-read-constraints : (t : ℕ) → lts.Need-mul-read-constraints (callees t) (read-constraints-at t) read-constraints.Post
-mul-read-constraints t c = omega (arith, first-room t (c .before .before), first-spaces t (c .before .before) .pattern, first-spaces t (c .before .before) .expression, top t (c .before .before .before .before .before .before .before .before .before .before .before .before .before) .fits)
+mul-read-constraints t c = omega (arith, first-room t (c .before .before), first-spaces t (c .before .before) .pattern, first-spaces t (c .before .before) .expression, first-spaces t (c .before .before) .small, top t (c .before .before .before .before .before .before .before .before .before .before .before .before .before) .fits)
 
 sub-read-constraints-3 : (t : ℕ) → lts.Need-sub-read-constraints-3 (callees t) (read-constraints-at t) read-constraints.Post
-sub-read-constraints-3 t c = omega (arith, first-room t (c .before .before), first-spaces t (c .before .before) .pattern, first-spaces t (c .before .before) .expression, top t (c .before .before .before .before .before .before .before .before .before .before .before .before .before) .fits)
+sub-read-constraints-3 t c = omega (arith, first-room t (c .before .before), first-spaces t (c .before .before) .pattern, first-spaces t (c .before .before) .expression, first-spaces t (c .before .before) .small, top t (c .before .before .before .before .before .before .before .before .before .before .before .before .before) .fits)
 
 part-read-constraints-start-2 : (t : ℕ) → lts.Need-part-read-constraints-start-2 (callees t) (read-constraints-at t) read-constraints.Post
-part-read-constraints-start-2 t c = omega (arith, first-room t (c .before .before), first-spaces t (c .before .before) .pattern, first-spaces t (c .before .before) .expression, top t (c .before .before .before .before .before .before .before .before .before .before .before .before .before) .fits)
+part-read-constraints-start-2 t c = omega (arith, first-room t (c .before .before), first-spaces t (c .before .before) .pattern, first-spaces t (c .before .before) .expression, first-spaces t (c .before .before) .small, top t (c .before .before .before .before .before .before .before .before .before .before .before .before .before) .fits)
 
 part-read-constraints-end-2 : (t : ℕ) → lts.Need-part-read-constraints-end-2 (callees t) (read-constraints-at t) read-constraints.Post
 part-read-constraints-end-2 t c = search needs
 
 mul-read-constraints-2 : (t : ℕ) → lts.Need-mul-read-constraints-2 (callees t) (read-constraints-at t) read-constraints.Post
-mul-read-constraints-2 t c = omega (arith, first-room t (c .before .before .before), first-spaces t (c .before .before .before) .pattern, first-spaces t (c .before .before .before) .expression, top t (c .before .before .before .before .before .before .before .before .before .before .before .before .before .before) .fits)
+mul-read-constraints-2 t c = omega (arith, first-room t (c .before .before .before), first-spaces t (c .before .before .before) .pattern, first-spaces t (c .before .before .before) .expression, first-spaces t (c .before .before .before) .small, top t (c .before .before .before .before .before .before .before .before .before .before .before .before .before .before) .fits)
 
 sub-read-constraints-4 : (t : ℕ) → lts.Need-sub-read-constraints-4 (callees t) (read-constraints-at t) read-constraints.Post
-sub-read-constraints-4 t c = omega (arith, first-room t (c .before .before .before), first-spaces t (c .before .before .before) .pattern, first-spaces t (c .before .before .before) .expression, top t (c .before .before .before .before .before .before .before .before .before .before .before .before .before .before) .fits)
+sub-read-constraints-4 t c = omega (arith, first-room t (c .before .before .before), first-spaces t (c .before .before .before) .pattern, first-spaces t (c .before .before .before) .expression, first-spaces t (c .before .before .before) .small, top t (c .before .before .before .before .before .before .before .before .before .before .before .before .before .before) .fits)
 
 part-read-constraints-start-3 : (t : ℕ) → lts.Need-part-read-constraints-start-3 (callees t) (read-constraints-at t) read-constraints.Post
-part-read-constraints-start-3 t c = omega (arith, first-room t (c .before .before .before), first-spaces t (c .before .before .before) .pattern, first-spaces t (c .before .before .before) .expression, top t (c .before .before .before .before .before .before .before .before .before .before .before .before .before .before) .fits)
+part-read-constraints-start-3 t c = omega (arith, first-room t (c .before .before .before), first-spaces t (c .before .before .before) .pattern, first-spaces t (c .before .before .before) .expression, first-spaces t (c .before .before .before) .small, top t (c .before .before .before .before .before .before .before .before .before .before .before .before .before .before) .fits)
 
 part-read-constraints-end-3 : (t : ℕ) → lts.Need-part-read-constraints-end-3 (callees t) (read-constraints-at t) read-constraints.Post
 part-read-constraints-end-3 t c = search needs
@@ -156,9 +156,9 @@ listed-requires t c κs =
     let fits = top t (c .before .before .before .before .before .before .before .before .before .before .before .before .before .before .before .before .before .before .before .before) .fits .0 in
     let spaces = first-spaces t (c .before .before .before .before .before .before .before .before .before) in
     let room = first-room t (c .before .before .before .before .before .before .before .before .before) in (
-      omega (arith, room .0, spaces .pattern .small, fits),
-      omega (arith, room .1, spaces .pattern .small, fits),
-      problem-fits _ _ _ _ _ _ _ (c .before .before .before .before .read-constraints .ensures) (omega (arith, constraints-length n (now (c .before .before .before .before .before .before .before .before .before .before .before .before .before .before .before .before .before .before .before .before .before .before .before .before .before .before .before .args .s)) fits, spaces .pattern .small)),
+      omega (arith, room .0, spaces .small, fits),
+      omega (arith, room .1, spaces .small, fits),
+      problem-fits _ _ _ _ _ _ _ (c .before .before .before .before .read-constraints .ensures) (omega (arith, constraints-length n (now (c .before .before .before .before .before .before .before .before .before .before .before .before .before .before .before .before .before .before .before .before .before .before .before .before .before .before .before .args .s)) fits, spaces .small)),
     )
 
 returns-2 : (t : ℕ) → lts.Need-returns-2 (callees t) (read-constraints-at t) read-constraints.Post

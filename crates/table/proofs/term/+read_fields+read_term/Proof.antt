@@ -12,7 +12,7 @@ use Rattle.table.specs.declared.answer.Term.the-variants as terms
 use Rattle.table.specs.declared.node.Opened.the-variants as opens
 use Rattle.table.specs.declared.term.Next.the-variants as nexts
 use Rattle.table.proofs.Bounds.{term-fine}
-use Rattle.table.proofs.TermLaws.{TookFits, took-fits, fields-fit, term-refused, term-closed, fields-none, fields-refused, first-refused, fields-joined, inner-less, open-room, inner-space, later-less, later-space}
+use Rattle.table.proofs.TermLaws.{TookFits, took-fits, fields-fit, term-refused, term-closed, fields-none, fields-refused, first-refused, fields-joined, inner-less, open-room, inner-space, inner-short, later-less, later-space}
 use borrow.Author.Needs.{needs}
 use Prim.Native.Nat.{ℕ, _+_, _*_, _≤_, _<_}
 use borrow.Fn.Kinds.{In}
@@ -107,7 +107,12 @@ first-fits t c = took-fits _ (term-fine _ _) _ _ _ _ (first t c)
 -- room after it
 first-space : (t : ℕ) (c : read-fields-lts.After-k (read-fields-callees t) (read-fields-at t) read-fields.Post)
     → Space (length (now (c .before .before .before .before .before .before .before .before .before .before .before .before .args .s))) (length (c .before .before .before .before .read-term .last .1 .1 .0))
-first-space t c = rw (c .before .before .before .before .read-term .kept .1 .1 .0) (c .before .before .before .before .before .before .before .before .before .before .before .before .pre .1 .space)
+first-space t c = rw (c .before .before .before .before .read-term .kept .1 .1 .0) (c .before .before .before .before .before .before .before .before .before .before .before .before .pre .1 .outer .space)
+
+-- and its bytes are those of a content
+first-short : (t : ℕ) (c : read-fields-lts.After-k (read-fields-callees t) (read-fields-at t) read-fields.Post)
+    → length (now (c .before .before .before .before .before .before .before .before .before .before .before .before .args .s)) < 65536
+first-short t c = c .before .before .before .before .before .before .before .before .before .before .before .before .pre .1 .short
 
 read-fields-next-due-requires : (t : ℕ) → read-fields-lts.Need-next-due-requires (read-fields-callees t) (read-fields-at t) read-fields.Post
 read-fields-next-due-requires t c κs = search needs
@@ -122,7 +127,7 @@ read-fields-enum-known-later : (t : ℕ) → read-fields-lts.Need-enum-known-lat
 read-fields-enum-known-later t c = search needs
 
 read-fields-read-term-requires : (t : ℕ) → read-fields-lts.Need-read-term-requires (read-fields-callees t) (read-fields-at t) read-fields.Post
-read-fields-read-term-requires t c κs = (omega (arith, c .before .before .before .before .before .before .before .pre .0), c .before .before .before .before .before .before .before .pre .1)
+read-fields-read-term-requires t c κs = (omega (arith, c .before .before .before .before .before .before .before .pre .0), c .before .before .before .before .before .before .before .pre .1 .outer)
 
 read-fields-enum-known-r-2 : (t : ℕ) → read-fields-lts.Need-enum-known-r-2 (read-fields-callees t) (read-fields-at t) read-fields.Post
 read-fields-enum-known-r-2 t c = search needs
@@ -141,7 +146,7 @@ read-fields-part-read-fields-end t c = search needs
 
 read-fields-mul-read-fields : (t : ℕ) → read-fields-lts.Need-mul-read-fields (read-fields-callees t) (read-fields-at t) read-fields.Post
 read-fields-mul-read-fields t c =
-    let room = first-space t (c .before .before) in let fits = first-fits t (c .before .before) in omega (arith, fits .within, fits .nodes, room .small)
+    let fits = first-fits t (c .before .before) in omega (arith, fits .within, fits .nodes, first-short t (c .before .before))
 
 read-fields-sub-read-fields-2 : (t : ℕ) → read-fields-lts.Need-sub-read-fields-2 (read-fields-callees t) (read-fields-at t) read-fields.Post
 read-fields-sub-read-fields-2 t c =
@@ -157,13 +162,13 @@ read-fields-part-read-fields-end-2 t c = search needs
 read-fields-read-fields-requires : (t : ℕ) → read-fields-lts.Need-read-fields-requires (read-fields-callees t) (read-fields-at t) read-fields.Post
 read-fields-read-fields-requires t c κs =
     let fits = first-fits t (c .before .before .before) in
-    (omega (arith, later-less _ fits, c .before .before .before .before .before .before .before .before .before .before .before .before .before .before .before .pre .0), record { good = c .before .before .before .before .before .before .before .before .before .before .before .before .before .before .before .pre .1 .good; space = later-space (now (c .before .before .before .before .before .before .before .before .before .before .before .before .before .before .before .args .s)) (c .before .before .before .before .before .before .before .read-term .last .1 .1 .0) fits (first-space t (c .before .before .before)) })
+    (omega (arith, later-less _ fits, c .before .before .before .before .before .before .before .before .before .before .before .before .before .before .before .pre .0), record { outer = record { good = c .before .before .before .before .before .before .before .before .before .before .before .before .before .before .before .pre .1 .outer .good; space = later-space (now (c .before .before .before .before .before .before .before .before .before .before .before .before .before .before .before .args .s)) (c .before .before .before .before .before .before .before .read-term .last .1 .1 .0) fits (first-space t (c .before .before .before)) }; short = omega (arith, later-less _ fits, first-short t (c .before .before .before)) })
 
 read-fields-joined-requires : (t : ℕ) → read-fields-lts.Need-joined-requires (read-fields-callees t) (read-fields-at t) read-fields.Post
 read-fields-joined-requires t c κs =
     let fits = first-fits t (c .before .before .before .before .before .before) in
-    let room = first-space t (c .before .before .before .before .before .before) in
-    (omega (arith, fits .within, fits .nodes, room .small), fields-fit _ (term-fine _ _) _ _ _ _ _ _ (c .before .before .read-fields .ensures) (omega (arith, later-less _ fits, room .small)))
+    let short = first-short t (c .before .before .before .before .before .before) in
+    (omega (arith, fits .within, fits .nodes, short), fields-fit _ (term-fine _ _) _ _ _ _ _ _ (c .before .before .read-fields .ensures) (omega (arith, later-less _ fits, short)))
 
 read-fields-returns : (t : ℕ) → read-fields-lts.Need-returns (read-fields-callees t) (read-fields-at t) read-fields.Post
 read-fields-returns t c = fields-none _ (term-fine _ _) _ _ _ _ (sym (c .before .before .next-due .ensures) ∙ c .enum-told .given .1)
@@ -225,7 +230,7 @@ read-term-part-read-fields-end-2 t c = search needs
 read-term-read-fields-requires : (t : ℕ) → read-term-lts.Need-read-fields-requires (read-term-callees t) (read-term-at t) read-term.Post
 read-term-read-fields-requires t c κs =
     let fits = inside t (c .before .before .before .before) in
-    (omega (arith, inner-less (now (c .before .before .before .before .before .before .before .before .before .before .before .args .s)) fits, c .before .before .before .before .before .before .before .before .before .before .before .pre .0), record { good = c .before .below .ensures .good; space = inner-space (now (c .before .before .before .before .before .before .before .before .before .before .before .args .s)) (now (c .before .before .before .before .before .before .before .before .before .before .before .args .out)) fits (c .before .before .before .before .before .before .before .before .before .before .before .pre .1 .space) })
+    (omega (arith, inner-less (now (c .before .before .before .before .before .before .before .before .before .before .before .args .s)) fits, c .before .before .before .before .before .before .before .before .before .before .before .pre .0), record { outer = record { good = c .before .below .ensures .good; space = inner-space (now (c .before .before .before .before .before .before .before .before .before .before .before .args .s)) (now (c .before .before .before .before .before .before .before .before .before .before .before .args .out)) fits (c .before .before .before .before .before .before .before .before .before .before .before .pre .1 .space) }; short = inner-short _ fits })
 
 read-term-close-requires : (t : ℕ) → read-term-lts.Need-close-requires (read-term-callees t) (read-term-at t) read-term.Post
 read-term-close-requires t c κs =
@@ -234,7 +239,7 @@ read-term-close-requires t c κs =
     let room = c .before .before .before .before .before .before .before .before .before .before .before .before .before .before .before .pre .1 in (
       omega (arith, room .good .levels),
       (omega (arith, c .before .before .out .given .1, has-room t (c .before .before .before .before .before .before .before .before))),
-      fields-fit _ (term-fine _ _) _ _ _ _ _ _ (c .before .before .before .read-fields .ensures) (omega (arith, inner-less (now (x .s)) fits, room .space .small)),
+      fields-fit _ (term-fine _ _) _ _ _ _ _ _ (c .before .before .before .read-fields .ensures) (omega (arith, inner-short (now (x .s)) fits)),
     )
 
 read-term-returns : (t : ℕ) → read-term-lts.Need-returns (read-term-callees t) (read-term-at t) read-term.Post
