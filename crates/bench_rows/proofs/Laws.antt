@@ -13,6 +13,7 @@ use Rattle.meaning.specs.Limits.{maxFunctions}
 use Rattle.meaning.specs.Basics.{_∈_}
 use Rattle.meaning.specs.Search.{at, placeOf}
 use Rattle.meaning.proofs.Lists.{never}
+use Rattle.rows.proofs.Filling.{getD-zeros}
 use Rattle.masks.specs.Mask.{width}
 use Rattle.masks.specs.Table.{Lowest, Table}
 use Rattle.rows.specs.Rows.{MaskRow, classesAt, maskRows, Tables, Steps}
@@ -37,11 +38,6 @@ unfolding Steps
 step-in ds row next s m =
     let r = split row (maskRows ds) m in
     subst (λ (l : List MaskRow). next ∈ l) (sym (r .2)) (Memᴰ·append-right (r .0) (List·Memᴰ·tail (place-mem (r .1) next (s (r .0) (r .1) (r .2) .goes refl))))
-
-getD-zeros : (n i : ℕ) → _≡_ {A = ℕ} (getD (replicate {A = ℕ} n 0) i 0) 0
-getD-zeros zero i = refl
-getD-zeros (suc n) zero = refl
-getD-zeros (suc n) (suc i) = getD-zeros n i
 
 -- One class, of node 0 of the first function
 module _ (n d : ℕ) (some : 0 < n) (low : Lowest width d 0) where

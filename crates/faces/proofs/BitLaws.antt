@@ -2,47 +2,24 @@
 use mathlib.Core.Path.{_≡_, refl, ap, ap₂, sym, _∙_}
 use mathlib.Core.Bool.{Bool, true, false, _&&_, _||_, not}
 use mathlib.Core.List.{List, [], _∷_, List·Memᴰ·head, List·Memᴰ·tail}
-use Prim.Native.Nat.{ℕ, zero, suc, _+_, _*_, _-_, _/_, _%_, _^_, _<_, min, max}
+use Prim.Native.Nat.{ℕ, zero, suc, _+_, _-_, _/_, _%_, _^_, _<_}
 use native.Mathlib.Nat.{pow-suc, one-mul, div-eq-of-lt, zero-div}
 use native.Mathlib.Omega.{arith}
 use native.Mathlib.Decide.{decLt}
 use lib.ListN.{length}
 use lib.Dec.{eqb}
 use lib.Pow.{pow-lt, pow-add, shl-shr, shr-shr}
-use lib.Bits.{bitAnd, bitOr, and-step, or-step, and-shr, or-shr}
+use lib.Bits.{bitAnd, bitOr, and-shr, or-shr}
 use lib.Count.{ones, ones-step}
 use borrow.Author.Tests.{eq-eqb, ne-eqb, eqb-true, eqb-false}
 use Rattle.meaning.specs.Basics.{choose, keep, countFrom, upTo, every, _∈_}
+use Rattle.masks.specs.Mask.{odd}
+use Rattle.masks.proofs.Marks.{odd-no}
+use Rattle.masks.proofs.Nodes.{odd-and, odd-or}
 use Rattle.meaning.proofs.Lists.{by-test, choose-true, choose-false}
 use Rattle.faces.specs.Survey.{has, meets, count}
 
--- The lowest bit
-abbrev odd : ℕ → Bool
-odd n = eqb (n % 2) 1
-
-odd-no : (n : ℕ) → n % 2 ≡ 0 → odd n ≡ false
-odd-no n e = ne-eqb (n % 2) 1 (λ z. omega arith)
-
-odd-yes : (n : ℕ) → n % 2 ≡ 1 → odd n ≡ true
-odd-yes n e = eq-eqb (n % 2) 1 e
-
-odd-or : (x y : ℕ) → odd (bitOr x y) ≡ odd x || odd y
-odd-or x y = go (x % 2) (y % 2) refl refl (or-step x y)
-  where
-    go : (a b : ℕ) → x % 2 ≡ a → y % 2 ≡ b → bitOr x y ≡ bitOr (x / 2) (y / 2) * 2 + max (x % 2) (y % 2) → odd (bitOr x y) ≡ odd x || odd y
-    go (suc a) b ea eb e = odd-yes (bitOr x y) (omega arith) ∙ sym (ap (λ (t : Bool). t || odd y) (odd-yes x (omega arith)))
-    go zero zero ea eb e = odd-no (bitOr x y) (omega arith) ∙ sym (ap₂ (λ (t u : Bool). t || u) (odd-no x ea) (odd-no y eb))
-    go zero (suc b) ea eb e = odd-yes (bitOr x y) (omega arith) ∙ sym (ap₂ (λ (t u : Bool). t || u) (odd-no x ea) (odd-yes y (omega arith)))
-
-odd-and : (x y : ℕ) → odd (bitAnd x y) ≡ odd x && odd y
-odd-and x y = go (x % 2) (y % 2) refl refl (and-step x y)
-  where
-    go : (a b : ℕ) → x % 2 ≡ a → y % 2 ≡ b → bitAnd x y ≡ bitAnd (x / 2) (y / 2) * 2 + min (x % 2) (y % 2) → odd (bitAnd x y) ≡ odd x && odd y
-    go zero b ea eb e = odd-no (bitAnd x y) (omega arith) ∙ sym (ap (λ (t : Bool). t && odd y) (odd-no x ea))
-    go (suc a) zero ea eb e = odd-no (bitAnd x y) (omega arith) ∙ sym (ap₂ (λ (t u : Bool). t && u) (odd-yes x (omega arith)) (odd-no y eb))
-    go (suc a) (suc b) ea eb e = odd-yes (bitAnd x y) (omega arith) ∙ sym (ap₂ (λ (t u : Bool). t && u) (odd-yes x (omega arith)) (odd-yes y (omega arith)))
-
--- Any bit
+-- Any bit, by the laws of the lowest one
 pub has-or : (s t m : ℕ) → has (bitOr s t) m ≡ has s m || has t m
 has-or s t m = ap odd (or-shr s t m) ∙ odd-or (s / 2 ^ m) (t / 2 ^ m)
 

@@ -22,7 +22,7 @@ use Rattle.meaning.specs.Readable.{Readable, WithinLimits}
 use Rattle.meaning.proofs.Lists.{by-test, choose-true, choose-false}
 use Rattle.table.specs.Token.{tagIn, sizeIn, payloadIn, payloadOf, tokens, patternTokens, expressionTokens}
 use Rattle.table.specs.Key.{at, Held, Stands}
-use Rattle.table.proofs.KeyLaws.{stands-size, stands-inside}
+use Rattle.table.proofs.KeyLaws.{some-levels, stands-size, stands-inside}
 use Rattle.faces.proofs.TokenLaws.{tokenAt, tag-at, payload-at, Room, room-below, room-later, patterns-room, expressions-room}
 use Rattle.faces.proofs.TopKeys.{meant, meant-label}
 use Rattle.faces.proofs.WalkTrees.{nameless-size}
@@ -110,10 +110,6 @@ module _ (table : List ℕ) (i : ℕ) (t : Term) (n : AtNode table i t) where
       let z : i + 0 ≡ i = add-zero i in
       ap (at table) (sym z) ∙ sym (getD-drop i table 0 0) ∙ ap (λ (l : List ℕ). at l 0) (n .stands .split)
 
-some-level : (levels : ℕ) (ctx : Context) (t : NamedTerm) → Readable levels ctx (one t) → 0 < levels
-some-level zero ctx t r = absurd r
-some-level (suc levels) ctx t r = omega arith
-
 -- Whether the token of a slot is that of an application of f
 pub node-applies : (table : List ℕ) (i : ℕ) (z : Slot) (cs : Terms) (f : ℕ) → AtNode table i (slot z, cs)
     → eqb (tagIn (at table i)) 6 && eqb f (payloadIn (at table i)) ≡ isApplication f z
@@ -125,7 +121,7 @@ node-applies table i z cs f n =
     ∙ go (n .named .0) (sym (ap (λ (u : Term). u .0) (n .term)))
   where
     deep : length (n .scope) < 256
-    deep = omega (arith, n .held .depths, some-level (n .levels) (n .context) (n .named) (n .held .readable))
+    deep = omega (arith, n .held .depths, some-levels (n .levels) (n .context) (n .named) (n .held .readable))
 
     small : suc (size (n .named .1)) < 65536
     small = omega (arith, n .held .sizes)

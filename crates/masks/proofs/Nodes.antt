@@ -38,7 +38,7 @@ first-in (false ∷ l) h = first-in l (omega arith)
 
 -- ---- & and | node by node
 
-odd-and : (x y : ℕ) → odd (bitAnd x y) ≡ odd x && odd y
+pub odd-and : (x y : ℕ) → odd (bitAnd x y) ≡ odd x && odd y
 odd-and x y = go (x % 2) (y % 2) refl refl (and-step x y)
   where
     go : (a b : ℕ) → x % 2 ≡ a → y % 2 ≡ b → bitAnd x y ≡ bitAnd (x / 2) (y / 2) * 2 + min (x % 2) (y % 2)
@@ -49,7 +49,7 @@ odd-and x y = go (x % 2) (y % 2) refl refl (and-step x y)
     go (suc a) (suc b) ea eb e =
         odd-yes (bitAnd x y) (omega arith) ∙ sym (ap₂ (λ (t u : Bool). t && u) (odd-yes x (omega arith)) (odd-yes y (omega arith)))
 
-odd-or : (x y : ℕ) → odd (bitOr x y) ≡ odd x || odd y
+pub odd-or : (x y : ℕ) → odd (bitOr x y) ≡ odd x || odd y
 odd-or x y = go (x % 2) (y % 2) refl refl (or-step x y)
   where
     go : (a b : ℕ) → x % 2 ≡ a → y % 2 ≡ b → bitOr x y ≡ bitOr (x / 2) (y / 2) * 2 + max (x % 2) (y % 2)
@@ -77,7 +77,7 @@ length-only w k = length-set (empty w) k true ∙ length-replicate w false
 marks-only : (w k : ℕ) → marks w (value (only w k)) ≡ only w k
 marks-only w k = ap (λ (n : ℕ). marks n (value (only w k))) (sym (length-only w k)) ∙ marks-value (only w k)
 
-value-empty : (w : ℕ) → value (empty w) ≡ 0
+pub value-empty : (w : ℕ) → value (empty w) ≡ 0
 unfolding value
 value-empty zero = refl
 value-empty (suc w) = value-empty w

@@ -26,6 +26,10 @@ pub not-T : {b : Bool} → (T b → ⊥) → b ≡ false
 not-T {b = true} f = absurd (f tt)
 not-T {b = false} f = refl
 
+pub or-false : (a b : Bool) → (a || b) ≡ false → (a ≡ false) × (b ≡ false)
+or-false true b e = absurd (true≢false e)
+or-false false b e = (refl, e)
+
 pub and-T : (a b : Bool) → T (a && b) → T a × T b
 and-T true b t = (tt, t)
 and-T false b t = absurd t

@@ -20,7 +20,7 @@ use Rattle.meaning.specs.Shift.{withVariable, raise, shiftTerm, sink, lo
 use Rattle.meaning.specs.Equal.{Seen, seenFree, inside, outside, see, View, view}
 use Rattle.meaning.specs.Choice.{Mark, Marks, Owner, nodeOfFace, aboveFace, ownerOf, below, viewsFrom, views, ofFace, usesLabel, usesFace, Choice, isPlace}
 use Rattle.meaning.proofs.ShiftLaws.{ltb-yes, ltb-no, inner-with, pair-eq, shift-lower-term, lowered}
-use Rattle.meaning.proofs.Lists.{never, by-test, eqb-self}
+use Rattle.meaning.proofs.Lists.{never, or-false, by-test, eqb-self}
 use Rattle.meaning.proofs.ChoiceLaws.{at-other, length-views, isPlace-eq}
 
 -- Relabelling twice, and with nothing changed
@@ -52,21 +52,21 @@ relabel-self k nil = refl
 relabel-self k (cons l c s) = rw (with-self l, relabel-self (inner l k) c, relabel-self k s)
 
 -- The binders above a node: the first are of the face, the others above it
-owner-above : (bs : List ℕ) (j i : ℕ) → j ≡ i + length bs → ownerOf bs j ≡ aboveFace i
+pub owner-above : (bs : List ℕ) (j i : ℕ) → j ≡ i + length bs → ownerOf bs j ≡ aboveFace i
 owner-above [] j i e = ap aboveFace (omega arith)
 owner-above (b ∷ bs) zero i e = absurd (omega arith)
 owner-above (b ∷ bs) (suc j) i e = owner-above bs j i (omega arith)
 
-owner-below : (bs : List ℕ) (i : ℕ) → i < length bs → (b : ℕ) × (ownerOf bs i ≡ nodeOfFace b)
+pub owner-below : (bs : List ℕ) (i : ℕ) → i < length bs → (b : ℕ) × (ownerOf bs i ≡ nodeOfFace b)
 owner-below [] i h = absurd (omega arith)
 owner-below (b ∷ bs) zero h = (_, refl)
 owner-below (b ∷ bs) (suc i) h = owner-below bs i (omega arith)
 
 -- One variable
-see-low : {W : Type 0} (who : ℕ → W) (k i : ℕ) → i < k → see who k (bound i) ≡ inside i
+pub see-low : {W : Type 0} (who : ℕ → W) (k i : ℕ) → i < k → see who k (bound i) ≡ inside i
 see-low who k i h = rw (ltb-yes i k h)
 
-see-high : {W : Type 0} (who : ℕ → W) (k i : ℕ) → k ≤ i → see who k (bound i) ≡ outside (who (i - k))
+pub see-high : {W : Type 0} (who : ℕ → W) (k i : ℕ) → k ≤ i → see who k (bound i) ≡ outside (who (i - k))
 see-high who k i h = rw (ltb-no i k h)
 
 see-raise : (bs : List ℕ) (k : ℕ) (v : Variable) → see (ownerOf bs) k (raise (length bs) k v) ≡ see (ownerOf []) k v
@@ -116,10 +116,6 @@ above-free k (bound i) = go (ltb i k)
     go false = refl
 
 -- Labels and forests
-or-false : (a b : Bool) → (a || b) ≡ false → (a ≡ false) × (b ≡ false)
-or-false true b e = absurd (true≢false e)
-or-false false b e = (refl, e)
-
 label-free : (bs : List ℕ) (k : ℕ) (l : Nameless) → usesLabel (withVariable (see (ownerOf bs) k) l) ≡ false → (m : Nameless) × (lowerLabel (length bs) k l ≡ some m)
 label-free bs k (own (symbol n)) e = (own (symbol n), refl)
 label-free bs k (own (variable v)) e = let (w, q) = sink-free bs k v e in (own (variable w), rw q)
@@ -134,7 +130,7 @@ above-label k (own (application n)) = refl
 above-label k (own (binder b x)) = refl
 above-label k (slot z) = refl
 
-abbrev viewUnder : {W : Type 0} → (ℕ → W) → ℕ → Terms → View W
+abbrev pub viewUnder : {W : Type 0} → (ℕ → W) → ℕ → Terms → View W
 viewUnder who k u = relabelled (see who) k u
 
 forest-free : (bs : List ℕ) (k : ℕ) (u : Terms) → usesFace (viewUnder (ownerOf bs) k u) ≡ false → (v : Terms) × (lower (length bs) k u ≡ some v)

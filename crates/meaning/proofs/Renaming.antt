@@ -17,13 +17,9 @@ use Rattle.meaning.specs.Scope.{resolve, enter, namelessLabel, nameless,
 use Rattle.meaning.specs.Shift.{withVariable}
 use Rattle.meaning.specs.Equal.{Equal, EqualWhole, sameVariable}
 use Rattle.meaning.specs.Rename.{occursLabel, occurs, binds, newName, rename, Alpha, step, node, same, back, chain}
-use Rattle.meaning.proofs.Lists.{never, eqb-self, eqb-eq, eqb-other, by-test, choose-true, choose-false}
+use Rattle.meaning.proofs.Lists.{never, or-false, eqb-self, eqb-eq, eqb-other, by-test, choose-true, choose-false}
 
 -- General laws of tests and trees
-or-false : (a b : Bool) → (a || b) ≡ false → (a ≡ false) × (b ≡ false)
-or-false true b e = absurd (true≢false e)
-or-false false b e = (refl, e)
-
 eqb-flip : (m n : ℕ) → eqb m n ≡ false → eqb n m ≡ false
 eqb-flip m n e = eqb-other n m (λ p. true≢false (sym (eqb-self m) ∙ ap (eqb m) (sym p) ∙ e))
 

@@ -1,13 +1,13 @@
 -- The second demand, as far as it concerns definitions: every written text is read back and passes, and every solution has a row whose
 -- text names it. That a text passes exactly when the filling that it names is a solution is the definition `Passes`.
 use mathlib.Core.Path.{_≡_, _∙_, subst}
-use Prim.Native.Nat.{ℕ, zero, suc, _≤_}
+use Prim.Native.Nat.{ℕ, suc, _≤_}
 use mathlib.Core.Bool.{Bool, true, false}
 use mathlib.Core.List.{List, [], _∷_}
 use native.Mathlib.Omega.{arith}
 use lib.ListN.{length}
 use Rattle.meaning.specs.Limits.{maxInput, maxText, metavariableCount}
-use Rattle.meaning.specs.Basics.{choose, keep, countFrom, upTo, _∈_}
+use Rattle.meaning.specs.Basics.{choose, keep, upTo, _∈_}
 use Rattle.meaning.specs.Problem.{Problem, metavariables}
 use Rattle.meaning.specs.Filling.{Filling}
 use Rattle.meaning.specs.Solution.{Solution}
@@ -22,6 +22,7 @@ use Rattle.meaning.proofs.Proper.{accepted-proper}
 use Rattle.meaning.proofs.Solutions.{row-solution-unique, solution-complete, solves-is-right, candidate-solution, OnlyRow}
 use Rattle.meaning.proofs.TextReading.{read-text}
 use Rattle.meaning.proofs.TextLaws.{text-says, text-readable}
+use Rattle.meaning.proofs.Sums.{length-upTo}
 use Rattle.meaning.proofs.TextLength.{text-length}
 
 keep-length : {A : Type 0} (p : A → Bool) (xs : List A) → length (keep p xs) ≤ length xs
@@ -32,14 +33,10 @@ keep-length {A} p (x ∷ xs) = go (p x) (keep-length p xs)
     go true h = omega arith
     go false h = omega arith
 
-count-length : (k n : ℕ) → length (countFrom k n) ≡ n
-count-length k zero = omega arith
-count-length k (suc n) = let h = count-length (suc k) n in omega arith
-
 few-metavariables : (p : Problem) → length (metavariables p) ≤ metavariableCount
 unfolding metavariables
 few-metavariables p =
-    subst (λ (n : ℕ). length (metavariables p) ≤ n) (count-length 0 metavariableCount) (keep-length _ (upTo metavariableCount))
+    subst (λ (n : ℕ). length (metavariables p) ≤ n) (length-upTo metavariableCount) (keep-length _ (upTo metavariableCount))
 
 -- A written text is never over the limit of a text
 text-fits : (p : Problem) (r : Row) → Accepted p → solves p r ≡ true → length (encodeText (textOf p r)) ≤ maxText

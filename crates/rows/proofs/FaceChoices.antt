@@ -29,7 +29,7 @@ use Rattle.masks.specs.Table.{Table, test}
 use Rattle.masks.specs.Face.{Equality, IsChoice, Decides, Classes}
 use Rattle.masks.proofs.Marks.{marks-value, value-marks}
 use Rattle.masks.proofs.Order.{below-mem, choices-mem}
-use Rattle.masks.proofs.Nodes.{in-lt}
+use Rattle.masks.proofs.Nodes.{in-lt, value-empty}
 use Rattle.masks.proofs.Face.{table-of, choices-listed}
 use Rattle.rows.proofs.Lists.{map-same}
 use Rattle.rows.specs.Tabled.{isFree, areEqual, free, equal, FaceClasses}
@@ -69,10 +69,6 @@ keep-unflags p (x ∷ xs) = go (p (unflags x)) (keep-unflags p xs)
 mask-value : (l : List Bool) (k : ℕ) → maskOf (length l + k) (unflags l) ≡ value (pad k l)
 unfolding maskOf value
 mask-value [] k = sym (value-empty k)
-  where
-    value-empty : (k : ℕ) → value (empty k) ≡ 0
-    value-empty zero = refl
-    value-empty (suc k) = value-empty k
 mask-value (true ∷ l) k =
     let n : length (l ++ empty k) ≡ length l + k = length-append l (empty k) ∙ ap (λ (x : ℕ). length l + x) (length-replicate k false) in
     rw (suc-add (length l) k, n) (omega (arith, mask-value l k))

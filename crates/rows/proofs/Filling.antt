@@ -20,7 +20,7 @@ pub record Filled (es nodes : List ℕ) (k : ℕ) (ds : List ℕ) : Type 0 where
   pub there : (j : ℕ) → j < k → ClassesFrom es (getD nodes j 0) (classesAt ds j)
   pub clear : (i : ℕ) → k * width ≤ i → getD ds i 0 ≡ 0
 
-getD-zeros : (n i : ℕ) → _≡_ {A = ℕ} (getD (replicate {A = ℕ} n 0) i 0) 0
+pub getD-zeros : (n i : ℕ) → _≡_ {A = ℕ} (getD (replicate {A = ℕ} n 0) i 0) 0
 getD-zeros zero i = refl
 getD-zeros (suc n) zero = refl
 getD-zeros (suc n) (suc i) = getD-zeros n i

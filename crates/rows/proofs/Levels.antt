@@ -7,23 +7,21 @@
 --   u        what is seen: a forest with k binders of the subexpression around it
 use mathlib.Core.Path.{_≡_, refl, ap, ap₂, sym, _∙_}
 use mathlib.Core.Logic.{_↔_}
-use mathlib.Core.Bool.{Bool, true, false, _||_, true≢false}
-use mathlib.Core.List.{List, [], _∷_}
-use Prim.Native.Nat.{ℕ, zero, suc, _+_, _-_, _≤_, _<_}
+use mathlib.Core.Bool.{Bool, false, _||_, true≢false}
+use mathlib.Core.List.{List}
+use Prim.Native.Nat.{ℕ, suc, _+_, _-_, _≤_, _<_}
 use native.Mathlib.Omega.{arith}
 use native.Mathlib.Decide.{decLt}
 use lib.ListN.{length}
 use lib.Dec.{ltb}
 use borrow.Author.Tests.{lt-ltb, le-ltb}
-use Rattle.meaning.specs.Term.{nil, cons, relabel, symbol, variable, application, binder, Label, own, slot, Variable, free, bound, Nameless, Terms, Term, one, inner}
+use Rattle.meaning.specs.Term.{nil, cons, symbol, variable, application, binder, Label, own, slot, Variable, free, bound, Nameless, Terms, Term, one, inner}
 use Rattle.meaning.specs.Shift.{withVariable, closedVariable, closedLabel, Closed}
 use Rattle.meaning.specs.Equal.{Seen, seenFree, inside, outside, see, View, view, Equal}
 use Rattle.meaning.specs.Choice.{Owner, nodeOfFace, aboveFace, ownerOf, ofFace, usesLabel, usesFace}
-use Rattle.meaning.proofs.ShiftLaws.{ltb-yes, ltb-no}
+use Rattle.meaning.proofs.Lists.{or-false}
+use Rattle.meaning.proofs.Lowered.{viewUnder, owner-above, owner-below, see-low, see-high}
 use Rattle.table.specs.Key.{levelFrom}
-
-abbrev viewUnder : {W : Type 0} → (ℕ → W) → ℕ → Terms → View W
-viewUnder who k u = relabel inner (λ j. withVariable (see who j)) k u
 
 -- Another identity for each binder outside
 reseen : {U W : Type 0} → (Seen U → Seen W) → View U → View W
@@ -31,22 +29,6 @@ reseen f nil = nil
 reseen f (cons l c s) = cons (withVariable f l) (reseen f c) (reseen f s)
 
 -- A variable, by the index that reaches out of the subexpression
-see-low : {W : Type 0} (who : ℕ → W) (k i : ℕ) → i < k → see who k (bound i) ≡ inside i
-see-low who k i h = rw (ltb-yes i k h)
-
-see-high : {W : Type 0} (who : ℕ → W) (k i : ℕ) → k ≤ i → see who k (bound i) ≡ outside (who (i - k))
-see-high who k i h = rw (ltb-no i k h)
-
-owner-face : (bs : List ℕ) (i : ℕ) → i < length bs → (b : ℕ) × (ownerOf bs i ≡ nodeOfFace b)
-owner-face [] i h = absurd (omega arith)
-owner-face (b ∷ bs) zero h = (b, refl)
-owner-face (b ∷ bs) (suc i) h = owner-face bs i (omega arith)
-
-owner-above : (bs : List ℕ) (i : ℕ) → length bs ≤ i → ownerOf bs i ≡ aboveFace (i - length bs)
-owner-above [] i h = ap aboveFace (omega arith)
-owner-above (b ∷ bs) zero h = absurd (omega arith)
-owner-above (b ∷ bs) (suc i) h = owner-above bs i (omega arith) ∙ ap aboveFace (omega arith)
-
 -- Where an index reaches: a binder of the subexpression, of the face above it, or above the face
 data Reach (bs : List ℕ) (k i : ℕ) : Type 0 where
   within : i < k → see (ownerOf bs) k (bound i) ≡ inside i → Reach bs k i
@@ -58,8 +40,8 @@ reach bs k i = go (decLt i k) (decLt i (k + length bs))
   where
     go : Dec (i < k) → Dec (i < k + length bs) → Reach bs k i
     go (yes h) g = within h (see-low (ownerOf bs) k i h)
-    go (no h) (yes g) = let (b, e) = owner-face bs (i - k) (omega arith) in toFace b (omega arith) g (see-high (ownerOf bs) k i (omega arith) ∙ ap outside e)
-    go (no h) (no g) = above (omega arith) (see-high (ownerOf bs) k i (omega arith) ∙ ap outside (owner-above bs (i - k) (omega arith)))
+    go (no h) (yes g) = let (b, e) = owner-below bs (i - k) (omega arith) in toFace b (omega arith) g (see-high (ownerOf bs) k i (omega arith) ∙ ap outside e)
+    go (no h) (no g) = above (omega arith) (see-high (ownerOf bs) k i (omega arith) ∙ ap outside (owner-above bs (i - k) (i - k - length bs) (omega arith)))
 
 -- The ways between the two views, and what the level view tells of binders of the face
 levelOfOwner : ℕ → Seen Owner → Seen ℕ
@@ -131,10 +113,6 @@ inner-add (own (variable v)) m k n e = e
 inner-add (own (application x)) m k n e = e
 inner-add (own (binder b x)) m k n e = omega arith
 inner-add (slot z) m k n e = e
-
-or-false : (a b : Bool) → (a || b) ≡ false → (a ≡ false) × (b ≡ false)
-or-false true b e = absurd (true≢false e)
-or-false false b e = (refl, e)
 
 module _ (d : ℕ) (sc bs : List ℕ) (long : length sc ≡ length bs + d) where
   deep-label : (m k : ℕ) → m ≡ k + length sc → (l : Nameless) → closedLabel m l

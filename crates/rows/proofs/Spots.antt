@@ -2,14 +2,14 @@
 --
 --   Spot      the named term at node i, with the scope around it and the binders of the face above it
 --   d         the number of binders above the face
-use mathlib.Core.Path.{_≡_, refl, ap, ap₂, sym, _∙_}
+use mathlib.Core.Path.{_≡_, refl, ap, sym, _∙_}
 use mathlib.Core.List.{List, [], _∷_, _++_, append-assoc, append-nil}
 use mathlib.Core.Option.{some}
 use Prim.Native.Nat.{ℕ, zero, suc, _+_, _-_, _≤_, _<_}
 use native.Mathlib.Nat.{zero-add, suc-add}
 use native.Mathlib.Omega.{arith}
 use native.Mathlib.Decide.{decLt}
-use lib.ListN.{length, drop, getElem?, length-append}
+use lib.ListN.{length, drop, getElem?}
 use lib.Seq.{drop-append-add}
 use Rattle.meaning.specs.Term.{Forest, nil, cons, one, size, nodeAt, symbol, variable, application, binder, own, slot, Named, Nameless, NamedTerm, Terms}
 use Rattle.meaning.specs.Scope.{enter, namelessLabel, nameless, namelessTerm}
@@ -20,6 +20,8 @@ use Rattle.meaning.specs.Choice.{Owner, ownerOf, below, viewsFrom}
 use Rattle.meaning.proofs.Lists.{choose-true, choose-false}
 use Rattle.meaning.proofs.ShiftLaws.{ltb-yes, ltb-no, relabel-size}
 use Rattle.meaning.proofs.ChoiceLaws.{length-views}
+use Rattle.table.proofs.TermLaws.{tokens-length}
+use Rattle.table.proofs.KeyLaws.{enter-room}
 use Rattle.table.specs.Token.{tokens}
 
 pub record Spot (d limit : ℕ) (ts : List ℕ) (us : List (View Owner)) (u : Terms) (i : ℕ) : Type 0 where
@@ -66,12 +68,6 @@ at-back : {A : Type 0} (xs ys : List A) (i : ℕ) → getElem? (xs ++ ys) (lengt
 at-back [] ys i = rw (zero-add i)
 at-back (x ∷ xs) ys i = rw (suc-add (length xs) i) (at-back xs ys i)
 
-tokens-length : (sc : List ℕ) (u : Forest Named) → length (tokens sc u) ≡ size u
-unfolding tokens
-tokens-length sc nil = refl
-tokens-length sc (cons l c s) =
-    ap suc (length-append (tokens (enter l sc) c) (tokens sc s) ∙ ap₂ _+_ (tokens-length (enter l sc) c) (tokens-length sc s))
-
 tokens-head : (sc : List ℕ) (l : Named) (c s : Forest Named) (rest : List ℕ) → tokens sc (cons l c s) ++ rest ≡ tokens sc (one (l, c)) ++ (tokens sc s ++ rest)
 unfolding tokens
 tokens-head sc l c s rest = simp (append-assoc, append-nil)
@@ -87,13 +83,6 @@ enter-deep d n sc bs (own (variable x)) h = h
 enter-deep d n sc bs (own (application m)) h = h
 enter-deep d n sc bs (own (binder b x)) h = omega arith
 enter-deep d n sc bs (slot z) h = h
-
-enter-room : (sc : List ℕ) (l : Named) → length (enter l sc) ≤ suc (length sc)
-enter-room sc (own (symbol n)) = omega arith
-enter-room sc (own (variable x)) = omega arith
-enter-room sc (own (application n)) = omega arith
-enter-room sc (own (binder b x)) = omega arith
-enter-room sc (slot z) = omega arith
 
 pub spot : (d levels : ℕ) (ctx : Context) (sc bs : List ℕ) (n : ℕ) (u : Forest Named) (rest : List ℕ) (i : ℕ) → i < size u → Readable levels ctx u
     → length sc + levels ≤ 256 → length sc ≡ length bs + d → Spot d (size u) (tokens sc u ++ rest) (viewsFrom bs n (nameless sc u)) (nameless sc u) i

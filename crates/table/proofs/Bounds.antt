@@ -3,31 +3,22 @@
 --   Fine     a reader of terms that keeps to it
 use Prim.Native.Nat.{ℕ, zero, suc, _+_, _-_, _*_, _≤_}
 use mathlib.Core.Path.{_≡_, refl, _∙_}
-use mathlib.Core.Bool.{Bool, true, false}
 use native.Mathlib.Omega.{arith}
 use lib.ListN.{length, take, drop, getD, length-take, length-drop}
 use lib.Dec.{eqb, ltb}
 use borrow.Author.Tests.{ltb-false}
-use Rattle.meaning.specs.Basics.{choose}
 use Rattle.meaning.specs.Limits.{metavariableCount}
 use Rattle.meaning.specs.Term.{Forest, nil, graft, one, size, trees, application, own, Named, NamedTerm}
 use Rattle.meaning.specs.Field.{Bytes}
 use Rattle.meaning.specs.Read.{Answer, refused, got, after, Context, Kind, symbolKind, variableKind, applicationKind, binderKind, metavariableKind, functionKind, holeKind, Parts, Head, wordAt, partsOf, kindOf, headWith, headOf, Content, leaf, over, many, contentOf, Reader, contextBelow, readExactly, readAll, readContent, readTerm, constraintHead}
+use Rattle.meaning.proofs.ByteLaws.{got-is, refused-not, by-choice}
 use Rattle.table.specs.Heads.{readFields}
 use Rattle.table.specs.declared.node.Due.{Due}
 use Rattle.table.specs.declared.node.Due.the-variants as dues
 
--- Two answers that differ in kind
+-- What is refused is not got, whatever is to be shown
 pub refused-got : {A C : Type 0} {r : ℕ} {a : A} → refused r ≡ got a → C
-refused-got h = absurd (let z : _≡_ {A = ℕ} 0 1 = cc in omega arith)
-
-pub got-same : {A : Type 0} {a b : A} → got a ≡ got b → a ≡ b
-got-same e = cc
-
--- A test, with what it says of the value chosen
-pub by-choose : {A C : Type 0} (b : Bool) (x y : A) {z : A} → choose b x y ≡ z → (b ≡ true → x ≡ z → C) → (b ≡ false → y ≡ z → C) → C
-by-choose true x y h f g = f refl h
-by-choose false x y h f g = g refl h
+refused-got h = absurd (refused-not h)
 
 -- What is read after an answer that is there
 pub after-inv : {A B : Type 0} (a : Answer A) (f : A → Answer B) {y : B} → after a f ≡ got y → (x : A) × (a ≡ got x) × (f x ≡ got y)
@@ -49,7 +40,7 @@ module _ (read : Reader) (fine : Fine read) where
   exactly-room : (n : ℕ) (s : Bytes) (f : Forest Named) → readExactly n read s ≡ got f → 3 * size f ≤ length s
   unfolding readExactly
   exactly-room zero s f h =
-      by-choose (eqb (length s) 0) (got nil) (refused 7) h
+      by-choice (eqb (length s) 0) (got nil) (refused 7) h
       (λ b e. let w : nil ≡ f = cc in rw (← w) (omega arith))
       (λ b e. refused-got e)
   exactly-room (suc n) s f h =
@@ -62,7 +53,7 @@ module _ (read : Reader) (fine : Fine read) where
   unfolding readAll
   all-room zero s f h = let w : nil ≡ f = cc in rw (← w) (omega arith)
   all-room (suc n) s f h =
-      by-choose (eqb (length s) 0) (got nil) _ h
+      by-choice (eqb (length s) 0) (got nil) _ h
       (λ b e. let w : nil ≡ f = cc in rw (← w) (omega arith))
       (λ b e.
       let x = after-inv (read s) _ e in
@@ -85,9 +76,9 @@ pub record FieldAt (s content later : Bytes) : Type 0 where
 parts-read : (s : Bytes) (p : Parts) → partsOf s ≡ got p → FieldAt s (p .content) (p .later)
 unfolding partsOf
 parts-read s p e =
-    by-choose (ltb (length s) 3) (refused 2) _ e (λ b q. refused-got q)
+    by-choice (ltb (length s) 3) (refused 2) _ e (λ b q. refused-got q)
     (λ b q.
-    by-choose (ltb (length s - 3) (wordAt s 1)) (refused 3) _ q (λ b2 q2. refused-got q2)
+    by-choice (ltb (length s - 3) (wordAt s 1)) (refused 3) _ q (λ b2 q2. refused-got q2)
     (λ b2 q2. record {
       size = wordAt s 1;
       fits = omega (arith, ltb-false (length s) 3 b, ltb-false (length s - 3) (wordAt s 1) b2);
@@ -98,11 +89,11 @@ parts-read s p e =
 head-read : (ctx : Context) (s : Bytes) (h : Head) → headOf ctx s ≡ got h → FieldAt s (h .content) (h .later)
 unfolding headOf
 head-read ctx s h e =
-    by-choose (eqb (length s) 0) (refused 7) _ e (λ b q. refused-got q)
+    by-choice (eqb (length s) 0) (refused 7) _ e (λ b q. refused-got q)
     (λ b q.
     let p = after-inv (partsOf s) _ q in
     let k = after-inv (kindOf ctx (p .0 .tag)) _ (p .2) in
-    let w : headWith (p .0) (k .0) ≡ h = got-same (k .2) in
+    let w : headWith (p .0) (k .0) ≡ h = got-is (k .2) in
     rw (← w) (parts-read s (p .0) (p .1)))
 
 -- The inner fields lie in the content
@@ -113,32 +104,32 @@ InContent k (many s) = length s ≤ k
 
 content-in : (kind : Kind) (c : Bytes) (x : Content) → contentOf kind c ≡ got x → InContent (length c) x
 unfolding contentOf InContent
-content-in symbolKind c x h = by-choose (eqb (length c) 2) _ (refused 6) h (λ b e. rw (← got-same e) tt) (λ b e. refused-got e)
-content-in variableKind c x h = by-choose (eqb (length c) 2) _ (refused 6) h (λ b e. rw (← got-same e) tt) (λ b e. refused-got e)
+content-in symbolKind c x h = by-choice (eqb (length c) 2) _ (refused 6) h (λ b e. rw (← got-is e) tt) (λ b e. refused-got e)
+content-in variableKind c x h = by-choice (eqb (length c) 2) _ (refused 6) h (λ b e. rw (← got-is e) tt) (λ b e. refused-got e)
 content-in applicationKind c x h =
-    by-choose (eqb (length c) 0) (refused 6) _ h (λ b e. refused-got e) (λ b e. rw (← got-same e) (omega arith))
+    by-choice (eqb (length c) 0) (refused 6) _ h (λ b e. refused-got e) (λ b e. rw (← got-is e) (omega arith))
 content-in binderKind c x h =
-    by-choose (ltb (length c) 4) (refused 6) _ h (λ b e. refused-got e) (λ b e. rw (← got-same e) (omega (arith, length-drop 4 c)))
+    by-choice (ltb (length c) 4) (refused 6) _ h (λ b e. refused-got e) (λ b e. rw (← got-is e) (omega (arith, length-drop 4 c)))
 content-in metavariableKind c x h =
-    by-choose (eqb (length c) 1) _ (refused 6) h
-    (λ b e. by-choose (ltb (getD c 0 0) metavariableCount) _ (refused 10) e (λ b2 e2. rw (← got-same e2) tt) (λ b2 e2. refused-got e2))
+    by-choice (eqb (length c) 1) _ (refused 6) h
+    (λ b e. by-choice (ltb (getD c 0 0) metavariableCount) _ (refused 10) e (λ b2 e2. rw (← got-is e2) tt) (λ b2 e2. refused-got e2))
     (λ b e. refused-got e)
 content-in functionKind c x h =
-    by-choose (eqb (length c) 0) (refused 6) _ h (λ b e. refused-got e)
-    (λ b e. by-choose (ltb (getD c 0 0) metavariableCount) _ (refused 10) e (λ b2 e2. rw (← got-same e2) (omega (arith, length-drop 1 c))) (λ b2 e2. refused-got e2))
-content-in holeKind c x h = by-choose (eqb (length c) 0) _ (refused 6) h (λ b e. rw (← got-same e) tt) (λ b e. refused-got e)
+    by-choice (eqb (length c) 0) (refused 6) _ h (λ b e. refused-got e)
+    (λ b e. by-choice (ltb (getD c 0 0) metavariableCount) _ (refused 10) e (λ b2 e2. rw (← got-is e2) (omega (arith, length-drop 1 c))) (λ b2 e2. refused-got e2))
+content-in holeKind c x h = by-choice (eqb (length c) 0) _ (refused 6) h (λ b e. rw (← got-is e) tt) (λ b e. refused-got e)
 
 content-room : (read : Context → Reader) → ((ctx : Context) → Fine (read ctx)) → (ctx : Context) (k : ℕ) (x : Content) (t : NamedTerm)
     → InContent k x → readContent read ctx x ≡ got t → 3 * size (t .1) ≤ k
 unfolding InContent
-content-room read fine ctx k (leaf l) t h e = let w : (l, nil) ≡ t = got-same e in rw (← w) (omega arith)
+content-room read fine ctx k (leaf l) t h e = let w : (l, nil) ≡ t = got-is e in rw (← w) (omega arith)
 content-room read fine ctx k (over l n s) t h e =
     let a = after-inv (readExactly n (read (contextBelow l ctx)) s) _ e in
-    let w : (l, a .0) ≡ t = got-same (a .2) in
+    let w : (l, a .0) ≡ t = got-is (a .2) in
     rw (← w) (omega (arith, exactly-room (read (contextBelow l ctx)) (fine (contextBelow l ctx)) n s (a .0) (a .1)))
 content-room read fine ctx k (many s) t h e =
     let a = after-inv (readAll (length s) (read ctx) s) _ e in
-    let w : (own (application (trees (a .0))), a .0) ≡ t = got-same (a .2) in
+    let w : (own (application (trees (a .0))), a .0) ≡ t = got-is (a .2) in
     rw (← w) (omega (arith, all-room (read ctx) (fine ctx) (length s) s (a .0) (a .1)))
 
 -- "5 depth over 32"
@@ -154,7 +145,7 @@ term-fine (suc levels) ctx s x e =
     let b = after-inv (contentOf (a .0 .kind) (a .0 .content)) _ (a .2) in
     let c = after-inv (readContent (readTerm levels) ctx (b .0)) _ (b .2) in
     let q = head-read ctx s (a .0) (a .1) in
-    let w : (c .0, a .0 .later) ≡ x = got-same (c .2) in
+    let w : (c .0, a .0 .later) ≡ x = got-is (c .2) in
     let room = content-room (readTerm levels) (term-fine levels) ctx (length (a .0 .content)) (b .0) (c .0) (content-in (a .0 .kind) (a .0 .content) (b .0) (b .1)) (c .1) in
     let short : length (a .0 .content) ≤ q .size = rw (q .inside) (simp length-take (omega arith)) in
     let left : length (a .0 .later) ≡ length s - (3 + q .size) = rw (q .after) (length-drop (3 + q .size) s) in
@@ -166,9 +157,9 @@ pub top-read : (left : ℕ) (s : Bytes) (p : Parts) → constraintHead left s �
 unfolding constraintHead
 top-read left s p e =
     let q = after-inv (partsOf s) _ e in
-    by-choose (eqb (q .0 .tag) 7) _ (refused 4) (q .2)
-    (λ b x. by-choose (eqb left 0) (refused 11) (got (q .0)) x (λ b2 y. refused-got y)
-    (λ b2 y. let w : q .0 ≡ p = got-same y in rw (← w) (parts-read s (q .0) (q .1))))
+    by-choice (eqb (q .0 .tag) 7) _ (refused 4) (q .2)
+    (λ b x. by-choice (eqb left 0) (refused 11) (got (q .0)) x (λ b2 y. refused-got y)
+    (λ b2 y. let w : q .0 ≡ p = got-is y in rw (← w) (parts-read s (q .0) (q .1))))
     (λ b x. refused-got x)
 
 pub field-lengths : {s content later : Bytes} → FieldAt s content later → 3 + length content + length later ≤ length s

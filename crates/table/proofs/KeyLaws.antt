@@ -449,7 +449,7 @@ tag-room (slot (metavariable m)) = omega arith
 tag-room (slot (function f)) = omega arith
 tag-room (slot (hole i)) = omega arith
 
-some-levels : (levels : ℕ) (ctx : Context) (t : NamedTerm) → Readable levels ctx (one t) → 0 < levels
+pub some-levels : (levels : ℕ) (ctx : Context) (t : NamedTerm) → Readable levels ctx (one t) → 0 < levels
 some-levels zero ctx t r = absurd r
 some-levels (suc levels) ctx t r = omega arith
 

@@ -27,7 +27,8 @@ use Rattle.table.specs.declared.answer.Read.{Read}
 use Rattle.table.specs.declared.answer.Read.the-variants as answers
 use Rattle.table.specs.declared.problem.Pair.{Pair}
 use Rattle.table.specs.declared.problem.Pair.the-variants as pairs
-use Rattle.table.proofs.Bounds.{by-choose, refused-got, got-same, after-inv, term-fine, top-read, field-lengths}
+use Rattle.meaning.proofs.ByteLaws.{got-is, by-choice}
+use Rattle.table.proofs.Bounds.{refused-got, after-inv, term-fine, top-read, field-lengths}
 use Rattle.table.proofs.TermLaws.{tokens-length, tokens-graft, took, later-part}
 use Rattle.table.proofs.Slices.{positive, rest-all, part-length, rows-joined}
 use Rattle.table.specs.declared.field.Parts.the-variants as parts
@@ -114,9 +115,9 @@ pair-room s c h =
     let e = after-inv (readTerm maxDepth inExpression (p .0 .1)) _ (p .2) in
     let a = term-fine maxDepth inPattern s (p .0) (p .1) .room in
     let b = term-fine maxDepth inExpression (p .0 .1) (e .0) (e .1) .room in
-    by-choose (eqb (length (e .0 .1)) 0) _ (refused 7) (e .2)
+    by-choice (eqb (length (e .0 .1)) 0) _ (refused 7) (e .2)
     (λ t q.
-    let w : record { pattern = p .0 .0; expression = e .0 .0 } ≡ c = got-same q in
+    let w : record { pattern = p .0 .0; expression = e .0 .0 } ≡ c = got-is q in
     rw (← w) (omega (arith, a, b, tokens-length [] (one (p .0 .0))), omega (arith, a, b, tokens-length [] (one (e .0 .0)))))
     (λ t q. refused-got q)
 
@@ -172,17 +173,17 @@ no-room s = record { patterns = omega arith; expressions = omega arith; count = 
 problem-room : (left : ℕ) (s : Bytes) (p : Problem) → readConstraints left s ≡ got p → ProblemRoom s p
 unfolding readConstraints
 problem-room zero s p h =
-    by-choose (eqb (length s) 0) (got []) _ h
-    (λ b e. let w : [] ≡ p = got-same e in rw (← w) (no-room s))
+    by-choice (eqb (length s) 0) (got []) _ h
+    (λ b e. let w : [] ≡ p = got-is e in rw (← w) (no-room s))
     (λ b e. refused-got ((after-inv (constraintHead 0 s) _ e) .2))
 problem-room (suc left) s p h =
-    by-choose (eqb (length s) 0) (got []) _ h
-    (λ b e. let w : [] ≡ p = got-same e in rw (← w) (no-room s))
+    by-choice (eqb (length s) 0) (got []) _ h
+    (λ b e. let w : [] ≡ p = got-is e in rw (← w) (no-room s))
     (λ b e.
     let t = after-inv (constraintHead (suc left) s) _ e in
     let c = after-inv (readPair (t .0 .content)) _ (t .2) in
     let l = after-inv (readConstraints left (t .0 .later)) _ (c .2) in
-    let w : c .0 ∷ l .0 ≡ p = got-same (l .2) in
+    let w : c .0 ∷ l .0 ≡ p = got-is (l .2) in
     let f = field-lengths (top-read (suc left) s (t .0) (t .1)) in
     let i = problem-room left (t .0 .later) (l .0) (l .1) in
     let room = pair-room (t .0 .content) (c .0) (c .1) in

@@ -32,7 +32,8 @@ use Rattle.table.specs.declared.site.Site.{Site}
 use Rattle.table.specs.declared.term.Fields.{Fields}
 use Rattle.table.specs.declared.term.Fields.the-variants as fields
 use Rattle.table.specs.declared.term.Next.the-variants as nexts
-use Rattle.table.proofs.Bounds.{by-choose, Fine, fields-room}
+use Rattle.meaning.proofs.ByteLaws.{by-choice}
+use Rattle.table.proofs.Bounds.{Fine, fields-room}
 use Rattle.table.proofs.SiteLaws.{names-length}
 use Rattle.table.proofs.Slices.{rest-all, part-length, rows-joined, head-put}
 
@@ -71,12 +72,12 @@ module _ (read : Reader) (fine : Fine read) (s : Bytes) where
   next-done : (due : Due) → nextOf due (length s) ≡ nexts.Done → readFields due read s ≡ got nil
   unfolding readFields readAll readExactly
   next-done dues.All h =
-      by-choose (eqb (length s) 0) nexts.Done (nexts.Field dues.All) h
+      by-choice (eqb (length s) 0) nexts.Done (nexts.Field dues.All) h
       (λ b e. rw (eqb-true (length s) 0 b))
       (λ b e. absurd (let z : _≡_ {A = ℕ} 0 1 = cc in omega arith))
   next-done (dues.Exactly n) h =
-      by-choose (eqb n 0) (choose (eqb (length s) 0) nexts.Done (nexts.Refused 7)) (nexts.Field (dues.Exactly (n - 1))) h
-      (λ b e. by-choose (eqb (length s) 0) nexts.Done (nexts.Refused 7) e
+      by-choice (eqb n 0) (choose (eqb (length s) 0) nexts.Done (nexts.Refused 7)) (nexts.Field (dues.Exactly (n - 1))) h
+      (λ b e. by-choice (eqb (length s) 0) nexts.Done (nexts.Refused 7) e
       (λ b2 e2. rw (eqb-true n 0 b, readExactly, b2))
       (λ b2 e2. absurd (let z : _≡_ {A = ℕ} 0 1 = cc in omega arith)))
       (λ b e. absurd (let z : _≡_ {A = ℕ} 0 1 = cc in omega arith))
@@ -84,12 +85,12 @@ module _ (read : Reader) (fine : Fine read) (s : Bytes) where
   next-refused : (due : Due) {r : ℕ} → nextOf due (length s) ≡ nexts.Refused r → readFields due read s ≡ refused r
   unfolding readFields readAll readExactly
   next-refused dues.All h =
-      by-choose (eqb (length s) 0) nexts.Done (nexts.Field dues.All) h
+      by-choice (eqb (length s) 0) nexts.Done (nexts.Field dues.All) h
       (λ b e. absurd (let z : _≡_ {A = ℕ} 0 1 = cc in omega arith))
       (λ b e. absurd (let z : _≡_ {A = ℕ} 0 1 = cc in omega arith))
   next-refused (dues.Exactly n) {r} h =
-      by-choose (eqb n 0) (choose (eqb (length s) 0) nexts.Done (nexts.Refused 7)) (nexts.Field (dues.Exactly (n - 1))) h
-      (λ b e. by-choose (eqb (length s) 0) nexts.Done (nexts.Refused 7) e
+      by-choice (eqb n 0) (choose (eqb (length s) 0) nexts.Done (nexts.Refused 7)) (nexts.Field (dues.Exactly (n - 1))) h
+      (λ b e. by-choice (eqb (length s) 0) nexts.Done (nexts.Refused 7) e
       (λ b2 e2. absurd (let z : _≡_ {A = ℕ} 0 1 = cc in omega arith))
       (λ b2 e2. let w : 7 ≡ r = cc in rw (eqb-true n 0 b, readExactly, b2, w)))
       (λ b e. absurd (let z : _≡_ {A = ℕ} 0 1 = cc in omega arith))
@@ -113,12 +114,12 @@ module _ (read : Reader) (fine : Fine read) (s : Bytes) where
   next-field : (due later : Due) → nextOf due (length s) ≡ nexts.Field later → readFields due read s ≡ after (read s) (fieldsFrom later read)
   unfolding readFields
   next-field dues.All later h =
-      by-choose (eqb (length s) 0) nexts.Done (nexts.Field dues.All) h
+      by-choice (eqb (length s) 0) nexts.Done (nexts.Field dues.All) h
       (λ b e. absurd (let z : _≡_ {A = ℕ} 0 1 = cc in omega arith))
       (λ b e. let w : dues.All ≡ later = cc in rw (← w) (all-step (length s) refl (eqb-false (length s) 0 b)))
   next-field (dues.Exactly n) later h =
-      by-choose (eqb n 0) (choose (eqb (length s) 0) nexts.Done (nexts.Refused 7)) (nexts.Field (dues.Exactly (n - 1))) h
-      (λ b e. by-choose (eqb (length s) 0) nexts.Done (nexts.Refused 7) e
+      by-choice (eqb n 0) (choose (eqb (length s) 0) nexts.Done (nexts.Refused 7)) (nexts.Field (dues.Exactly (n - 1))) h
+      (λ b e. by-choice (eqb (length s) 0) nexts.Done (nexts.Refused 7) e
       (λ b2 e2. absurd (let z : _≡_ {A = ℕ} 0 1 = cc in omega arith))
       (λ b2 e2. absurd (let z : _≡_ {A = ℕ} 0 1 = cc in omega arith)))
       (λ b e. let w : dues.Exactly (n - 1) ≡ later = cc in rw (← w) (exactly-step n (eqb-false n 0 b)))
