@@ -1,4 +1,5 @@
 // The checks after reading, in document 01's order: 12, 13, the walk, and 14 if all shapes agree.
+use crate::first::MAX_FUNCTIONS;
 use crate::first::any_large;
 use crate::first::first_faces;
 use crate::survey::both_ways;
@@ -14,9 +15,6 @@ ghost use Rattle.faces.specs.FlatWalk.{Table};
 ghost use Rattle.faces.specs.Survey.{count};
 ghost use Rattle.faces.specs.First.{firstsOf, anyLarge};
 ghost use Rattle.faces.specs.Check.{CheckedBy};
-
-// "13 over 8 functions"
-const MAX_FUNCTIONS: usize = 8;
 
 pub enum Checked {
     Refused(u8),

@@ -11,16 +11,19 @@ ghost use Rattle.meaning.specs.Limits.{metavariableCount};
 ghost use Rattle.faces.specs.Survey.{count};
 ghost use Rattle.faces.specs.First.{applies, firstNode, firstsOf, listed, Fits, Pushed, Listing, Listed, large, anyLarge};
 
+// "13 over 8 functions"
+pub const MAX_FUNCTIONS: usize = 8;
+
 // "A face has at most 64 nodes"
 const MAX_FACE_NODES: u64 = 64;
 
 // No table has a node of this number.
 const ABSENT: usize = 65536;
 
-// The expression's node of each function's first face, by ascending metavariable. An array by value: there are at most 8, so that
+// The expression's node of each function's first face, by ascending metavariable. An array by value: there are few, so that
 // no caller has to lend room for them, and entries past `count` are not used.
 pub struct Firsts {
-    pub nodes: [usize; 8],
+    pub nodes: [usize; MAX_FUNCTIONS],
     pub count: usize,
 }
 
@@ -80,7 +83,7 @@ pub fn first_faces(ps: &[u64], faces: &[u64], functions: u32) -> Firsts
     ensures { λ r. ⌜ Listed (now (ps .entry)) (now (faces .entry)) functions r ⌝ }
 {
     let mut firsts = Firsts {
-        nodes: [0usize; 8],
+        nodes: [0usize; MAX_FUNCTIONS],
         count: 0,
     };
     let mut m = 0u32;

@@ -22,7 +22,7 @@ use table::token::depth;
 use table::token::size;
 
 // How many functions a row has masks for.
-pub const FUNCTIONS: usize = 8;
+pub const FUNCTIONS: usize = faces::first::MAX_FUNCTIONS;
 
 // Whether there is a row after another, and that row. Past the last every mask is empty.
 pub struct Stepped {
