@@ -2,10 +2,10 @@
 use mathlib.Core.Path.{_≡_, refl}
 use Prim.Native.Nat.{ℕ}
 use mathlib.Core.List.{List, [], _∷_, map}
-use Rattle.meaning.specs.Limits.{metavariableCount, placeCount}
+use Rattle.meaning.specs.Limits.{metavariableCount}
 use Rattle.meaning.specs.Basics.{All}
 use Rattle.meaning.specs.Term.{nil, one, symbol, variable, application, binder, own, slot, hole, bound, Term}
-use Rattle.meaning.specs.Problem.{forestOf, functions, metavariables}
+use Rattle.meaning.specs.Problem.{forestOf, placesOf, functions, metavariables}
 use Rattle.meaning.specs.Filling.{plug}
 use Rattle.meaning.specs.Row.{rows, rowBody}
 use Rattle.meaning.specs.Value.{candidate, solves, solutionRows}
@@ -17,11 +17,11 @@ abbrev pub Holds : Case → Type 0
 Holds c = map (textOf (c .problem)) (solutionRows (c .problem)) ≡ c .texts
 
 pub starred-hold : All Holds starred
-unfolding metavariableCount placeCount functions metavariables rows rowBody candidate solves solutionRows entryOf textOf
+unfolding metavariableCount placesOf functions metavariables rows rowBody candidate solves solutionRows entryOf textOf
 starred-hold = (refl, (refl, (refl, (refl, (refl, (refl, (refl, (refl, (refl, tt)))))))))
 
 pub further-hold : All Holds further
-unfolding metavariableCount placeCount functions metavariables rows rowBody candidate solves solutionRows entryOf textOf
+unfolding metavariableCount placesOf functions metavariables rows rowBody candidate solves solutionRows entryOf textOf
 further-hold = (refl, (refl, (refl, (refl, (refl, (refl, (refl, tt)))))))
 
 -- "No variable of a value, body or argument is ever caught": the body ∀w.w=□ filled with a variable that is bound outside it

@@ -17,6 +17,7 @@ pub mod ChoiceLaws
 pub mod Lowered
 -- Solutions
 pub mod Punching
+pub mod Apart
 pub mod BodyChoice
 pub mod Lockstep
 pub mod Constraints

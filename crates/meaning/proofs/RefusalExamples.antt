@@ -4,9 +4,9 @@
 use mathlib.Core.Path.{_≡_, refl}
 use Prim.Native.Nat.{ℕ, zero, suc}
 use mathlib.Core.List.{List, [], _∷_, _++_, map}
-use Rattle.meaning.specs.Limits.{maxInput, maxConstraints, maxDepth, metavariableCount, maxFunctions, maxFaceNodes, placeCount}
+use Rattle.meaning.specs.Limits.{maxInput, maxConstraints, maxDepth, metavariableCount, maxFunctions, maxFaceNodes}
 use Rattle.meaning.specs.Basics.{All}
-use Rattle.meaning.specs.Problem.{Problem, functions, metavariables}
+use Rattle.meaning.specs.Problem.{Problem, placesOf, functions, metavariables}
 use Rattle.meaning.specs.Row.{Row, rows, rowBody}
 use Rattle.meaning.specs.Value.{candidate, solves, solutionRows}
 use Rattle.meaning.specs.Field.{Bytes, word, field, encode}
@@ -120,7 +120,7 @@ IsAccepted s = (p : Problem) × (accept s ≡ got p)
 
 -- Acceptance with all that it computes with: to unfold this is to unfold that
 computed : Bytes → Answer Problem
-unfolding maxInput maxConstraints maxDepth metavariableCount maxFunctions maxFaceNodes placeCount word field metavariableIn functionIn holeIn kindOf partsOf headOf contentOf readExactly readAll contextBelow readTerm readPair constraintHead readConstraints readProblem functions bothWays overlarge checkProblem accept
+unfolding maxInput maxConstraints maxDepth metavariableCount maxFunctions maxFaceNodes placesOf word field metavariableIn functionIn holeIn kindOf partsOf headOf contentOf readExactly readAll contextBelow readTerm readPair constraintHead readConstraints readProblem functions bothWays overlarge checkProblem accept
 computed s = accept s
 
 -- The main theorems. The printed input is accepted as (P(X), s)
@@ -130,7 +130,7 @@ printed-accepted = refl
 
 -- Its solution rows' texts are the bytes printed
 pub printed-texts : map (λ (r : Row). encodeText (textOf (oneSymbol .problem) r)) (solutionRows (oneSymbol .problem)) ≡ printedFirst ∷ printedSecond ∷ []
-unfolding metavariableCount placeCount functions metavariables rows rowBody candidate solves solutionRows entryOf textOf word field encode encodeText
+unfolding metavariableCount placesOf functions metavariables rows rowBody candidate solves solutionRows entryOf textOf word field encode encodeText
 printed-texts = refl
 
 -- Each of the refusals is refused with its number

@@ -26,7 +26,7 @@ fillTerm h k t = fillLabel h k (t .0) (fill h (inner (t .0) k) (t .1))
 -- Hole i under k binders of the body gets argument i, moved under these
 abbrev pub plugHandler : (ℕ → Term) → Handler
 plugHandler arguments k (metavariable m) c = (slot (metavariable m), c)
-plugHandler arguments k (function f) c = (slot (function f), c)
+plugHandler arguments k (function f n) c = (slot (function f n), c)
 plugHandler arguments k (hole i) c = shiftTerm k (arguments i)
 
 abbrev pub plug : (ℕ → Term) → Term → Term
@@ -56,14 +56,14 @@ valueOr m (value t) = t
 valueOr m (body t) = (slot (metavariable m), nil)
 
 abbrev pub bodyOr : ℕ → Entry Term → Term
-bodyOr f absent = (slot (function f), nil)
-bodyOr f leftOpen = (slot (function f), nil)
-bodyOr f (value t) = (slot (function f), nil)
+bodyOr f absent = (slot (function f 0), nil)
+bodyOr f leftOpen = (slot (function f 0), nil)
+bodyOr f (value t) = (slot (function f 0), nil)
 bodyOr f (body b) = b
 
 abbrev pub fillHandler : Filling → Handler
 fillHandler σ k (metavariable m) c = valueOr m (σ m)
-fillHandler σ k (function f) c = plug (argument c) (bodyOr f (σ f))
+fillHandler σ k (function f n) c = plug (argument c) (bodyOr f (σ f))
 fillHandler σ k (hole i) c = (slot (hole i), c)
 
 -- Patterns filled
@@ -74,7 +74,7 @@ filled σ u = fill (fillHandler σ) 0 u
 abbrev pub bodyLabel : ℕ → Nameless → Terms → Type 0
 bodyLabel n (own o) c = Unit {0}
 bodyLabel n (slot (metavariable m)) c = ⊥
-bodyLabel n (slot (function f)) c = ⊥
+bodyLabel n (slot (function f a)) c = ⊥
 bodyLabel n (slot (hole i)) c = (i < n) × (c ≡ nil)
 
 abbrev pub IsBody : ℕ → Terms → Type 0
