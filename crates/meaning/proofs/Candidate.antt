@@ -19,7 +19,7 @@ use Rattle.meaning.specs.Row.{Row, rowBody, HasBodies}
 use Rattle.meaning.specs.Value.{Source, sourceOf, fromApplication, sourcesIn, sources, lookup, given, candidate}
 use Rattle.meaning.proofs.Lists.{never, by-test, choose-true, choose-false, eqb-eq, eqb-self, mem-each, each-mem, isIn-mem, mem-isIn, not-isIn}
 use Rattle.meaning.proofs.Proper.{IsArgument, Proper, applied-functions}
-use Rattle.meaning.proofs.Slots.{slots, standingAt, face-slot, slot-face, faces-expression, slot-standing, standing-slot, in-arguments, arguments-in, slot-applied, pattern-slot}
+use Rattle.meaning.proofs.Slots.{slots, standingAt, slot-face, slot-standing, standing-slot, in-arguments, arguments-in, faced-slot, faced-expression, faced-shape, faced-applied}
 use Rattle.meaning.proofs.Sources.{value-is, Walked, walked, HasSource, Told, application-told, application-has, source-at, face-source}
 
 pub record Fitting (p : Problem) (σ : Filling) (b : ℕ → Term) : Type 0 where
@@ -41,10 +41,10 @@ module _ (p : Problem) (σ : Filling) (b : ℕ → Term) (fit : Fitting p σ b) 
   theWalk = walked (fillHandler σ) 0 0 (patterns p) (expressions p) (fit .meets)
 
   pub faced : (x : Face) → x ∈ theWalk .found → IsExpression (one (x .term))
-  faced = faces-expression 0 0 (patterns p) (expressions p) (theWalk .found) (fit .proper .expression) (theWalk .defined)
+  faced = faced-expression p (fit .proper) (theWalk .found) (theWalk .defined)
 
   slotOf : (x : Face) → x ∈ theWalk .found → (z : Slot) → x .what ≡ z → (z, x .children) ∈ slots (patterns p)
-  slotOf x q z e = subst (λ (y : Slot). _∈_ {A = Slot × Terms} (y, x .children) (slots (patterns p))) e (face-slot 0 0 (patterns p) (expressions p) (theWalk .found) x (theWalk .defined) q)
+  slotOf x q z e = faced-slot p (fit .proper) (theWalk .found) (theWalk .defined) z x q e
 
   -- A metavariable that stands alone
   plain-right : (x : Face) → x ∈ theWalk .found → (s : Source) → s ∈ sourceOf x → Right p σ s
@@ -61,10 +61,10 @@ module _ (p : Problem) (σ : Filling) (b : ℕ → Term) (fit : Fitting p σ b) 
       }
 
   pub shapeOf : (f n : ℕ) (x : Face) → x ∈ theWalk .found → x .what ≡ function f n → (trees (x .children) ≡ n) × IsArgument (x .children)
-  shapeOf f n x q e = pattern-slot (patterns p) (fit .proper .pattern) f n (x .children) (slotOf x q (function f n) e)
+  shapeOf = faced-shape p (fit .proper) (theWalk .found) (theWalk .defined)
 
   appliedAt : (f n : ℕ) (x : Face) → x ∈ theWalk .found → x .what ≡ function f n → f ∈ applied (patterns p)
-  appliedAt f n x q e = slot-applied (patterns p) f n (x .children) (slotOf x q (function f n) e)
+  appliedAt = faced-applied p (fit .proper) (theWalk .found) (theWalk .defined)
 
   needs-hole : (f i : ℕ) → f ∈ applied (patterns p) → hasHole i (one (b f)) ≡ true → needs σ (argumentOf f i) ≡ true
   needs-hole f i a e = ap (λ (y : Entry Term). hasHole i (one (bodyOr f y))) (fit .agree f a) ∙ e

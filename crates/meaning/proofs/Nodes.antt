@@ -34,7 +34,7 @@ pub data Stands {L : Type 0} : ℕ → Forest L → Tree L → Type 0 where
   below : {l : L} {c s : Forest L} {t : Tree L} {n : ℕ} → Stands n c t → Stands (suc n) (cons l c s) t
   beside : {l : L} {c s : Forest L} {t : Tree L} {n m : ℕ} → Stands n s t → m ≡ suc (size c + n) → Stands m (cons l c s) t
 
-stands-size : {L : Type 0} {n : ℕ} {u : Forest L} {t : Tree L} → Stands n u t → n < size u
+pub stands-size : {L : Type 0} {n : ℕ} {u : Forest L} {t : Tree L} → Stands n u t → n < size u
 stands-size here = omega arith
 stands-size (below h) = let r = stands-size h in omega arith
 stands-size (beside h e) = let r = stands-size h in omega arith

@@ -17,7 +17,7 @@ use Rattle.meaning.specs.Problem.{Constraint, Problem, forestOf, pattern
 use Rattle.meaning.specs.Read.{Answer, refused, got, Context, inPattern, inArgument, inExpression, inBody, contextBelow}
 use Rattle.meaning.specs.Accept.{bothWays, overlarge, checkProblem}
 use Rattle.meaning.specs.Readable.{NodeFits, Readable, ReadableConstraint, Accepted, WithinLimits}
-use Rattle.meaning.proofs.Lists.{never, or-left, or-right, by-test, choose-true, eqb-eq, eqb-self, map-mem, mem-keep, keep-mem, isIn-mem, mem-isIn, mem-upTo, all-mem, every-all}
+use Rattle.meaning.proofs.Lists.{never, or-left, or-right, by-test, choose-true, eqb-eq, eqb-self, mem-map, map-mem, mem-keep, keep-mem, isIn-mem, mem-isIn, mem-upTo, all-mem, every-all}
 
 -- In an argument there are only metavariables besides the expression's own nodes
 abbrev pub argumentLabel : Nameless → Terms → Type 0
@@ -220,6 +220,13 @@ unfolding placesOf Small
 one-place p w f h =
     let (n, m, t) = tagged-applied p w f h in
     readable-small maxDepth inPattern [] (namedPatterns p) (patterns-readable p w) .0 (f, placesOf p f) (places-among f n (applications (patterns p)) m) .1
+
+-- EVERY APPLICATION of a function has as many arguments as the function has places
+pub same-places : (p : Problem) → WithinLimits p → (f n : ℕ) → (f, n) ∈ applications (patterns p) → n ≡ placesOf p f
+unfolding Small
+same-places p w f n m =
+    readable-small maxDepth inPattern [] (namedPatterns p) (patterns-readable p w) .0 (f, n) m .1
+    ∙ sym (one-place p w f (mem-map (λ (a : ℕ × ℕ). a .0) m))
 
 -- Each place of a function has a hole with a tag
 pub hole-tagged : (p : Problem) → WithinLimits p → (f i : ℕ) → f ∈ applied (patterns p) → i < placesOf p f → NodeFits inBody (slot (hole i)) nil

@@ -30,7 +30,7 @@ use Rattle.meaning.proofs.Sources.{arguments, plugged}
 use Rattle.meaning.proofs.Candidate.{Fitting, theWalk, faced, shapeOf}
 
 -- The first application of a function
-application-is : (f : ℕ) (z : Slot) → isApplication f z ≡ true → (n : ℕ) × (z ≡ function f n)
+pub application-is : (f : ℕ) (z : Slot) → isApplication f z ≡ true → (n : ℕ) × (z ≡ function f n)
 application-is f (metavariable m) e = absurd (false≢true e)
 application-is f (function g n) e = (n, ap (λ (h : ℕ). function h n) (sym (eqb-eq f g e)))
 application-is f (hole i) e = absurd (false≢true e)

@@ -10,12 +10,12 @@ use native.Mathlib.Omega.{arith}
 use lib.Dec.{eqb}
 use Rattle.meaning.specs.Basics.{each, join, guard, _∈_}
 use Rattle.meaning.specs.Term.{nil, cons, one, size, trees, own, slot, Slot, metavariable, function, hole, Nameless, Terms, Term, inner, IsExpression}
-use Rattle.meaning.specs.Problem.{plain, applications, applied, alone, argumentOf, Standing, inArguments, standings}
+use Rattle.meaning.specs.Problem.{Problem, patterns, expressions, plain, applications, applied, alone, argumentOf, Standing, inArguments, standings}
 use Rattle.meaning.specs.Filling.{argument, IsBody}
 use Rattle.meaning.specs.Solution.{hasHole}
-use Rattle.meaning.specs.Face.{Face, agrees, meet, walk}
+use Rattle.meaning.specs.Face.{Face, agrees, meet, walk, faces}
 use Rattle.meaning.proofs.Lists.{never, eqb-eq, eqb-self, or-cases, or-left, or-right, each-append, mem-map, map-mem, mem-each, each-mem}
-use Rattle.meaning.proofs.Proper.{IsArgument, IsPattern}
+use Rattle.meaning.proofs.Proper.{IsArgument, IsPattern, Proper}
 
 abbrev pub slotsNode : Nameless → Terms → List (Slot × Terms) → List (Slot × Terms)
 slotsNode (own o) c below = below
@@ -220,7 +220,7 @@ application-slot (cons (slot (function g a)) c s) h f n q = go (application-slot
         (r .0, List·Memᴰ·tail (r .1))
 application-slot (cons (slot (hole i)) c s) h f n q = absurd (h .0)
 
-slot-application : (u : Terms) (f n : ℕ) (d : Terms) → (function f n, d) ∈ slots u → (f, n) ∈ applications u
+pub slot-application : (u : Terms) (f n : ℕ) (d : Terms) → (function f n, d) ∈ slots u → (f, n) ∈ applications u
 slot-application nil f n d q = absurd (List·Memᴰ·not-nil q)
 slot-application (cons (own o) c s) f n d q =
     ⊎-elim (λ x. Memᴰ·append-left (applications s) (slot-application c f n d x)) (λ x. Memᴰ·append-right (applications c) (slot-application s f n d x))
@@ -293,3 +293,18 @@ slot-hole (cons (slot (function f n)) c s) i d q =
 slot-hole (cons (slot (hole j)) c s) i d q =
     ⊎-elim (λ (e : hole i ≡ hole j). let w : i ≡ j = cc in or-left (eqb i j) (hasHole i c || hasHole i s) (ap (λ (x : ℕ). eqb i x) (sym w) ∙ eqb-self i))
     (λ x. or-right (eqb i j) (hasHole i c || hasHole i s) (or-right (hasHole i c) (hasHole i s) (slot-hole s i d x))) (slot-cases q)
+
+-- The faces of a proper problem
+module _ (p : Problem) (c : Proper p) (xs : List Face) (defined : faces p ≡ some xs) where
+  pub faced-slot : (z : Slot) (x : Face) → x ∈ xs → x .what ≡ z → (z, x .children) ∈ slots (patterns p)
+  faced-slot z x q e =
+      subst (λ (y : Slot). _∈_ {A = Slot × Terms} (y, x .children) (slots (patterns p))) e (face-slot 0 0 (patterns p) (expressions p) xs x defined q)
+
+  pub faced-expression : (x : Face) → x ∈ xs → IsExpression (one (x .term))
+  faced-expression = faces-expression 0 0 (patterns p) (expressions p) xs (c .expression) defined
+
+  pub faced-shape : (f n : ℕ) (x : Face) → x ∈ xs → x .what ≡ function f n → (trees (x .children) ≡ n) × IsArgument (x .children)
+  faced-shape f n x q e = pattern-slot (patterns p) (c .pattern) f n (x .children) (faced-slot (function f n) x q e)
+
+  pub faced-applied : (f n : ℕ) (x : Face) → x ∈ xs → x .what ≡ function f n → f ∈ applied (patterns p)
+  faced-applied f n x q e = slot-applied (patterns p) f n (x .children) (faced-slot (function f n) x q e)

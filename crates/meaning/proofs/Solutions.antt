@@ -38,7 +38,7 @@ punch-body n (none ∷ ms) (cons (own o) c s) h f =
 punch-body n (some j ∷ ms) (cons (own o) c s) h f =
     ((f j (List·Memᴰ·head refl), refl), tt, punch-body n (drop (size c) ms) s (h .2) (λ i q. f i (List·Memᴰ·tail (drop-mem (some i) (size c) ms q))))
 
-row-body-shape : (p : Problem) (r : Row) → Proper p → IsRow p r → (f : ℕ) → f ∈ applied (patterns p) → IsBody (placesOf p f) (one (rowBody p r f))
+pub row-body-shape : (p : Problem) (r : Row) → Proper p → IsRow p r → (f : ℕ) → f ∈ applied (patterns p) → IsBody (placesOf p f) (one (rowBody p r f))
 row-body-shape p r c i f a =
     let xs = is-some (faces p) (i .agree) in
     let q : f ∈ functions p = applied-functions p c f a in
@@ -62,6 +62,15 @@ module _ (p : Problem) (r : Row) (passes : solves p r ≡ true) where
 
   pub passes-fitting : Proper p → IsRow p r → Fitting p (candidate p r) (rowBody p r)
   passes-fitting c i = record { proper = c; meets = passes-meets; agree = candidate-function p r; shapes = row-body-shape p r c i }
+
+pub passes-from : (p : Problem) (r : Row) → filled (candidate p r) (patterns p) ≡ expressions p
+    → ((m : ℕ) → m ∈ metavariables p → isClosedEntry (candidate p r m) ≡ true) → solves p r ≡ true
+unfolding solves
+passes-from p r meets closed =
+    T-true (T-and (sameTerms (filled (candidate p r) (patterns p)) (expressions p)) (every (λ m. isClosedEntry (candidate p r m)) (metavariables p))
+    (subst (λ (u : Terms). T (sameTerms u (expressions p))) (sym meets) (sameTerms-refl (expressions p)))
+    (all-every (λ m. isClosedEntry (candidate p r m)) (metavariables p)
+    (mem-all (λ m. isClosedEntry (candidate p r m) ≡ true) (metavariables p) closed)))
 
 -- THE CANDIDATE OF A ROW THAT PASSES IS A SOLUTION
 pub candidate-solution : (p : Problem) (r : Row) → Proper p → IsRow p r → solves p r ≡ true → Solution p (candidate p r)
@@ -134,9 +143,28 @@ solution-complete p σ a s =
     let r = row-exists p σ c s in
     record { row = r .0; isRow = r .1; hasBodies = r .2; only = λ q i h. row-only p σ c s q (r .0) i (r .1) h (r .2) }
 
+-- What a solution gives is closed
+pub solution-closed : (p : Problem) (σ : Filling) → Solution p σ → (m : ℕ) → isClosedEntry (σ m) ≡ true
+solution-closed p σ s m = by-test (isFunction p m) function-case other-case
+  where
+    function-case : isFunction p m ≡ true → isClosedEntry (σ m) ≡ true
+    function-case q =
+        let b = s .bodies m (isIn-mem m (applied (patterns p)) q) in
+        ap isClosedEntry (b .1) ∙ T-true (closed-test 0 (one (b .0)) (b .3))
+
+    value-case : (σ m ≡ leftOpen) ⊎ ((t : Term) × (σ m ≡ value t) × IsExpression (one t) × ClosedTerm t) → isClosedEntry (σ m) ≡ true
+    value-case (inl q) = ap isClosedEntry q
+    value-case (inr t) = ap isClosedEntry (t .1) ∙ T-true (closed-test 0 (one (t .0)) (t .3))
+
+    other-case : isFunction p m ≡ false → isClosedEntry (σ m) ≡ true
+    other-case q =
+        let na : m ∈ applied (patterns p) → ⊥ = λ k. false≢true (sym q ∙ mem-isIn m (applied (patterns p)) k) in
+        by-test (isPlain p m)
+        (λ y. value-case (s .values m (isIn-mem m (plain (patterns p)) y)))
+        (λ y. ap isClosedEntry (s .others m na (λ k. false≢true (sym y ∙ mem-isIn m (plain (patterns p)) k))))
+
 -- The test of a row is right: it passes exactly the solution rows
 pub solves-is-right : (p : Problem) (r : Row) → Accepted p → r ∈ rows p → (solves p r ≡ true) ↔ SolutionRow p r
-unfolding solves
 solves-is-right p r a i = (forth, back)
   where
     c : Proper p
@@ -146,32 +174,9 @@ solves-is-right p r a i = (forth, back)
     forth e = (candidate p r, candidate-solution p r c (rows-are p r .0 i) e, λ f q. candidate-function p r f (functions-applied p f q))
 
     back : SolutionRow p r → solves p r ≡ true
-    back x = passes (subst (Solution p) (fun-ext (row-solution-unique p r (x .0) a (x .1) (x .2))) (x .1))
-      where
-        closed-entry : Solution p (candidate p r) → (m : ℕ) → isClosedEntry (candidate p r m) ≡ true
-        closed-entry s m = by-test (isFunction p m) function-case other-case
-          where
-            function-case : isFunction p m ≡ true → isClosedEntry (candidate p r m) ≡ true
-            function-case q =
-                let b = s .bodies m (isIn-mem m (applied (patterns p)) q) in
-                ap isClosedEntry (b .1) ∙ T-true (closed-test 0 (one (b .0)) (b .3))
-
-            value-case : (candidate p r m ≡ leftOpen) ⊎ ((t : Term) × (candidate p r m ≡ value t) × IsExpression (one t) × ClosedTerm t) → isClosedEntry (candidate p r m) ≡ true
-            value-case (inl q) = ap isClosedEntry q
-            value-case (inr t) = ap isClosedEntry (t .1) ∙ T-true (closed-test 0 (one (t .0)) (t .3))
-
-            other-case : isFunction p m ≡ false → isClosedEntry (candidate p r m) ≡ true
-            other-case q =
-                let na : m ∈ applied (patterns p) → ⊥ = λ k. false≢true (sym q ∙ mem-isIn m (applied (patterns p)) k) in
-                by-test (isPlain p m)
-                (λ y. value-case (s .values m (isIn-mem m (plain (patterns p)) y)))
-                (λ y. ap isClosedEntry (s .others m na (λ k. false≢true (sym y ∙ mem-isIn m (plain (patterns p)) k))))
-
-        passes : Solution p (candidate p r) → solves p r ≡ true
-        passes s =
-            T-true (T-and (sameTerms (filled (candidate p r) (patterns p)) (expressions p)) (every (λ m. isClosedEntry (candidate p r m)) (metavariables p))
-            (subst (λ (u : Terms). T (sameTerms u (expressions p))) (sym (s .meets)) (sameTerms-refl (expressions p)))
-            (all-every (λ m. isClosedEntry (candidate p r m)) (metavariables p) (mem-all (λ m. isClosedEntry (candidate p r m) ≡ true) (metavariables p) (λ m q. closed-entry s m))))
+    back x =
+        let s : Solution p (candidate p r) = subst (Solution p) (fun-ext (row-solution-unique p r (x .0) a (x .1) (x .2))) (x .1) in
+        passes-from p r (s .meets) (λ m q. solution-closed p (candidate p r) s m)
 
 -- THE FULL LIST holds solutions only, with their rows
 pub listed-solution : (p : Problem) (r : Row) (σ : Filling) → Accepted p → (r, σ) ∈ fullList p → (r ∈ rows p) × Solution p σ × HasBodies p r σ

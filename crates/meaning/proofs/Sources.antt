@@ -87,12 +87,12 @@ lowest-there i (y ∷ ys) x m e = go (isHole i (y .what)) refl (λ q. lowest-the
     go false q ih (inr r) = ih r
 
 -- Argument i of the filled arguments is argument i, filled
-argument-filled : (h : Handler) (k : ℕ) (c : Terms) (i : ℕ) → i < trees c → argument (fill h k c) i ≡ fillTerm h k (argument c i)
+pub argument-filled : (h : Handler) (k : ℕ) (c : Terms) (i : ℕ) → i < trees c → argument (fill h k c) i ≡ fillTerm h k (argument c i)
 argument-filled h k nil i q = absurd (omega arith)
 argument-filled h k (cons l c s) zero q = refl
 argument-filled h k (cons l c s) (suc i) q = argument-filled h k s i (omega arith)
 
-argument-of : (c : Terms) (i : ℕ) → IsArgument c → i < trees c → IsArgument (one (argument c i))
+pub argument-of : (c : Terms) (i : ℕ) → IsArgument c → i < trees c → IsArgument (one (argument c i))
 argument-of nil i h q = absurd (omega arith)
 argument-of (cons l c s) zero h q = (h .0, h .1, tt)
 argument-of (cons l c s) (suc i) h q = argument-of s i (h .2) (omega arith)
