@@ -6,3 +6,4 @@ pub mod Holding
 pub mod FilledFaces
 pub mod Agreement
 pub mod FitLaws
+pub mod LowestNode
