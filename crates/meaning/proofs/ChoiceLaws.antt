@@ -168,6 +168,9 @@ apart-test (some i ∷ ms) (v ∷ us) a =
     (true-T (ap (λ (n : ℕ). eqb n 0) (front-unmarked (size v - 1) ms past))) (apart-test ms us (later-apart (some i) v ms us a))
 
 module _ (n : ℕ) (face : Term) (ms : Marks) where
+  passes-apart : isChoice n face ms ≡ true → Apart ms (views face)
+  passes-apart t = test-apart ms (views face) (and-T (every (fitsPlace (views face) ms) (upTo n)) (areApart ms (views face)) (true-T t) .1)
+
   choices-full : Choice n face ms → ms ∈ choices n face
   choices-full c =
       mem-keep (isChoice n face) ms (allMarks n (size (one face)))
@@ -187,15 +190,15 @@ module _ (n : ℕ) (face : Term) (ms : Marks) where
       let (l, a) = allMarks-are n (size (one face)) ms .0 m in
       let e : length ms ≡ length (views face) = l ∙ sym (length-views [] 0 (one face)) in
       let low : (k i : ℕ) → getElem? ms k ≡ some (some i) → i < n = λ k i d. all-mem (Placed n) (some i) ms a (at-mem ms k (some i) d) in
-      let tests = and-T (every (fitsPlace (views face) ms) (upTo n)) (areApart ms (views face)) (true-T t) in
+      let every-place = and-T (every (fitsPlace (views face) ms) (upTo n)) (areApart ms (views face)) (true-T t) .0 in
       let fits : (i : ℕ) → i < n → T (fitsPlace (views face) ms i) =
-      λ i b. true-T (all-mem (λ j. fitsPlace (views face) ms j ≡ true) i (upTo n) (every-all (fitsPlace (views face) ms) (upTo n) (tests .0)) (mem-upTo n i b)) in
+      λ i b. true-T (all-mem (λ j. fitsPlace (views face) ms j ≡ true) i (upTo n) (every-all (fitsPlace (views face) ms) (upTo n) every-place) (mem-upTo n i b)) in
       record {
         long = l;
         places = low;
         equal = λ j k i d q. fits-equal (views face) ms i (fits i (low j i d)) e j k d q;
         unbound = λ k i u d q. fits-unbound (views face) ms i (fits i (low k i d)) k u d q;
-        apart = test-apart ms (views face) (tests .1);
+        apart = passes-apart t;
       }
 
 -- One choice of each list
