@@ -33,8 +33,13 @@ pub mod Weights
 pub mod TextLaws
 pub mod TextLength
 pub mod SecondDemand
+pub mod PassLaws
 -- The search
+pub mod PlaceLaws
+pub mod OneCall
 pub mod CallLaws
+pub mod WriteLaws
+pub mod EntryLaws
 -- Examples
 pub mod Examples
 pub mod RefusalExamples

@@ -22,8 +22,12 @@ pub mod Row
 pub mod Value
 -- Solution texts
 pub mod Text
+pub mod Passing
 -- The search
 pub mod Search
+pub mod PlaceValue
+-- The entry points, and lists of calls
+pub mod Entry
 pub mod Calls
 -- Examples
 pub mod Case
