@@ -19,6 +19,7 @@ pub mod Lowered
 pub mod Punching
 pub mod BodyChoice
 pub mod Lockstep
+pub mod AgreeLaws
 pub mod Constraints
 pub mod Proper
 pub mod Slots

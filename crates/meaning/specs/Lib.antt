@@ -17,6 +17,7 @@ pub mod Filling
 pub mod Solution
 -- Faces, choices and rows
 pub mod Face
+pub mod Agree
 pub mod Choice
 pub mod Row
 pub mod Value
