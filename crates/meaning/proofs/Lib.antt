@@ -12,8 +12,10 @@ pub mod TermReading
 pub mod ProblemReading
 pub mod TextReading
 -- Choices and rows
+pub mod OrderLaws
 pub mod Ordered
 pub mod ChoiceLaws
+pub mod Determined
 pub mod Lowered
 -- Solutions
 pub mod Punching

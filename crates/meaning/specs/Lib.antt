@@ -20,6 +20,7 @@ pub mod Face
 pub mod Agree
 pub mod Choice
 pub mod Row
+pub mod Difference
 pub mod Value
 -- Solution texts
 pub mod Text
