@@ -39,5 +39,6 @@ pub mod SecondDemand
 -- The search
 pub mod CallLaws
 -- Examples
+pub mod Computed
 pub mod Examples
 pub mod RefusalExamples

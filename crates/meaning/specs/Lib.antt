@@ -29,3 +29,4 @@ pub mod Search
 pub mod Calls
 -- Examples
 pub mod Case
+pub mod Starred
