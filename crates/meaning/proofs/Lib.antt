@@ -12,13 +12,16 @@ pub mod TermReading
 pub mod ProblemReading
 pub mod TextReading
 -- Choices and rows
+pub mod OrderLaws
 pub mod Ordered
 pub mod ChoiceLaws
+pub mod Determined
 pub mod Lowered
 -- Solutions
 pub mod Punching
 pub mod BodyChoice
 pub mod Lockstep
+pub mod AgreeLaws
 pub mod Constraints
 pub mod Proper
 pub mod Slots
@@ -41,5 +44,6 @@ pub mod CallLaws
 pub mod WriteLaws
 pub mod EntryLaws
 -- Examples
+pub mod Computed
 pub mod Examples
 pub mod RefusalExamples

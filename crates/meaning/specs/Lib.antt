@@ -17,8 +17,10 @@ pub mod Filling
 pub mod Solution
 -- Faces, choices and rows
 pub mod Face
+pub mod Agree
 pub mod Choice
 pub mod Row
+pub mod Difference
 pub mod Value
 -- Solution texts
 pub mod Text
@@ -31,3 +33,4 @@ pub mod Entry
 pub mod Calls
 -- Examples
 pub mod Case
+pub mod Starred
