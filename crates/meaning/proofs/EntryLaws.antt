@@ -52,7 +52,7 @@ row-text-passes : (s : Bytes) (p : Problem) (r : Row) → All Byte s → accept 
 row-text-passes s p r b e i h =
     let a : Accepted p = accept-accepted s p b e .0 in
     let m : r ∈ rows p = rows-are p r .1 i in
-    check-is-right s (rowText p r) p (textOf p r) e (text-read-back p r a m h) .1 (text-passes p r a m h)
+    check-is-right s (rowText p r) p (textOf p r) e (text-read-back p r a m h) .1 (text-passes p r a m h .0)
 
 pub written-passes : (s : Bytes) (v : PlaceValue) (buffer after : Bytes) (n : ℕ)
     → All Byte s → WriteCall s v buffer (got n) after → WrittenText s v n after

@@ -47,3 +47,4 @@ pub mod EntryLaws
 pub mod Computed
 pub mod Examples
 pub mod RefusalExamples
+pub mod EntryExamples
