@@ -194,10 +194,13 @@ pub text-refusals-hold : All IsRefusedText textRefusals
 unfolding reads
 text-refusals-hold = (refl, (refl, (refl, (refl, (refl, (refl, (refl, (refl, (refl, (refl, (refl, (refl, (refl, (refl, (refl, (refl, tt))))))))))))))))
 
--- "8 tag 5 or 6 in an expression": a body is one, though of a text every refusal becomes 20
-pub body-refusals-hold : (readTerm maxDepth inBody (metavariableField 1) ≡ refused 8) × (readTerm maxDepth inBody (functionField 0 symbolField) ≡ refused 8)
+-- In a body, though of a text every refusal becomes 20: "8 tag 5 or 6 in an expression", and a hole that is not empty
+abbrev bodyRefusals : List Refusal
+bodyRefusals = by 8 (metavariableField 1) ∷ by 8 (functionField 0 symbolField) ∷ by 6 (field 10 (0 ∷ [])) ∷ []
+
+pub body-refusals-hold : All (λ (r : Refusal). readTerm maxDepth inBody (r .input) ≡ refused (r .number)) bodyRefusals
 unfolding reads
-body-refusals-hold = (refl, refl)
+body-refusals-hold = (refl, (refl, (refl, tt)))
 
 -- The limits themselves are kept
 pub limits-accepted : All IsAccepted atLimits
