@@ -89,8 +89,9 @@ refusals =
     ∷ by 4 (constraintField symbolField (field 8 []))
     ∷ by 4 (constraintField symbolField (deep 32 (field 8 [])))
     ∷ by 4 (sixteen ++ field 8 [])
-    -- a symbol at depth 33
+    -- a symbol at depth 33, in an expression and in a pattern
     ∷ by 5 (constraintField symbolField (deep 32 symbolField))
+    ∷ by 5 (withPattern (deep 32 symbolField))
     -- a symbol and a variable of 1 byte and of 3; a metavariable of none, and of 2 before its number is looked at
     ∷ by 6 (withPattern (field 1 (0 ∷ [])))
     ∷ by 6 (withPattern (field 1 (0 ∷ 5 ∷ 0 ∷ [])))
@@ -188,7 +189,7 @@ IsReadText s = (is : List Item) × (readText s ≡ got is)
 -- The main theorems. Each of the refusals is refused with its number
 pub refusals-hold : All IsRefused refusals
 unfolding accepts
-refusals-hold = (refl, (refl, (refl, (refl, (refl, (refl, (refl, (refl, (refl, (refl, (refl, (refl, (refl, (refl, (refl, (refl, (refl, (refl, (refl, (refl, (refl, (refl, (refl, (refl, (refl, (refl, (refl, (refl, (refl, (refl, (refl, (refl, (refl, (refl, (refl, (refl, (refl, (refl, (refl, (refl, (refl, tt)))))))))))))))))))))))))))))))))))))))))
+refusals-hold = (refl, (refl, (refl, (refl, (refl, (refl, (refl, (refl, (refl, (refl, (refl, (refl, (refl, (refl, (refl, (refl, (refl, (refl, (refl, (refl, (refl, (refl, (refl, (refl, (refl, (refl, (refl, (refl, (refl, (refl, (refl, (refl, (refl, (refl, (refl, (refl, (refl, (refl, (refl, (refl, (refl, (refl, tt))))))))))))))))))))))))))))))))))))))))))
 
 pub text-refusals-hold : All IsRefusedText textRefusals
 unfolding reads
