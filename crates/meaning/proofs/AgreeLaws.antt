@@ -51,7 +51,8 @@ same-agrees (binders {b}) = agrees-self (binder b tt)
 
 -- One node with its children, and the siblings after it
 met-agree : (k n : ℕ) (l : Nameless) (c s s′ : Terms) (t : Term) (below : Option (List Face))
-    → isSome (meet k n l c t below) ≡ true → (isSome below ≡ true → Agree c (t .1)) → Agree s s′ → Agree (cons l c s) (cons (t .0) (t .1) s′)
+    → isSome (meet k n l c t below) ≡ true → (isSome below ≡ true → Agree c (t .1)) → Agree s s′
+    → Agree (cons l c s) (cons (t .0) (t .1) s′)
 met-agree k n (own o) c s s′ t below e f a =
     let r = guard-some (agrees o (t .0)) below e in
     subst (λ (l : Nameless). Agree (cons (own o) c s) (cons l (t .1) s′)) (agrees-eq o (t .0) (r .0)) (nodes (same-self o) (f (r .1)) a)
@@ -70,10 +71,12 @@ agree-then-walk : (k n : ℕ) (u v : Terms) → Agree u v → isSome (walk k n u
 agree-then-walk k n u v ends = refl
 agree-then-walk k n u v (nodes {o} {o′} {c} {c′} {s} {s′} h a b) =
     some-join (guard (agrees o (own o′)) (walk (inner (own o) k) (suc n) c c′)) (walk k (suc n + size c′) s s′)
-    (some-guard (agrees o (own o′)) (walk (inner (own o) k) (suc n) c c′) (same-agrees h) (agree-then-walk (inner (own o) k) (suc n) c c′ a))
+    (some-guard (agrees o (own o′)) (walk (inner (own o) k) (suc n) c c′) (same-agrees h)
+    (agree-then-walk (inner (own o) k) (suc n) c c′ a))
     (agree-then-walk k (suc n + size c′) s s′ b)
 agree-then-walk k n u v (isMet {z} {l} {c} {c′} {s} {s′} a) =
-    some-join (meet k n (slot z) c (l, c′) (walk k (suc n) c c′)) (walk k (suc n + size c′) s s′) refl (agree-then-walk k (suc n + size c′) s s′ a)
+    some-join (meet k n (slot z) c (l, c′) (walk k (suc n) c c′)) (walk k (suc n + size c′) s s′) refl
+    (agree-then-walk k (suc n + size c′) s s′ a)
 
 -- Main theorems
 pub walk-agree : (k n : ℕ) (u v : Terms) → (isSome (walk k n u v) ≡ true) ↔ Agree u v

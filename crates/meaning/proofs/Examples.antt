@@ -11,26 +11,27 @@ use Rattle.meaning.specs.Row.{Row, rows}
 use Rattle.meaning.specs.Value.{solutionRows}
 use Rattle.meaning.specs.Read.{got}
 use Rattle.meaning.specs.Accept.{accept}
-use Rattle.meaning.specs.Text.{textOf, encodeText}
+use Rattle.meaning.specs.Text.{textOf, encodeText, readText}
 use Rattle.meaning.specs.Case.{Case, further}
 use Rattle.meaning.specs.Starred.{Starred, starred}
-use Rattle.meaning.proofs.Computed.{accepts, texts}
+use Rattle.meaning.proofs.Computed.{accepts, texts, reads}
 
 -- A problem has so many rows, and the texts of its solution rows, in row order, are those of the case
 abbrev pub Holds : Case → Type 0
 Holds c = (length (rows (c .problem)) ≡ c .rowCount) × (map (textOf (c .problem)) (solutionRows (c .problem)) ≡ c .texts)
 
--- ... it is what its bytes are accepted as, and the texts are written as theirs
+-- ... it is what its bytes are accepted as, and the texts are written as theirs and read back from them
 abbrev pub HoldsInBytes : Starred → Type 0
 HoldsInBytes s =
     (accept (s .input) ≡ got (s .case .problem))
     × Holds (s .case)
     × (map (λ (r : Row). encodeText (textOf (s .case .problem) r)) (solutionRows (s .case .problem)) ≡ s .written)
+    × (map readText (s .written) ≡ map got (s .case .texts))
 
 -- THE STARRED CASES
 pub starred-hold : All HoldsInBytes starred
-unfolding accepts texts
-starred-hold = ((refl, (refl, refl), refl), ((refl, (refl, refl), refl), ((refl, (refl, refl), refl), ((refl, (refl, refl), refl), ((refl, (refl, refl), refl), ((refl, (refl, refl), refl), ((refl, (refl, refl), refl), ((refl, (refl, refl), refl), ((refl, (refl, refl), refl), tt)))))))))
+unfolding accepts texts reads
+starred-hold = ((refl, (refl, refl), refl, refl), ((refl, (refl, refl), refl, refl), ((refl, (refl, refl), refl, refl), ((refl, (refl, refl), refl, refl), ((refl, (refl, refl), refl, refl), ((refl, (refl, refl), refl, refl), ((refl, (refl, refl), refl, refl), ((refl, (refl, refl), refl, refl), ((refl, (refl, refl), refl, refl), tt)))))))))
 
 pub further-hold : All Holds further
 unfolding texts

@@ -143,10 +143,11 @@ earlier-right : {m : Mark} {ms : Marks} → Earlier (m ∷ ms) [] → ⊥
 earlier-right h = elim h [ ]
 
 earlier-lexical : Lexical Before Earlier
-earlier-lexical = record { differs = λ h. here h; goesOn = λ h. later h; split = earlier-split; notLeft = earlier-left; notRight = earlier-right }
+earlier-lexical =
+    record { differs = λ h. here h; goesOn = λ h. later h; split = earlier-split; notLeft = earlier-left; notRight = earlier-right }
 
--- Main theorems: choices. "Of two choices the earlier is the one that has the lowest node in which they differ", where a hole comes before none
--- and the hole of an earlier place before that of a later one
+-- Main theorems: choices. "Of two choices the earlier is the one that has the lowest node in which they differ", where a hole comes
+-- before none and the hole of an earlier place before that of a later one
 pub earlier-words : (ms us : Marks) → Earlier ms us ↔ ByFirst Before ms us
 earlier-words ms us = lexical-words Before Earlier earlier-lexical before-asymmetric ms us
 

@@ -43,9 +43,11 @@ module _ {A : Type 0} (R : A → A → Type 0) where
       go (inr m) (inl e) = sym e
       go (inr m) (inr n) = absurd (a x y (g y n) (h x m))
 
-  same-rest : Asymmetric R → (x y : A) (xs ys : List A) → x ≡ y → Ordered R (x ∷ xs) → ((z : A) → z ∈ (x ∷ xs) → z ∈ (y ∷ ys)) → (z : A) → z ∈ xs → z ∈ ys
+  same-rest : Asymmetric R → (x y : A) (xs ys : List A)
+      → x ≡ y → Ordered R (x ∷ xs) → ((z : A) → z ∈ (x ∷ xs) → z ∈ (y ∷ ys)) → (z : A) → z ∈ xs → z ∈ ys
   same-rest a x y xs ys e (more g o) f z m =
-      ⊎-elim (λ d. absurd (let r : R x x = subst (R x) (d ∙ sym e) (g z m) in a x x r r)) (λ k. k) (List·Memᴰ·cases-cons (f z (List·Memᴰ·tail m)))
+      ⊎-elim (λ d. absurd (let r : R x x = subst (R x) (d ∙ sym e) (g z m) in a x x r r)) (λ k. k)
+      (List·Memᴰ·cases-cons (f z (List·Memᴰ·tail m)))
 
   pub ordered-unique : Asymmetric R → (xs ys : List A) → Ordered R xs → Ordered R ys → ((z : A) → (z ∈ xs) ↔ (z ∈ ys)) → xs ≡ ys
   ordered-unique a [] [] o q f = refl

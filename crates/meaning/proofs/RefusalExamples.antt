@@ -5,11 +5,12 @@
 use mathlib.Core.Path.{_≡_, refl}
 use Prim.Native.Nat.{ℕ, zero, suc}
 use mathlib.Core.List.{List, [], _∷_, _++_}
+use Rattle.meaning.specs.Limits.{maxDepth}
 use Rattle.meaning.specs.Basics.{All}
 use Rattle.meaning.specs.Problem.{Problem}
 use Rattle.meaning.specs.Row.{rows}
 use Rattle.meaning.specs.Field.{Bytes, field}
-use Rattle.meaning.specs.Read.{refused, got}
+use Rattle.meaning.specs.Read.{refused, got, inBody, readTerm}
 use Rattle.meaning.specs.Accept.{accept}
 use Rattle.meaning.specs.Text.{Item, readText}
 use Rattle.meaning.proofs.Computed.{accepts, texts, reads}
@@ -29,6 +30,12 @@ functionField f argument = field 6 (f ∷ argument)
 
 abbrev constraintField : Bytes → Bytes → Bytes
 constraintField pattern expression = field 7 (pattern ++ expression)
+
+abbrev withPattern : Bytes → Bytes
+withPattern pattern = constraintField pattern symbolField
+
+abbrev binderField : Bytes → Bytes
+binderField body = field 4 (0 ∷ 1 ∷ 0 ∷ 4 ∷ body)
 
 abbrev deep : ℕ → Bytes → Bytes
 deep zero s = s
@@ -73,19 +80,37 @@ refusals =
     ∷ by 3 (7 ∷ 0 ∷ 1 ∷ [])
     ∷ by 3 (field 7 (1 ∷ 0 ∷ 2 ∷ 0 ∷ []) ++ symbolField)
     -- a hole in a pattern, in an argument, in an expression
-    ∷ by 4 (constraintField (field 10 []) symbolField)
-    ∷ by 4 (constraintField (functionField 0 (field 10 [])) symbolField)
+    ∷ by 4 (withPattern (field 10 []))
+    ∷ by 4 (withPattern (functionField 0 (field 10 [])))
     ∷ by 4 (constraintField symbolField (field 10 []))
+    -- 4,096 bytes that begin with tag 0
+    ∷ by 4 (times 4096 (0 ∷ []))
     -- an unknown tag, also below the deepest term, and a 17th field of another tag
     ∷ by 4 (constraintField symbolField (field 8 []))
     ∷ by 4 (constraintField symbolField (deep 32 (field 8 [])))
     ∷ by 4 (sixteen ++ field 8 [])
-    -- a symbol at depth 33
+    -- a symbol at depth 33, in an expression and in a pattern
     ∷ by 5 (constraintField symbolField (deep 32 symbolField))
-    -- an empty application
-    ∷ by 6 (constraintField (field 3 []) symbolField)
-    -- an empty constraint, and bytes left after its two terms
+    ∷ by 5 (withPattern (deep 32 symbolField))
+    -- a symbol and a variable of 1 byte and of 3; a metavariable of none, and of 2 before its number is looked at
+    ∷ by 6 (withPattern (field 1 (0 ∷ [])))
+    ∷ by 6 (withPattern (field 1 (0 ∷ 5 ∷ 0 ∷ [])))
+    ∷ by 6 (withPattern (field 2 (0 ∷ [])))
+    ∷ by 6 (withPattern (field 2 (0 ∷ 5 ∷ 0 ∷ [])))
+    ∷ by 6 (withPattern (field 5 []))
+    ∷ by 6 (withPattern (field 5 (32 ∷ 0 ∷ [])))
+    -- a binder of 3 bytes, a function without its number, an empty application
+    ∷ by 6 (withPattern (field 4 (0 ∷ 1 ∷ 0 ∷ [])))
+    ∷ by 6 (withPattern (field 6 []))
+    ∷ by 6 (withPattern (field 3 []))
+    -- a binder and a function of no term, and of two
+    ∷ by 7 (withPattern (binderField []))
+    ∷ by 7 (withPattern (binderField (symbolField ++ symbolField)))
+    ∷ by 7 (withPattern (functionField 0 []))
+    ∷ by 7 (withPattern (functionField 0 (symbolField ++ symbolField)))
+    -- an empty constraint, one term only, and bytes left after its two terms
     ∷ by 7 (field 7 [])
+    ∷ by 7 (field 7 symbolField)
     ∷ by 7 (field 7 (symbolField ++ (symbolField ++ (0 ∷ []))))
     -- a metavariable in an expression, also below the deepest term
     ∷ by 8 (constraintField symbolField (metavariableField 1))
@@ -93,15 +118,16 @@ refusals =
     -- a function in an expression
     ∷ by 8 (constraintField symbolField (functionField 0 symbolField))
     -- P(Q(X))
-    ∷ by 9 (constraintField (functionField 0 (functionField 1 (metavariableField 2))) symbolField)
-    -- metavariable 32, before its missing argument
+    ∷ by 9 (withPattern (functionField 0 (functionField 1 (metavariableField 2))))
+    -- metavariable 32, and function 32 before its missing argument
+    ∷ by 10 (withPattern (metavariableField 32))
     ∷ by 10 (field 7 (0x06 ∷ 0x00 ∷ 0x01 ∷ 0x20 ∷ []))
     -- a 17th constraint
     ∷ by 11 (sixteen ++ constraintField symbolField symbolField)
     -- (P(P), a)
-    ∷ by 12 (constraintField (functionField 0 (metavariableField 0)) symbolField)
+    ∷ by 12 (withPattern (functionField 0 (metavariableField 0)))
     -- nine functions
-    ∷ by 13 (constraintField (field 3 (functionFields 9)) symbolField)
+    ∷ by 13 (withPattern (field 3 (functionFields 9)))
     -- a face of 65 nodes, also where (X, a), (X, b) leave no solution
     ∷ by 14 largeFace
     ∷ by 14 (largeFace ++ (constraintField (metavariableField 1) symbolField ++ constraintField (metavariableField 1) otherSymbol))
@@ -110,10 +136,11 @@ refusals =
 abbrev pub IsRefused : Refusal → Type 0
 IsRefused r = accept (r .input) ≡ refused (r .number)
 
--- At the limits: depth 32, 16 constraints, 8 functions, a face of 64 nodes
+-- At the limits: metavariable 31, depth 32, 16 constraints, 8 functions, a face of 64 nodes
 abbrev pub atLimits : List Bytes
 atLimits =
-    constraintField symbolField (deep 31 symbolField)
+    withPattern (metavariableField 31)
+    ∷ constraintField symbolField (deep 31 symbolField)
     ∷ sixteen
     ∷ constraintField (field 3 (functionFields 8)) symbolField
     ∷ constraintField (functionField 0 symbolField) (wide 63)
@@ -130,7 +157,8 @@ abbrev pub textRefusals : List Refusal
 textRefusals =
     -- 8,193 bytes
     by 19 (times 8193 (0 ∷ []))
-    -- a head cut short, a length past the end, another tag
+    -- 8,192 bytes; a head cut short, a length past the end, another tag
+    ∷ by 20 (times 8192 (0 ∷ []))
     ∷ by 20 (11 ∷ 0 ∷ [])
     ∷ by 20 (11 ∷ 0 ∷ 1 ∷ [])
     ∷ by 20 (field 10 [])
@@ -161,21 +189,32 @@ IsReadText s = (is : List Item) × (readText s ≡ got is)
 -- The main theorems. Each of the refusals is refused with its number
 pub refusals-hold : All IsRefused refusals
 unfolding accepts
-refusals-hold = (refl, (refl, (refl, (refl, (refl, (refl, (refl, (refl, (refl, (refl, (refl, (refl, (refl, (refl, (refl, (refl, (refl, (refl, (refl, (refl, (refl, (refl, (refl, (refl, (refl, (refl, tt))))))))))))))))))))))))))
+refusals-hold = (refl, (refl, (refl, (refl, (refl, (refl, (refl, (refl, (refl, (refl, (refl, (refl, (refl, (refl, (refl, (refl, (refl, (refl, (refl, (refl, (refl, (refl, (refl, (refl, (refl, (refl, (refl, (refl, (refl, (refl, (refl, (refl, (refl, (refl, (refl, (refl, (refl, (refl, (refl, (refl, (refl, (refl, tt))))))))))))))))))))))))))))))))))))))))))
 
 pub text-refusals-hold : All IsRefusedText textRefusals
 unfolding reads
-text-refusals-hold = (refl, (refl, (refl, (refl, (refl, (refl, (refl, (refl, (refl, (refl, (refl, (refl, (refl, (refl, (refl, tt)))))))))))))))
+text-refusals-hold = (refl, (refl, (refl, (refl, (refl, (refl, (refl, (refl, (refl, (refl, (refl, (refl, (refl, (refl, (refl, (refl, tt))))))))))))))))
+
+-- In a body, though of a text every refusal becomes 20: "8 tag 5 or 6 in an expression", and a hole that is not empty
+abbrev bodyRefusals : List Refusal
+bodyRefusals = by 8 (metavariableField 1) ∷ by 8 (functionField 0 symbolField) ∷ by 6 (field 10 (0 ∷ [])) ∷ []
+
+pub body-refusals-hold : All (λ (r : Refusal). readTerm maxDepth inBody (r .input) ≡ refused (r .number)) bodyRefusals
+unfolding reads
+body-refusals-hold = (refl, (refl, (refl, tt)))
 
 -- The limits themselves are kept
 pub limits-accepted : All IsAccepted atLimits
 unfolding accepts
-limits-accepted = ((_, refl), ((_, refl), ((_, refl), ((_, refl), tt))))
+limits-accepted = ((_, refl), ((_, refl), ((_, refl), ((_, refl), ((_, refl), tt)))))
 
--- A symbol at depth 32
-pub deep-text-read : IsReadText (value 31 (deep 31 symbolField))
+-- Metavariable 31, a symbol at depth 32, and a body that is a hole
+abbrev textAtLimits : Bytes
+textAtLimits = value 31 (deep 31 symbolField) ++ field 9 (30 ∷ field 10 [])
+
+pub limits-read : IsReadText textAtLimits
 unfolding reads
-deep-text-read = (_, refl)
+limits-read = (_, refl)
 
 -- "14 a face over 64 nodes", only "if shapes agree": (P(s), 65 nodes), (a, b) is accepted and has no rows
 pub large-disagreeing : (p : Problem) × (accept (largeFace ++ constraintField symbolField otherSymbol) ≡ got p) × (rows p ≡ [])

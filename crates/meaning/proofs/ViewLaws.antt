@@ -97,15 +97,21 @@ module _ {W : Type 0} (n : ℕ) (who who′ : ℕ → W) (told : ToldAlike n who
     where
       go : Dec (i < k) → Dec (j < k) → bound i ≡ bound j
       go (yes a) (yes b) = let d : inside i ≡ inside j = sym (see-low who k i a) ∙ e ∙ see-low who′ k j b in ap bound (cc)
-      go (yes a) (no b) = let d : inside i ≡ outside (who′ (j - k)) = sym (see-low who k i a) ∙ e ∙ see-high who′ k j (omega arith) in never (cc)
-      go (no a) (yes b) = let d : outside (who (i - k)) ≡ inside j = sym (see-high who k i (omega arith)) ∙ e ∙ see-low who′ k j b in never (cc)
+      go (yes a) (no b) =
+          let d : inside i ≡ outside (who′ (j - k)) = sym (see-low who k i a) ∙ e ∙ see-high who′ k j (omega arith) in
+          never (cc)
+      go (no a) (yes b) =
+          let d : outside (who (i - k)) ≡ inside j = sym (see-high who k i (omega arith)) ∙ e ∙ see-low who′ k j b in
+          never (cc)
       go (no a) (no b) =
-          let d : outside (who (i - k)) ≡ outside (who′ (j - k)) = sym (see-high who k i (omega arith)) ∙ e ∙ see-high who′ k j (omega arith) in
+          let d : outside (who (i - k)) ≡ outside (who′ (j - k)) =
+          sym (see-high who k i (omega arith)) ∙ e ∙ see-high who′ k j (omega arith) in
           let q : who (i - k) ≡ who′ (j - k) = cc in
           let r : i - k ≡ j - k = told (i - k) (j - k) (omega arith) (omega arith) .0 q in
           ap bound (omega arith)
 
-  label-alike : (k : ℕ) (l : Nameless) → closedLabel (k + n) l → _≡_ {A = Label (Seen W) (Unit {0})} (withVariable (see who k) l) (withVariable (see who′ k) l)
+  label-alike : (k : ℕ) (l : Nameless) → closedLabel (k + n) l
+      → _≡_ {A = Label (Seen W) (Unit {0})} (withVariable (see who k) l) (withVariable (see who′ k) l)
   label-alike k (own (symbol m)) h = refl
   label-alike k (own (variable v)) h = ap (λ (w : Seen W). own (variable w)) (see-alike k v h)
   label-alike k (own (application m)) h = refl
@@ -142,8 +148,9 @@ module _ {W : Type 0} (n : ℕ) (who who′ : ℕ → W) (told : ToldAlike n who
       let p : l ≡ l′ = label-injective k l l′ (h .0) (g .0) (cc) in
       let a : seen who (inner l k) c ≡ seen who′ (inner l′ k) c′ = cc in
       let b : seen who (inner l k) c ≡ seen who′ (inner l k) c′ = a ∙ ap (λ (m : Nameless). seen who′ (inner m k) c′) (sym p) in
-      let i : Closed (inner l k + n) c = subst (λ (j : ℕ). Closed j c) (inner-plus n k l) (h .1) in
-      let j : Closed (inner l k + n) c′ = subst (λ (m : ℕ). Closed m c′) (ap (λ (m : Nameless). inner m (k + n)) (sym p) ∙ inner-plus n k l) (g .1) in
+      let i : Closed (inner l k + n) c = subst (λ (m : ℕ). Closed m c) (inner-plus n k l) (h .1) in
+      let d : inner l′ (k + n) ≡ inner l k + n = ap (λ (m : Nameless). inner m (k + n)) (sym p) ∙ inner-plus n k l in
+      let j : Closed (inner l k + n) c′ = subst (λ (m : ℕ). Closed m c′) d (g .1) in
       cons-eq p (view-injective (inner l k) c c′ i j b) (view-injective k s s′ (h .2) (g .2) (cc))
 
   -- So equality of two terms with n binders outside is that of the nameless terms
@@ -199,7 +206,8 @@ pub equal-in-scope : {W : Type 0} (who : ℕ → W) (sc : List ℕ) (t u : Named
     → Equal who who (namelessTerm sc t) (namelessTerm sc u) ↔ Alpha (one t) (one u)
 equal-in-scope who sc t u apart =
     let told : ToldAlike (length sc) who who = λ i j a b. (apart i j a b, λ e. ap who e) in
-    let r = equal-alike (length sc) who who told (namelessTerm sc t) (namelessTerm sc u) (nameless-closed sc (one t)) (nameless-closed sc (one u)) in
+    let r =
+    equal-alike (length sc) who who told (namelessTerm sc t) (namelessTerm sc u) (nameless-closed sc (one t)) (nameless-closed sc (one u)) in
     let q = scoped-is-alpha sc t u in
     (λ e. q .0 (r .0 e), λ a. r .1 (q .1 a))
 

@@ -22,6 +22,7 @@ pub data Agree : Terms → Terms → Type 0 where
   -- the children, or the constraints, of both end together
   ends : Agree nil nil
   -- two nodes that are the same, their children, and the siblings after them
-  nodes : {o o′ : Own Variable (Unit {0})} {c c′ s s′ : Terms} → SameNode o o′ → Agree c c′ → Agree s s′ → Agree (cons (own o) c s) (cons (own o′) c′ s′)
+  nodes : {o o′ : Own Variable (Unit {0})} {c c′ s s′ : Terms}
+      → SameNode o o′ → Agree c c′ → Agree s s′ → Agree (cons (own o) c s) (cons (own o′) c′ s′)
   -- "until a metavariable or function application is met": whatever it faces, and whatever stands below either
   isMet : {z : Slot} {l : Nameless} {c c′ s s′ : Terms} → Agree s s′ → Agree (cons (slot z) c s) (cons l c′ s′)

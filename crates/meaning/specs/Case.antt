@@ -266,4 +266,5 @@ secondApplication = record {
 
 abbrev pub further : List Case
 further =
-    outsideSpelling ∷ lowestSpelling ∷ conjunction ∷ twoDifferences ∷ tableFirst ∷ tableSecond ∷ tableThird ∷ freeName ∷ onlyBound ∷ secondApplication ∷ []
+    outsideSpelling ∷ lowestSpelling ∷ conjunction ∷ twoDifferences ∷ tableFirst ∷ tableSecond ∷ tableThird
+    ∷ freeName ∷ onlyBound ∷ secondApplication ∷ []
