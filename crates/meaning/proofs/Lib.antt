@@ -5,6 +5,8 @@ pub mod ShiftLaws
 pub mod Alike
 pub mod Renaming
 pub mod ViewLaws
+pub mod TextualLaws
+pub mod Spelling
 -- Reading and encoding
 pub mod ByteLaws
 pub mod NodeReading
