@@ -5,8 +5,6 @@ pub mod ShiftLaws
 pub mod Alike
 pub mod Renaming
 pub mod ViewLaws
-pub mod TextualLaws
-pub mod Spelling
 -- Reading and encoding
 pub mod ByteLaws
 pub mod NodeReading
@@ -28,6 +26,11 @@ pub mod Sources
 pub mod Candidate
 pub mod RowBodies
 pub mod Solutions
+-- Filling with names
+pub mod TextualLaws
+pub mod Spelling
+pub mod Uncaught
+pub mod NoCapture
 -- Solution texts
 pub mod Nodes
 pub mod Sums

@@ -9,14 +9,14 @@ use native.Mathlib.Omega.{arith}
 use lib.ListN.{length}
 use lib.Dec.{eqb}
 use Rattle.meaning.specs.Basics.{choose, All}
-use Rattle.meaning.specs.Term.{Forest, nil, cons, one, symbol, variable, application, binder, own, slot, Slot, metavariable, function, hole, Named, Variable, bound, NamedTerm, Terms, Term, inner}
+use Rattle.meaning.specs.Term.{Forest, nil, cons, one, symbol, variable, application, binder, own, slot, Slot, metavariable, function, hole, Named, Variable, bound, NamedTerm, Terms, inner}
 use Rattle.meaning.specs.Scope.{resolve, enter, namelessLabel, nameless, namelessTerm}
 use Rattle.meaning.specs.Shift.{raise, shiftLabel, shift, shiftTerm}
 use Rattle.meaning.specs.Rename.{binds}
 use Rattle.meaning.specs.Filling.{Handler, fill, plugHandler, argument, Entry, absent, leftOpen, value, body, valueOr, bodyOr, plug, fillHandler, filled}
 use Rattle.meaning.specs.Text.{meant}
 use Rattle.meaning.specs.Textual.{isVariable, isFree, Avoids, Putting, put, inHoles, argumentAt, NamedFilling, valueFor, bodyFor, asWritten, textual, Condition, AtSlots, holeUncaught, slotUncaught, UncaughtIn, Uncaught, putTerm, meantBy}
-use Rattle.meaning.proofs.Lists.{or-left, or-right, eqb-self, eqb-eq, eqb-other, by-test, choose-true, choose-false}
+use Rattle.meaning.proofs.Lists.{or-left, or-right, eqb-self, eqb-other, by-test, choose-true, choose-false}
 use Rattle.meaning.proofs.ShiftLaws.{raise-low, raise-high, shift-closed-term, pair-eq}
 use Rattle.meaning.proofs.Renaming.{cons-eq, one-injective}
 use Rattle.meaning.proofs.ViewLaws.{nameless-closed}
@@ -60,7 +60,8 @@ reads-under : (n k w : ℕ) (r sc : List ℕ) (c : Forest Named)
 reads-under n k w r sc c h x i j q f = by-test (eqb x w) hidden other
   where
     hidden : eqb x w ≡ true → resolve (w ∷ r) i x ≡ raise n j (resolve (w ∷ sc) i x)
-    hidden e = choose-true _ _ e ∙ sym (raise-low n j i (omega arith)) ∙ ap (raise n j) (sym (choose-true (bound i) (resolve sc (suc i) x) e))
+    hidden e =
+        choose-true _ _ e ∙ sym (raise-low n j i (omega arith)) ∙ ap (raise n j) (sym (choose-true (bound i) (resolve sc (suc i) x) e))
 
     other : eqb x w ≡ false → resolve (w ∷ r) i x ≡ raise n j (resolve (w ∷ sc) i x)
     other e =
@@ -124,12 +125,14 @@ module _ (g : Putting) (h : Handler) (C : Condition) (sc : List ℕ) where
 -- Arguments into a body: under its binders they are moved
 put-plug : (sc : List ℕ) (arguments : ℕ → NamedTerm) (b : NamedTerm) → UncaughtIn b arguments
     → namelessTerm sc (putTerm (inHoles arguments) b) ≡ plug (λ i. namelessTerm sc (arguments i)) (namelessTerm sc b)
-put-plug sc arguments b a =
-    one-injective _ _ (put-fill (inHoles arguments) (plugHandler (λ i. namelessTerm sc (arguments i))) (holeUncaught arguments) sc at [] (one b) a)
+put-plug sc arguments b a = one-injective _ _ (put-fill (inHoles arguments) plugged (holeUncaught arguments) sc at [] (one b) a)
   where
+    plugged : Handler
+    plugged = plugHandler (λ i. namelessTerm sc (arguments i))
+
     at : (ys : List ℕ) (z : Slot) (c : Forest Named) → holeUncaught arguments ys z c
-        → Agrees (inHoles arguments) (plugHandler (λ i. namelessTerm sc (arguments i))) (holeUncaught arguments) sc ys c
-        → AgreesAt (inHoles arguments) (plugHandler (λ i. namelessTerm sc (arguments i))) (holeUncaught arguments) sc ys z c
+        → Agrees (inHoles arguments) plugged (holeUncaught arguments) sc ys c
+        → AgreesAt (inHoles arguments) plugged (holeUncaught arguments) sc ys z c
     at ys (metavariable m) c u ih = pair-eq refl ih
     at ys (function f) c u ih = pair-eq refl ih
     at ys (hole i) c u ih = avoiding-shift ys sc (arguments i) u
@@ -153,17 +156,22 @@ argument-meant sc (cons l c s) zero = refl
 argument-meant sc (cons l c s) (suc i) = argument-meant sc s i
 
 -- One slot of a pattern
-written-filled : (τ : NamedFilling) (ys : List ℕ) (z : Slot) (c : Forest Named) → slotUncaught τ ys z c
-    → Agrees (asWritten τ) (fillHandler (meantBy τ)) (slotUncaught τ) [] ys c
-    → AgreesAt (asWritten τ) (fillHandler (meantBy τ)) (slotUncaught τ) [] ys z c
-written-filled τ ys (metavariable m) c u ih = avoiding-closed ys (valueFor (metavariable m) (τ m)) u ∙ value-meant m (τ m)
-written-filled τ ys (function f) c u ih =
-    let b : NamedTerm = bodyFor (function f) (τ f) in
-    let args : (i : ℕ) → namelessTerm (ys ++ []) (argumentAt (textual τ c) i) ≡ argument (fill (fillHandler (meantBy τ)) (length ys) (nameless (ys ++ []) c)) i =
-    λ i. argument-meant (ys ++ []) (textual τ c) i ∙ ap (λ (v : Terms). argument v i) ih in
-    put-plug (ys ++ []) (argumentAt (textual τ c)) b (u .1)
-    ∙ ap₂ plug (fun-ext args) (avoiding-closed ys b (u .0) ∙ body-meant f (τ f))
-written-filled τ ys (hole i) c u ih = pair-eq refl ih
+module _ (τ : NamedFilling) (ys : List ℕ) where
+  abbrev asFilled : Handler
+  asFilled = fillHandler (meantBy τ)
+
+  written-filled : (z : Slot) (c : Forest Named) → slotUncaught τ ys z c → Agrees (asWritten τ) asFilled (slotUncaught τ) [] ys c
+      → AgreesAt (asWritten τ) asFilled (slotUncaught τ) [] ys z c
+  written-filled (metavariable m) c u ih = avoiding-closed ys (valueFor (metavariable m) (τ m)) u ∙ value-meant m (τ m)
+  written-filled (function f) c u ih =
+      let b : NamedTerm = bodyFor (function f) (τ f) in
+      put-plug (ys ++ []) (argumentAt (textual τ c)) b (u .1)
+      ∙ ap₂ plug (fun-ext filledArgument) (avoiding-closed ys b (u .0) ∙ body-meant f (τ f))
+    where
+      filledArgument : (i : ℕ)
+          → namelessTerm (ys ++ []) (argumentAt (textual τ c) i) ≡ argument (fill asFilled (length ys) (nameless (ys ++ []) c)) i
+      filledArgument i = argument-meant (ys ++ []) (textual τ c) i ∙ ap (λ (v : Terms). argument v i) ih
+  written-filled (hole i) c u ih = pair-eq refl ih
 
 -- NO CAPTURE: where no binder's name is free in what is put below it, filling as the text stands is filling by indices
 pub textual-filled : (τ : NamedFilling) (u : Forest Named) → Uncaught τ u → nameless [] (textual τ u) ≡ filled (meantBy τ) (nameless [] u)

@@ -22,6 +22,7 @@ pub mod Row
 pub mod Value
 -- Solution texts
 pub mod Text
+-- Filling with names
 pub mod Textual
 -- The search
 pub mod Search

@@ -4,7 +4,8 @@
 --   put        each slot replaced, as the text stands: no name is changed
 --   textual    patterns filled so: a metavariable by its value, P(t) by P's body with the filled t in each hole
 --   Uncaught   no binder's name is free in what is put below it: the case in which no bound name has to be changed
--- Where nothing is caught, `textual` gives what `filled` means, and bound names can always be so chosen.
+--   Spelling, Respelling   bound names so chosen, for what is given without names and with names
+-- Where nothing is caught, `textual` gives what `filled` means; and there is always a spelling in which nothing is.
 use mathlib.Core.Path.{_≡_}
 use Prim.Native.Nat.{ℕ, zero, suc}
 use mathlib.Core.Bool.{Bool, false, _||_}
@@ -14,7 +15,7 @@ use Rattle.meaning.specs.Basics.{choose, All}
 use Rattle.meaning.specs.Term.{Forest, nil, cons, graft, one, symbol, variable, application, binder, own, slot, Slot, metavariable, function, hole, Named, NamedTerm, Terms, Term}
 use Rattle.meaning.specs.Scope.{enter, nameless}
 use Rattle.meaning.specs.Shift.{ClosedTerm}
-use Rattle.meaning.specs.Rename.{binds}
+use Rattle.meaning.specs.Rename.{binds, Alpha}
 use Rattle.meaning.specs.Filling.{Entry, absent, leftOpen, value, body, Filling}
 use Rattle.meaning.specs.Text.{meant}
 
@@ -112,7 +113,8 @@ UncaughtIn b arguments = AtSlots (holeUncaught arguments) [] (one b)
 -- that only the body's binders can catch it: a variable of its own that the pattern binds stays bound by that binder.
 abbrev pub slotUncaught : NamedFilling → Condition
 slotUncaught τ ys (metavariable m) c = Avoids ys (valueFor (metavariable m) (τ m))
-slotUncaught τ ys (function f) c = Avoids ys (bodyFor (function f) (τ f)) × UncaughtIn (bodyFor (function f) (τ f)) (argumentAt (textual τ c))
+slotUncaught τ ys (function f) c =
+    let b : NamedTerm = bodyFor (function f) (τ f) in Avoids ys b × UncaughtIn b (argumentAt (textual τ c))
 slotUncaught τ ys (hole i) c = Unit {0}
 
 abbrev pub Uncaught : NamedFilling → Forest Named → Type 0
@@ -135,4 +137,19 @@ pub record Spelling (u : Terms) (σ : Filling) : Type 0 where
   pub filling : NamedFilling
   pub patternMeans : nameless [] pattern ≡ u
   pub fillingMeans : meantBy filling ≡ σ
+  pub uncaught : Uncaught filling pattern
+
+-- Entries that differ at most in bound names
+pub data AlphaEntry : Entry NamedTerm → Entry NamedTerm → Type 0 where
+  bothAbsent : AlphaEntry absent absent
+  bothOpen : AlphaEntry leftOpen leftOpen
+  values : {t u : NamedTerm} → Alpha (one t) (one u) → AlphaEntry (value t) (value u)
+  bodies : {t u : NamedTerm} → Alpha (one t) (one u) → AlphaEntry (body t) (body u)
+
+-- Patterns and a filling with bound names "changed first where they would catch one"
+pub record Respelling (u : Forest Named) (τ : NamedFilling) : Type 0 where
+  pub pattern : Forest Named
+  pub filling : NamedFilling
+  pub samePattern : Alpha u pattern
+  pub sameFilling : (m : ℕ) → AlphaEntry (τ m) (filling m)
   pub uncaught : Uncaught filling pattern
