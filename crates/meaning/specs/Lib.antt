@@ -15,6 +15,7 @@ pub mod Readable
 -- Fillings
 pub mod Filling
 pub mod Solution
+pub mod Textual
 -- Faces, choices and rows
 pub mod Face
 pub mod Choice
@@ -22,8 +23,6 @@ pub mod Row
 pub mod Value
 -- Solution texts
 pub mod Text
--- Filling with names
-pub mod Textual
 -- The search
 pub mod Search
 pub mod Calls
