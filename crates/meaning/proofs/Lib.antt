@@ -29,6 +29,11 @@ pub mod Sources
 pub mod Candidate
 pub mod RowBodies
 pub mod Solutions
+-- Filling with names
+pub mod TextualLaws
+pub mod Spelling
+pub mod Uncaught
+pub mod NoCapture
 -- Solution texts
 pub mod Nodes
 pub mod Sums

@@ -18,14 +18,14 @@ pub record Case : Type 0 where
 abbrev sym : ℕ → NamedTerm
 sym n = (own (symbol n), nil)
 
-abbrev var : ℕ → NamedTerm
+abbrev pub var : ℕ → NamedTerm
 var x = (own (variable x), nil)
 
 abbrev app : List NamedTerm → NamedTerm
 app ts = (own (application (length ts)), forestOf ts)
 
 -- "∀x.t": binder 1
-abbrev all : ℕ → NamedTerm → NamedTerm
+abbrev pub all : ℕ → NamedTerm → NamedTerm
 all x t = (own (binder 1 x), one t)
 
 abbrev meta : ℕ → NamedTerm
@@ -34,14 +34,14 @@ meta m = (slot (metavariable m), nil)
 abbrev call : ℕ → NamedTerm → NamedTerm
 call f t = (slot (function f), one t)
 
-abbrev box : NamedTerm
+abbrev pub box : NamedTerm
 box = (slot (hole 0), nil)
 
 abbrev infixed : ℕ → NamedTerm → NamedTerm → NamedTerm
 infixed op t u = app (sym op ∷ t ∷ u ∷ [])
 
 -- Equations, sums, inequations, conjunctions by the number of their symbol
-abbrev equals : NamedTerm → NamedTerm → NamedTerm
+abbrev pub equals : NamedTerm → NamedTerm → NamedTerm
 equals t u = infixed 10 t u
 
 abbrev plus : NamedTerm → NamedTerm → NamedTerm

@@ -15,6 +15,7 @@ pub mod Readable
 -- Fillings
 pub mod Filling
 pub mod Solution
+pub mod Textual
 -- Faces, choices and rows
 pub mod Face
 pub mod Agree
