@@ -128,7 +128,7 @@ node-applies table i z cs f n =
 
     same : (y : Slot) → y ≡ z → eqb (tagOf (slot y)) 6 && eqb f (payloadOf (n .scope) (slot y)) ≡ isApplication f z
     same (metavariable m) e = ap (isApplication f) e
-    same (function g) e = ap (isApplication f) e
+    same (function g a) e = ap (isApplication f) e
     same (hole h) e = ap (isApplication f) e
 
     go : (l : Named) → namelessLabel (n .scope) l ≡ slot z → eqb (tagOf l) 6 && eqb f (payloadOf (n .scope) l) ≡ isApplication f z

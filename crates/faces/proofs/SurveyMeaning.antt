@@ -1,7 +1,7 @@
 -- What the survey says of a problem: the sets are its functions and its other metavariables.
-use mathlib.Core.Path.{_≡_, refl, ap, ap₂, _∙_}
+use mathlib.Core.Path.{_≡_, refl, ap, ap₂, sym, _∙_}
 use mathlib.Core.Bool.{Bool, true, false, _&&_, not}
-use mathlib.Core.List.{List, [], _∷_, _++_}
+use mathlib.Core.List.{List, [], _∷_, _++_, map, map-append}
 use Prim.Native.Nat.{ℕ, zero, suc, _<_}
 use lib.ListN.{length}
 use lib.Dec.{eqb}
@@ -9,7 +9,7 @@ use Rattle.meaning.specs.Limits.{metavariableCount, maxDepth}
 use Rattle.meaning.specs.Basics.{choose, keep, every, upTo, isIn}
 use Rattle.meaning.specs.Term.{Forest, nil, cons, size, symbol, variable, application, binder, own, slot, metavariable, function, hole, Named, Terms}
 use Rattle.meaning.specs.Scope.{enter, namelessLabel, nameless}
-use Rattle.meaning.specs.Problem.{Problem, namedPatterns, patterns, plain, applied, isFunction, isPlain, functions}
+use Rattle.meaning.specs.Problem.{Problem, namedPatterns, patterns, plain, applications, applied, isFunction, isPlain, functions}
 use Rattle.meaning.specs.Field.{tagOf}
 use Rattle.meaning.specs.Read.{Context, inPattern, contextBelow}
 use Rattle.meaning.specs.Readable.{NodeFits, Readable, WithinLimits}
@@ -41,16 +41,19 @@ module _ (g : ℕ) (sc : List ℕ) (l : Named) (c s : Forest Named) (room : leng
       ap₂ (λ (t m : ℕ). choose (eqb t g) (m ∷ numbers g (tokens (enter l sc) c ++ tokens sc s)) (numbers g (tokens (enter l sc) c ++ tokens sc s))) (tag-at sc l c room small) (payload-at sc l c room small)
       ∙ ap (λ (r : List ℕ). choose (eqb (tagOf l) g) (payloadOf sc l ∷ r) r) e
 
+applied-append : (u v : Terms) → applied u ++ applied v ≡ map (λ (a : ℕ × ℕ). a .0) (applications u ++ applications v)
+applied-append u v = sym (map-append (λ (a : ℕ × ℕ). a .0) (applications u) (applications v))
+
 -- What one node adds to the functions and to the other metavariables; a metavariable has nothing below it
 applied-label : (ctx : Context) (sc : List ℕ) (l : Named) (c : Forest Named) (u v : Terms) → NodeFits ctx l c → (c ≡ nil → u ≡ nil)
     → choose (eqb (tagOf l) 6) (payloadOf sc l ∷ (applied u ++ applied v)) (applied u ++ applied v) ≡ applied (cons (namelessLabel sc l) u v)
 unfolding payloadOf
-applied-label ctx sc (own (symbol n)) c u v f h = refl
-applied-label ctx sc (own (variable x)) c u v f h = refl
-applied-label ctx sc (own (application n)) c u v f h = refl
-applied-label ctx sc (own (binder b x)) c u v f h = refl
+applied-label ctx sc (own (symbol n)) c u v f h = applied-append u v
+applied-label ctx sc (own (variable x)) c u v f h = applied-append u v
+applied-label ctx sc (own (application n)) c u v f h = applied-append u v
+applied-label ctx sc (own (binder b x)) c u v f h = applied-append u v
 applied-label ctx sc (slot (metavariable m)) c u v f h = ap (λ (t : Terms). applied t ++ applied v) (h (f .2))
-applied-label ctx sc (slot (function g)) c u v f h = refl
+applied-label ctx sc (slot (function g n)) c u v f h = ap (λ (l : List ℕ). g ∷ l) (applied-append u v)
 applied-label ctx sc (slot (hole i)) c u v f h = ap (λ (t : Terms). applied t ++ applied v) (h (f .2))
 
 plain-label : (ctx : Context) (sc : List ℕ) (l : Named) (c : Forest Named) (u v : Terms) → NodeFits ctx l c → (c ≡ nil → u ≡ nil)
@@ -61,7 +64,7 @@ plain-label ctx sc (own (variable x)) c u v f h = refl
 plain-label ctx sc (own (application n)) c u v f h = refl
 plain-label ctx sc (own (binder b x)) c u v f h = refl
 plain-label ctx sc (slot (metavariable m)) c u v f h = ap (λ (t : Terms). m ∷ (plain t ++ plain v)) (h (f .2))
-plain-label ctx sc (slot (function g)) c u v f h = refl
+plain-label ctx sc (slot (function g n)) c u v f h = refl
 plain-label ctx sc (slot (hole i)) c u v f h = ap (λ (t : Terms). plain t ++ plain v) (h (f .2))
 
 applied-numbers : (levels : ℕ) (ctx : Context) (sc : List ℕ) (u : Forest Named) → Readable levels ctx u → Room levels sc u → numbers 6 (tokens sc u) ≡ applied (nameless sc u)

@@ -8,7 +8,7 @@ use native.Mathlib.Omega.{arith}
 use lib.ListN.{length}
 use lib.Dec.{eqb}
 use borrow.Author.Tests.{eq-eqb, ne-eqb}
-use Rattle.meaning.specs.Term.{Forest, size, trees, Own, symbol, variable, application, binder, own, slot, Named, Variable, free, bound}
+use Rattle.meaning.specs.Term.{Forest, size, trees, Own, symbol, variable, application, binder, own, Named, Variable, free, bound}
 use Rattle.meaning.specs.Scope.{resolve, namelessLabel}
 use Rattle.meaning.specs.Equal.{Seen, seenFree, inside, outside, see, sameOwn, sameVariable}
 use Rattle.meaning.specs.Face.{agrees}
@@ -18,7 +18,7 @@ use Rattle.meaning.proofs.Lists.{T-true, true-T, by-test, choose-true}
 use Rattle.meaning.proofs.ShiftLaws.{ltb-yes}
 use Rattle.meaning.proofs.Alike.{variable-eq, variable-refl, own-eq, own-refl}
 use Rattle.table.specs.Key.{keyOf, levelFrom}
-use Rattle.table.proofs.KeyLaws.{Viewed, code, code-injective, arity, seenLabel, label-code, fits-arity, Resolved, isFree, isBound, resolved}
+use Rattle.table.proofs.KeyLaws.{code, code-injective, arity, seenLabel, label-code, fits-label, Resolved, isFree, isBound, resolved}
 use Rattle.faces.proofs.TokenLaws.{tokenAt}
 
 abbrev Meant : Type 0
@@ -41,11 +41,14 @@ abbrev topVariable : Variable → Seen ℕ
 topVariable (free x) = seenFree x
 topVariable (bound i) = inside i
 
-abbrev top : Meant → Viewed
-top (symbol n) = own (symbol n)
-top (variable v) = own (variable (topVariable v))
-top (application n) = own (application n)
-top (binder b x) = own (binder b x)
+abbrev Top : Type 0
+Top = Own (Seen ℕ) (Unit {0})
+
+abbrev top : Meant → Top
+top (symbol n) = symbol n
+top (variable v) = variable (topVariable v)
+top (application n) = application n
+top (binder b x) = binder b x
 
 seen-top : (sc : List ℕ) (x : ℕ) → see (levelFrom []) (length sc) (resolve sc 0 x) ≡ topVariable (resolve sc 0 x)
 seen-top sc x = go (resolved sc 0 x)
@@ -55,7 +58,7 @@ seen-top sc x = go (resolved sc 0 x)
     go (isBound j h p q) =
         ap (see (levelFrom []) (length sc)) p ∙ choose-true (inside (0 + j)) _ (ltb-yes (0 + j) (length sc) (omega arith)) ∙ sym (ap topVariable p)
 
-top-label : (sc : List ℕ) (o : Own ℕ ℕ) → seenLabel [] (length sc) (namelessLabel sc (own o)) ≡ top (meant sc o)
+top-label : (sc : List ℕ) (o : Own ℕ ℕ) → seenLabel [] (length sc) (namelessLabel sc (own o)) ≡ own (top (meant sc o))
 top-label sc (symbol n) = refl
 top-label sc (variable x) = ap (λ (v : Seen ℕ). own (variable v)) (seen-top sc x)
 top-label sc (application n) = refl
@@ -67,12 +70,11 @@ backVariable (seenFree x) = free x
 backVariable (inside i) = bound i
 backVariable (outside w) = free w
 
-back : Viewed → Meant
-back (own (symbol n)) = symbol n
-back (own (variable v)) = variable (backVariable v)
-back (own (application n)) = application n
-back (own (binder b x)) = binder b x
-back (slot z) = symbol 0
+back : Top → Meant
+back (symbol n) = symbol n
+back (variable v) = variable (backVariable v)
+back (application n) = application n
+back (binder b x) = binder b x
 
 top-back : (o : Meant) → back (top o) ≡ o
 unfolding back backVariable
@@ -83,17 +85,20 @@ top-back (application n) = refl
 top-back (binder b x) = refl
 
 -- Codes are equal just when the labels agree
-code-agrees : (o q : Meant) → eqb (code (top o)) (code (top q)) ≡ sameOwn sameVariable o q
+code-agrees : (o q : Meant) → eqb (code (own (top o))) (code (own (top q))) ≡ sameOwn sameVariable o q
 code-agrees o q =
     by-test (sameOwn sameVariable o q)
-    (λ t. eq-eqb _ _ (ap (λ (x : Meant). code (top x)) (own-eq sameVariable variable-eq o q (true-T t))) ∙ sym t)
+    (λ t. eq-eqb _ _ (ap (λ (x : Meant). code (own (top x))) (own-eq sameVariable variable-eq o q (true-T t))) ∙ sym t)
     (λ f. ne-eqb _ _ (λ e. false≢true (sym f ∙ ap (sameOwn sameVariable o) (sym (same e)) ∙ T-true (own-refl sameVariable variable-refl o))) ∙ sym f)
   where
-    same : code (top o) ≡ code (top q) → o ≡ q
-    same e = sym (top-back o) ∙ ap back (code-injective (top o) (top q) e) ∙ top-back q
+    same : code (own (top o)) ≡ code (own (top q)) → o ≡ q
+    same e =
+        let labels = code-injective (own (top o)) (own (top q)) tt tt e in
+        let tops : top o ≡ top q = cc in
+        sym (top-back o) ∙ ap back tops ∙ top-back q
 
 node-code : (ctx : Context) (sc : List ℕ) (c : Forest Named) → length sc < 256 → suc (size c) < 65536 → (o : Own ℕ ℕ) → NodeFits ctx (own o) c
-    → keyOf 0 (tokenAt sc (own o) c) ≡ code (top (meant sc o))
+    → keyOf 0 (tokenAt sc (own o) c) ≡ code (own (top (meant sc o)))
 node-code ctx sc c room small o f =
     label-code [] ctx (length sc) sc (suc (size c)) (omega arith) room small (own o) c f ∙ ap code (top-label sc o)
 
@@ -108,7 +113,7 @@ keys-agree ctx ctx′ sc sc′ o o′ c c′ r m r′ m′ f f′ =
 pub agree-trees : (ctx ctx′ : Context) (sc sc′ : List ℕ) (o o′ : Own ℕ ℕ) (c c′ : Forest Named) → NodeFits ctx (own o) c → NodeFits ctx′ (own o′) c′
     → agrees (meant sc o) (own (meant sc′ o′)) ≡ true → trees c ≡ trees c′
 agree-trees ctx ctx′ sc sc′ o o′ c c′ f f′ e =
-    trees-of ctx sc o c f ∙ ap (λ (x : Meant). arity (top x)) (own-eq sameVariable variable-eq (meant sc o) (meant sc′ o′) (true-T e)) ∙ sym (trees-of ctx′ sc′ o′ c′ f′)
+    trees-of ctx sc o c f ∙ ap (λ (x : Meant). arity (own (top x))) (own-eq sameVariable variable-eq (meant sc o) (meant sc′ o′) (true-T e)) ∙ sym (trees-of ctx′ sc′ o′ c′ f′)
   where
-    trees-of : (ctx : Context) (sc : List ℕ) (o : Own ℕ ℕ) (c : Forest Named) → NodeFits ctx (own o) c → trees c ≡ arity (top (meant sc o))
-    trees-of ctx sc o c f = fits-arity [] (length sc) ctx sc (own o) c f ∙ ap arity (top-label sc o)
+    trees-of : (ctx : Context) (sc : List ℕ) (o : Own ℕ ℕ) (c : Forest Named) → NodeFits ctx (own o) c → trees c ≡ arity (own (top (meant sc o)))
+    trees-of ctx sc o c f = fits-label [] (length sc) ctx sc (own o) c f .1 ∙ ap arity (top-label sc o)

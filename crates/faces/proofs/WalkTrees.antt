@@ -113,7 +113,7 @@ module _ (i j : ℕ) (sc sc′ : List ℕ) (o o′ : Own ℕ ℕ) (c c′ : Fore
 
 no-slot-there : (z : Slot) (c : Forest Named) → NodeFits inExpression (slot z) c → ⊥
 no-slot-there (metavariable m) c f = f .0
-no-slot-there (function g) c f = f .0
+no-slot-there (function g n) c f = f .0
 no-slot-there (hole i) c f = f .0
 
 -- The nodes at the front of two forests, then the later trees
@@ -162,8 +162,8 @@ flat-from (suc levels) (suc levels′) i j sc sc′ (cons (slot (metavariable n)
     (node-face i j sc sc′ l (own o′) c c′ (tokens sc s ++ ps) (tokens sc′ s′ ++ es) (room-depth levels sc l c s m) (room-size levels sc l c s m)
     (room-depth levels′ sc′ (own o′) c′ s′ m′) (room-size levels′ sc′ (own o′) c′ s′ m′) refl)
     (flat-from (suc levels) (suc levels′) (suc i + size c) (suc j + size c′) sc sc′ s s′ ps es (r .2) (r′ .2) (room-later levels sc l c s m) (room-later levels′ sc′ (own o′) c′ s′ m′) (omega arith))
-flat-from (suc levels) (suc levels′) i j sc sc′ (cons (slot (function f)) c s) (cons (own o′) c′ s′) ps es r r′ m m′ t =
-    let l : Named = slot (function f) in
+flat-from (suc levels) (suc levels′) i j sc sc′ (cons (slot (function f n)) c s) (cons (own o′) c′ s′) ps es r r′ m m′ t =
+    let l : Named = slot (function f n) in
     then-later i j sc sc′ c s c′ s′ l (own o′) ps es
     (node-face i j sc sc′ l (own o′) c c′ (tokens sc s ++ ps) (tokens sc′ s′ ++ es) (room-depth levels sc l c s m) (room-size levels sc l c s m)
     (room-depth levels′ sc′ (own o′) c′ s′ m′) (room-size levels′ sc′ (own o′) c′ s′ m′) refl)

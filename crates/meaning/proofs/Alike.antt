@@ -2,10 +2,10 @@
 --   Sound    a test that passes only equal things
 --   Fair     a test that passes each thing with itself
 -- Each test of labels is both when its test of variables is, and `alike` is both when its test of labels is.
-use mathlib.Core.Path.{_≡_, refl, ap, subst}
+use mathlib.Core.Path.{_≡_, refl, ap, ap₂, subst}
 use mathlib.Core.Logic.{_↔_}
 use mathlib.Core.Bool.{Bool, true, _&&_}
-use lib.Dec.{eqb→eq, eqb-refl, T}
+use lib.Dec.{eqb, eqb→eq, eqb-refl, T}
 use Rattle.meaning.specs.Term.{Forest, nil, cons, alike, symbol, variable, application, binder, metavariable, function, hole, own, slot, free, bound, Terms}
 use Rattle.meaning.specs.Equal.{seenFree, inside, outside, View, sameSlot, sameOwn, sameLabel, sameVariable, sameSeen, sameTerms}
 use Rattle.meaning.specs.Choice.{Owner, nodeOfFace, aboveFace, sameOwner, sameOwned}
@@ -57,18 +57,18 @@ seen-refl same h (outside w) = h w
 -- Labels of nameless terms and of views: a binder says nothing of its bound variable
 pub slot-eq : Sound sameSlot
 slot-eq (metavariable m) (metavariable n) t = ap metavariable (eqb→eq m n t)
-slot-eq (metavariable m) (function n) t = absurd t
+slot-eq (metavariable m) (function n b) t = absurd t
 slot-eq (metavariable m) (hole n) t = absurd t
-slot-eq (function m) (metavariable n) t = absurd t
-slot-eq (function m) (function n) t = ap function (eqb→eq m n t)
-slot-eq (function m) (hole n) t = absurd t
+slot-eq (function m a) (metavariable n) t = absurd t
+slot-eq (function m a) (function n b) t = let r = and-T (eqb m n) (eqb a b) t in ap₂ function (eqb→eq m n (r .0)) (eqb→eq a b (r .1))
+slot-eq (function m a) (hole n) t = absurd t
 slot-eq (hole m) (metavariable n) t = absurd t
-slot-eq (hole m) (function n) t = absurd t
+slot-eq (hole m) (function n b) t = absurd t
 slot-eq (hole m) (hole n) t = ap hole (eqb→eq m n t)
 
 pub slot-refl : Fair sameSlot
 slot-refl (metavariable m) = eqb-refl m
-slot-refl (function m) = eqb-refl m
+slot-refl (function m a) = T-and (eqb m m) (eqb a a) (eqb-refl m) (eqb-refl a)
 slot-refl (hole m) = eqb-refl m
 
 pub own-eq : {X : Type 0} (same : X → X → Bool) → Sound same → Sound (sameOwn {B = Unit {0}} same)

@@ -8,11 +8,10 @@ use mathlib.Core.List.{List, [], _∷_, List·Memᴰ·head, List·Memᴰ·tail, 
 use mathlib.Core.Option.{Option, none, some}
 use native.Mathlib.Omega.{arith}
 use lib.Dec.{eqb}
-use Rattle.meaning.specs.Limits.{placeCount}
 use Rattle.meaning.specs.Basics.{choose, each, _∈_, orNone}
 use Rattle.meaning.specs.Term.{one, trees, Slot, metavariable, function, hole, Terms, Term, IsExpression}
 use Rattle.meaning.specs.Shift.{ClosedTerm}
-use Rattle.meaning.specs.Problem.{Problem, patterns, expressions, plain, applied, Where, alone, argumentOf, Standing, inArguments, standings, isFunction, isPlain}
+use Rattle.meaning.specs.Problem.{Problem, patterns, expressions, plain, applied, placesOf, Where, alone, argumentOf, Standing, inArguments, standings, isFunction, isPlain}
 use Rattle.meaning.specs.Filling.{fill, argument, Entry, absent, value, body, Filling, bodyOr, fillHandler, filled, IsBody}
 use Rattle.meaning.specs.Solution.{hasHole, needs, Idle, Solution}
 use Rattle.meaning.specs.Face.{Face}
@@ -27,7 +26,7 @@ pub record Fitting (p : Problem) (σ : Filling) (b : ℕ → Term) : Type 0 wher
   pub proper : Proper p
   pub meets : filled σ (patterns p) ≡ expressions p
   pub agree : (f : ℕ) → f ∈ applied (patterns p) → σ f ≡ body (b f)
-  pub shapes : (f : ℕ) → f ∈ applied (patterns p) → IsBody placeCount (one (b f))
+  pub shapes : (f : ℕ) → f ∈ applied (patterns p) → IsBody (placesOf p f) (one (b f))
 
 -- A source is right: its metavariable has it as value, needs one, and it is an expression
 pub record Right (p : Problem) (σ : Filling) (s : Source) : Type 0 where
@@ -61,11 +60,11 @@ module _ (p : Problem) (σ : Filling) (b : ℕ → Term) (fit : Fitting p σ b) 
         needed = refl;
       }
 
-  pub shapeOf : (f : ℕ) (x : Face) → x ∈ theWalk .found → x .what ≡ function f → (trees (x .children) ≡ placeCount) × IsArgument (x .children)
-  shapeOf f x q e = pattern-slot (patterns p) (fit .proper .pattern) f (x .children) (slotOf x q (function f) e)
+  pub shapeOf : (f n : ℕ) (x : Face) → x ∈ theWalk .found → x .what ≡ function f n → (trees (x .children) ≡ n) × IsArgument (x .children)
+  shapeOf f n x q e = pattern-slot (patterns p) (fit .proper .pattern) f n (x .children) (slotOf x q (function f n) e)
 
-  appliedAt : (f : ℕ) (x : Face) → x ∈ theWalk .found → x .what ≡ function f → f ∈ applied (patterns p)
-  appliedAt f x q e = slot-applied (patterns p) f (x .children) (slotOf x q (function f) e)
+  appliedAt : (f n : ℕ) (x : Face) → x ∈ theWalk .found → x .what ≡ function f n → f ∈ applied (patterns p)
+  appliedAt f n x q e = slot-applied (patterns p) f n (x .children) (slotOf x q (function f n) e)
 
   needs-hole : (f i : ℕ) → f ∈ applied (patterns p) → hasHole i (one (b f)) ≡ true → needs σ (argumentOf f i) ≡ true
   needs-hole f i a e = ap (λ (y : Entry Term). hasHole i (one (bodyOr f y))) (fit .agree f a) ∙ e
@@ -76,18 +75,18 @@ module _ (p : Problem) (σ : Filling) (b : ℕ → Term) (fit : Fitting p σ b) 
   application-right : (z : Slot) (x : Face) → x ∈ theWalk .found → x .what ≡ z → (s : Source) → s ∈ fromApplication b x z → Right p σ s
   application-right (metavariable m) x q e s i = absurd (List·Memᴰ·not-nil i)
   application-right (hole j) x q e s i = absurd (List·Memᴰ·not-nil i)
-  application-right (function f) x q e s i =
-      let shape = shapeOf f x q e in
-      let a : f ∈ applied (patterns p) = appliedAt f x q e in
-      let t : Told σ (b f) f x (fit .agree f a) e shape (faced x q) (theWalk .satisfied x q) s =
-      application-told σ (b f) f x (fit .agree f a) e shape (faced x q) (theWalk .satisfied x q) s i in
-      let fewer : t .place < trees (x .children) = subst (λ (n : ℕ). t .place < n) (sym (shape .0)) (t .small) in
+  application-right (function f n) x q e s i =
+      let shape = shapeOf f n x q e in
+      let a : f ∈ applied (patterns p) = appliedAt f n x q e in
+      let t : Told σ (b f) f n x (fit .agree f a) e shape (faced x q) (theWalk .satisfied x q) s =
+      application-told σ (b f) f n x (fit .agree f a) e shape (faced x q) (theWalk .satisfied x q) s i in
+      let fewer : t .place < trees (x .children) = subst (λ (k : ℕ). t .place < k) (sym (shape .0)) (t .small) in
       let zero-add : 0 + t .place ≡ t .place = omega arith in
       record {
         holds = t .holds;
         expression = t .expression;
         standing = argumentOf f (t .place);
-        stands = slot-standing (patterns p) (function f) (x .children) (s .number, argumentOf f (t .place)) (slotOf x q (function f) e)
+        stands = slot-standing (patterns p) (function f n) (x .children) (s .number, argumentOf f (t .place)) (slotOf x q (function f n) e)
             (subst (λ (k : ℕ). _∈_ {A = Standing} (s .number, argumentOf f k) (inArguments f 0 (x .children))) zero-add
             (arguments-in f 0 (t .place) (s .number) (x .children) fewer (t .stands)));
         needed = needs-hole f (t .place) a (t .hasHoles);
@@ -105,7 +104,7 @@ module _ (p : Problem) (σ : Filling) (b : ℕ → Term) (fit : Fitting p σ b) 
 
   -- WHAT NEEDS A VALUE HAS A SOURCE
   pub needed-source : (m : ℕ) (w : Where) → (m, w) ∈ standings (patterns p) → needs σ w ≡ true → HasSource m (sourcesIn b (theWalk .found))
-  needed-source m w i n = let r = standing-slot (patterns p) (m, w) i in go (r .0 .0) (r .0 .1) (r .1) (r .2)
+  needed-source m w i needy = let r = standing-slot (patterns p) (m, w) i in go (r .0 .0) (r .0 .1) (r .1) (r .2)
     where
       go : (z : Slot) (c : Terms) → (z, c) ∈ slots (patterns p) → (m, w) ∈ standingAt (z, c) → HasSource m (sourcesIn b (theWalk .found))
       go (metavariable k) c q j =
@@ -113,15 +112,15 @@ module _ (p : Problem) (σ : Filling) (b : ℕ → Term) (fit : Fitting p σ b) 
           let x = slot-face 0 0 (patterns p) (expressions p) (theWalk .found) (metavariable k) c (theWalk .defined) q in
           let s = face-source (x .0) m (theWalk .found) (x .1) (x .2 ∙ ap metavariable (sym e)) in
           (s .0, Memᴰ·append-left (each (λ y. fromApplication b y (y .what)) (theWalk .found)) (s .1), s .2)
-      go (function f) c q j =
+      go (function f n) c q j =
           let a = in-arguments f 0 c (m, w) j in
-          let x = slot-face 0 0 (patterns p) (expressions p) (theWalk .found) (function f) c (theWalk .defined) q in
-          let shape = shapeOf f (x .0) (x .1) (x .2) in
-          let ap-f : f ∈ applied (patterns p) = appliedAt f (x .0) (x .1) (x .2) in
+          let x = slot-face 0 0 (patterns p) (expressions p) (theWalk .found) (function f n) c (theWalk .defined) q in
+          let shape = shapeOf f n (x .0) (x .1) (x .2) in
+          let ap-f : f ∈ applied (patterns p) = appliedAt f n (x .0) (x .1) (x .2) in
           let zero-add : 0 + a .0 ≡ a .0 = omega arith in
-          let small : a .0 < placeCount = subst (λ (k : ℕ). a .0 < k) (ap trees (sym (x .3)) ∙ shape .0) (a .1) in
-          let hole-there : hasHole (a .0) (one (b f)) ≡ true = hole-needed f (a .0) ap-f (ap (needs σ) (ap (argumentOf f) (sym zero-add) ∙ sym (a .2)) ∙ n) in
-          let s = application-has σ (b f) f (x .0) (fit .agree f ap-f) (x .2) shape (faced (x .0) (x .1)) (theWalk .satisfied (x .0) (x .1)) (fit .shapes f ap-f) (a .0) m small hole-there
+          let small : a .0 < n = subst (λ (k : ℕ). a .0 < k) (ap trees (sym (x .3)) ∙ shape .0) (a .1) in
+          let hole-there : hasHole (a .0) (one (b f)) ≡ true = hole-needed f (a .0) ap-f (ap (needs σ) (ap (argumentOf f) (sym zero-add) ∙ sym (a .2)) ∙ needy) in
+          let s = application-has σ (b f) f n (x .0) (fit .agree f ap-f) (x .2) shape (faced (x .0) (x .1)) (theWalk .satisfied (x .0) (x .1)) (placesOf p f) (fit .shapes f ap-f) (a .0) m small hole-there
           (subst (λ (d : Terms). m ∈ plain (one (argument d (a .0)))) (sym (x .3)) (a .3)) in
           let inApplication : s .0 ∈ fromApplication b (x .0) (x .0 .what) = subst (λ (z : Slot). s .0 ∈ fromApplication b (x .0) z) (sym (x .2)) (s .1) in
           (s .0, Memᴰ·append-right {a = s .0} (each sourceOf (theWalk .found)) (mem-each (λ y. fromApplication b y (y .what)) (x .0) (s .0) (theWalk .found) (x .1) inApplication), s .2)
@@ -197,11 +196,11 @@ module _ (p : Problem) (r : Row) where
     shapes = λ f a. shape f a (s .bodies f a);
   }
     where
-      shape : (f : ℕ) → f ∈ applied (patterns p) → (b : Term) × (σ f ≡ body b) × IsBody placeCount (one b) × ClosedTerm b → IsBody placeCount (one (rowBody p r f))
+      shape : (f : ℕ) → f ∈ applied (patterns p) → (b : Term) × (σ f ≡ body b) × IsBody (placesOf p f) (one b) × ClosedTerm b → IsBody (placesOf p f) (one (rowBody p r f))
       shape f a x =
           let q : body (x .0) ≡ body (rowBody p r f) = sym (x .1) ∙ h f (applied-functions p c f a) in
           let e : x .0 ≡ rowBody p r f = cc in
-          subst (λ (t : Term). IsBody placeCount (one t)) e (x .2)
+          subst (λ (t : Term). IsBody (placesOf p f) (one t)) e (x .2)
 
   pub solution-candidate : (σ : Filling) → Proper p → Solution p σ → HasBodies p r σ → (m : ℕ) → σ m ≡ candidate p r m
   solution-candidate σ c s h m =

@@ -1,20 +1,19 @@
 -- The lists `choices` and `rows` hold what document 01 calls choices and rows: all of them, in order, each once.
 use mathlib.Core.Path.{_≡_, refl, ap, sym, _∙_, subst}
 use mathlib.Core.Logic.{⊎-elim, _↔_, _⊎_, inl, inr}
-use Prim.Native.Nat.{ℕ, zero, suc, _+_, _<_}
+use Prim.Native.Nat.{ℕ, zero, suc, _+_, _-_, _<_, _≤_}
 use mathlib.Core.Bool.{Bool, true, false, not, false≢true}
 use mathlib.Core.List.{List, [], _∷_, map, List·Memᴰ·head, List·Memᴰ·tail, List·Memᴰ·cases-cons, List·Memᴰ·not-nil}
 use mathlib.Core.Option.{Option, none, some, Option·some-injective, Option·none-ne-some}
 use native.Mathlib.Omega.{arith}
-use lib.ListN.{length, replicate, getElem?, length-append, length-replicate}
-use lib.Dec.{T}
-use Rattle.meaning.specs.Limits.{placeCount}
+use lib.ListN.{length, take, replicate, getElem?, length-append, length-replicate}
+use lib.Dec.{eqb, eqb→eq, T}
 use Rattle.meaning.specs.Basics.{choose, upTo, every, All, _∈_, Distinct, isSome}
 use Rattle.meaning.specs.Term.{nil, cons, size, one, Terms, Term}
 use Rattle.meaning.specs.Equal.{View}
-use Rattle.meaning.specs.Problem.{Problem, functions}
+use Rattle.meaning.specs.Problem.{Problem, placesOf, functions}
 use Rattle.meaning.specs.Face.{Face, faces}
-use Rattle.meaning.specs.Choice.{Mark, Marks, Owner, below, viewsFrom, views, usesFace, Choice, isPlace, chosen, sameOwned, allSame, fitsPlace, isChoice, Earlier, Ordered, empty, allMarks, choices}
+use Rattle.meaning.specs.Choice.{Mark, Marks, Owner, below, viewsFrom, views, usesFace, setSize, Apart, Choice, isPlace, chosen, sameOwned, allSame, fitsPlace, areApart, isChoice, Earlier, Ordered, empty, allMarks, choices}
 use Rattle.meaning.specs.Row.{Row, faceOf, rowsOver, rows, ChoiceEach, IsRow, EarlierRow}
 use Rattle.meaning.proofs.Lists.{never, T-true, true-T, and-T, T-and, eqb-self, eqb-eq, mem-keep, keep-mem, mem-upTo, all-mem, mem-all, every-all, all-every, at-mem, mem-at}
 use Rattle.meaning.proofs.Alike.{sameOwned-eq, sameOwned-refl}
@@ -123,13 +122,63 @@ module _ (us : List (View Owner)) (ms : Marks) (i : ℕ) where
       (all-every isFree (chosen i ms us) (mem-all (λ v. isFree v ≡ true) (chosen i ms us)
       (λ u m. let (k, d, e) = chosen-mem i ms us u m in ap not (unbound k u d e))))
 
+-- Of the first n nodes none is marked
+pub unmarked-front : (n : ℕ) (ms : Marks) → setSize (take n ms) ≡ 0 → (k i : ℕ) → getElem? ms k ≡ some (some i) → n ≤ k
+unmarked-front zero ms e k i q = omega arith
+unmarked-front (suc n) [] e k i q = never (cc)
+unmarked-front (suc n) (some j ∷ ms) e k i q = absurd (omega arith)
+unmarked-front (suc n) (none ∷ ms) e zero i q = never (cc)
+unmarked-front (suc n) (none ∷ ms) e (suc k) i q = let h = unmarked-front n ms e k i q in omega arith
+
+front-unmarked : (n : ℕ) (ms : Marks) → ((k i : ℕ) → getElem? ms k ≡ some (some i) → n ≤ k) → setSize (take n ms) ≡ 0
+front-unmarked zero ms f = refl
+front-unmarked (suc n) [] f = refl
+front-unmarked (suc n) (some j ∷ ms) f = absurd (let h = f 0 j refl in omega arith)
+front-unmarked (suc n) (none ∷ ms) f = front-unmarked n ms (λ k i q. let h = f (suc k) i q in omega arith)
+
+-- What the test of nodes below others says of the marks and the views
+later-test : (m : Mark) (u : View Owner) (ms : Marks) (us : List (View Owner)) → T (areApart (m ∷ ms) (u ∷ us)) → T (areApart ms us)
+later-test none u ms us t = t
+later-test (some i) u ms us t = and-T (eqb (setSize (take (size u - 1) ms)) 0) (areApart ms us) t .1
+
+pub test-apart : (ms : Marks) (us : List (View Owner)) → T (areApart ms us) → Apart ms us
+test-apart [] us t j k h i u d e f l = never (cc)
+test-apart (m ∷ ms) [] t j k h i u d e f l = never (cc)
+test-apart (m ∷ ms) (v ∷ us) t j zero h i u d e f l = absurd (omega arith)
+test-apart (none ∷ ms) (v ∷ us) t zero (suc k) h i u d e f l = never (cc)
+test-apart (some x ∷ ms) (v ∷ us) t zero (suc k) h i u d e f l =
+    let none-below = eqb→eq (setSize (take (size v - 1) ms)) 0 (and-T (eqb (setSize (take (size v - 1) ms)) 0) (areApart ms us) t .0) in
+    let past = unmarked-front (size v - 1) ms none-below k i e in
+    let same : v ≡ u = cc in
+    let sizes : size v ≡ size u = ap (λ (w : View Owner). size w) same in
+    omega arith
+test-apart (m ∷ ms) (v ∷ us) t (suc j) (suc k) h i u d e f l =
+    let r = test-apart ms us (later-test m v ms us t) j k h i u d e f (omega arith) in omega arith
+
+later-apart : (m : Mark) (u : View Owner) (ms : Marks) (us : List (View Owner)) → Apart (m ∷ ms) (u ∷ us) → Apart ms us
+later-apart m u ms us a j k h i v d e f l = let r = a (suc j) (suc k) h i v d e f (omega arith) in omega arith
+
+pub apart-test : (ms : Marks) (us : List (View Owner)) → Apart ms us → T (areApart ms us)
+apart-test [] us a = tt
+apart-test (m ∷ ms) [] a = tt
+apart-test (none ∷ ms) (v ∷ us) a = apart-test ms us (later-apart none v ms us a)
+apart-test (some i ∷ ms) (v ∷ us) a =
+    let past : (k h : ℕ) → getElem? ms k ≡ some (some h) → size v - 1 ≤ k = λ k h e. let r = a 0 (suc k) i h v refl e refl (omega arith) in omega arith in
+    T-and (eqb (setSize (take (size v - 1) ms)) 0) (areApart ms us)
+    (true-T (ap (λ (n : ℕ). eqb n 0) (front-unmarked (size v - 1) ms past))) (apart-test ms us (later-apart (some i) v ms us a))
+
 module _ (n : ℕ) (face : Term) (ms : Marks) where
+  passes-apart : isChoice n face ms ≡ true → Apart ms (views face)
+  passes-apart t = test-apart ms (views face) (and-T (every (fitsPlace (views face) ms) (upTo n)) (areApart ms (views face)) (true-T t) .1)
+
   choices-full : Choice n face ms → ms ∈ choices n face
   choices-full c =
       mem-keep (isChoice n face) ms (allMarks n (size (one face)))
       (allMarks-are n (size (one face)) ms .1 (c .long, mem-all (Placed n) ms (λ m h. let (k, e) = mem-at ms m h in placed m k e)))
-      (T-true (all-every (fitsPlace (views face) ms) (upTo n) (mem-all (λ i. fitsPlace (views face) ms i ≡ true) (upTo n)
-      (λ i h. T-true (fits-made (views face) ms i (λ j k d e. c .equal j k i d e) (λ k u d e. c .unbound k i u d e))))))
+      (T-true (T-and (every (fitsPlace (views face) ms) (upTo n)) (areApart ms (views face))
+      (all-every (fitsPlace (views face) ms) (upTo n) (mem-all (λ i. fitsPlace (views face) ms i ≡ true) (upTo n)
+      (λ i h. T-true (fits-made (views face) ms i (λ j k d e. c .equal j k i d e) (λ k u d e. c .unbound k i u d e)))))
+      (apart-test ms (views face) (c .apart))))
     where
       placed : (m : Mark) (k : ℕ) → getElem? ms k ≡ some m → Placed n m
       placed none k e = tt
@@ -141,28 +190,30 @@ module _ (n : ℕ) (face : Term) (ms : Marks) where
       let (l, a) = allMarks-are n (size (one face)) ms .0 m in
       let e : length ms ≡ length (views face) = l ∙ sym (length-views [] 0 (one face)) in
       let low : (k i : ℕ) → getElem? ms k ≡ some (some i) → i < n = λ k i d. all-mem (Placed n) (some i) ms a (at-mem ms k (some i) d) in
+      let every-place = and-T (every (fitsPlace (views face) ms) (upTo n)) (areApart ms (views face)) (true-T t) .0 in
       let fits : (i : ℕ) → i < n → T (fitsPlace (views face) ms i) =
-      λ i b. true-T (all-mem (λ j. fitsPlace (views face) ms j ≡ true) i (upTo n) (every-all (fitsPlace (views face) ms) (upTo n) (true-T t)) (mem-upTo n i b)) in
+      λ i b. true-T (all-mem (λ j. fitsPlace (views face) ms j ≡ true) i (upTo n) (every-all (fitsPlace (views face) ms) (upTo n) every-place) (mem-upTo n i b)) in
       record {
         long = l;
         places = low;
         equal = λ j k i d q. fits-equal (views face) ms i (fits i (low j i d)) e j k d q;
         unbound = λ k i u d q. fits-unbound (views face) ms i (fits i (low k i d)) k u d q;
+        apart = passes-apart t;
       }
 
 -- One choice of each list
-each-choice : (p : Problem) (fs : List ℕ) (r : Row) → OneOfEach (map (λ f. choices placeCount (faceOf p f)) fs) r ↔ ChoiceEach p fs r
+each-choice : (p : Problem) (fs : List ℕ) (r : Row) → OneOfEach (map (λ f. choices (placesOf p f) (faceOf p f)) fs) r ↔ ChoiceEach p fs r
 each-choice p [] [] = (λ h. h, λ h. h)
 each-choice p [] (c ∷ r) = (λ h. h, λ h. h)
 each-choice p (f ∷ fs) [] = (λ h. h, λ h. h)
 each-choice p (f ∷ fs) (c ∷ r) =
     let ih = each-choice p fs r in
-    (λ h. (choices-sound placeCount (faceOf p f) c (h .0), ih .0 (h .1)), λ h. (choices-full placeCount (faceOf p f) c (h .0), ih .1 (h .1)))
+    (λ h. (choices-sound (placesOf p f) (faceOf p f) c (h .0), ih .0 (h .1)), λ h. (choices-full (placesOf p f) (faceOf p f) c (h .0), ih .1 (h .1)))
 
 over-are : (p : Problem) (w : Option (List Face)) (r : Row) → (r ∈ rowsOver p w) ↔ ((isSome w ≡ true) × ChoiceEach p (functions p) r)
 over-are p none r = (λ m. absurd (List·Memᴰ·not-nil m), λ h. absurd (false≢true (h .0)))
 over-are p (some xs) r =
-    let q = product-are (map (λ f. choices placeCount (faceOf p f)) (functions p)) r in
+    let q = product-are (map (λ f. choices (placesOf p f) (faceOf p f)) (functions p)) r in
     let t = each-choice p (functions p) r in
     (λ m. (refl, t .0 (q .0 m)), λ h. q .1 (t .1 (h .1)))
 
@@ -184,6 +235,7 @@ empty-choice n face =
       places = λ k i e. absurd (unmarked k i e);
       equal = λ j k i d e. absurd (unmarked k i e);
       unbound = λ k i u d e. absurd (unmarked k i d);
+      apart = λ j k h i u d e f l. absurd (unmarked k i e);
     }
   where
     unmarked : (k i : ℕ) → getElem? (replicate (size (one face)) none) k ≡ some (some i) → ⊥
@@ -197,8 +249,8 @@ rows-ordered p = go (faces p)
     go : (w : Option (List Face)) → Ordered EarlierRow (rowsOver p w)
     go none = empty
     go (some xs) =
-        product-ordered (map (λ f. choices placeCount (faceOf p f)) (functions p))
-        (all-map (Ordered Earlier) (λ f. choices placeCount (faceOf p f)) (λ f. choices-ordered placeCount (faceOf p f)) (functions p))
+        product-ordered (map (λ f. choices (placesOf p f) (faceOf p f)) (functions p))
+        (all-map (Ordered Earlier) (λ f. choices (placesOf p f) (faceOf p f)) (λ f. choices-ordered (placesOf p f) (faceOf p f)) (functions p))
 
 pub rows-once : (p : Problem) → Distinct (rows p)
 rows-once p = ordered-distinct EarlierRow earlierRow-strict (rows p) (rows-ordered p)

@@ -19,6 +19,7 @@ pub mod Determined
 pub mod Lowered
 -- Solutions
 pub mod Punching
+pub mod Apart
 pub mod BodyChoice
 pub mod Lockstep
 pub mod AgreeLaws

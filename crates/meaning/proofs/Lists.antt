@@ -6,7 +6,7 @@ use mathlib.Core.Bool.{Bool, true, false, _||_, _&&_, true≢false, false≢true
 use mathlib.Core.List.{List, [], _∷_, _++_, map, append-assoc, List·Memᴰ·head, List·Memᴰ·tail, List·Memᴰ·cases-cons, List·Memᴰ·not-nil, List·Memᴰ·append-cases, Memᴰ·append-left, Memᴰ·append-right}
 use mathlib.Core.Option.{Option, none, some}
 use native.Mathlib.Omega.{arith}
-use lib.ListN.{drop, getElem?}
+use lib.ListN.{length, drop, getElem?}
 use lib.Dec.{eqb, eqb→eq, eqb-refl, T}
 use Rattle.meaning.specs.Basics.{choose, keep, each, countFrom, upTo, isIn, every, All, _∈_, Distinct, isSome, join, guard, AllO}
 
@@ -174,6 +174,12 @@ at-mem (y ∷ xs) (suc k) x e = List·Memᴰ·tail (at-mem xs k x e)
 pub mem-at : {A : Type 0} (xs : List A) (x : A) → x ∈ xs → (k : ℕ) × (getElem? xs k ≡ some x)
 mem-at xs x (List·Memᴰ·head e) = (0, ap some (sym e))
 mem-at xs x (List·Memᴰ·tail m) = let (k, e) = mem-at _ x m in (suc k, e)
+
+pub at-append : {A : Type 0} (xs ys : List A) (k : ℕ) (x : A) → getElem? (xs ++ ys) k ≡ some x
+    → ((k < length xs) × (getElem? xs k ≡ some x)) ⊎ ((i : ℕ) × (k ≡ length xs + i) × (getElem? ys i ≡ some x))
+at-append [] ys k x e = inr (k, omega arith, e)
+at-append (z ∷ xs) ys zero x e = inl (omega arith, e)
+at-append (z ∷ xs) ys (suc k) x e = ⊎-elim (λ r. inl (let h = r .0 in omega arith, r .1)) (λ r. inr (r .0, (let h = r .1 in omega arith), r .2)) (at-append xs ys k x e)
 
 pub drop-mem : {A : Type 0} (x : A) (n : ℕ) (xs : List A) → x ∈ drop n xs → x ∈ xs
 drop-mem x zero xs q = q

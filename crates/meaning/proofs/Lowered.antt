@@ -18,7 +18,7 @@ use Rattle.meaning.specs.Basics.{choose}
 use Rattle.meaning.specs.Term.{Forest, nil, cons, one, size, relabel, symbol, variable, application, binder, Label, own, slot, Variable, free, bound, Nameless, Terms, Term, inner}
 use Rattle.meaning.specs.Shift.{withVariable, raise, shiftTerm, sink, lowerLabel, lower, lowerTerm}
 use Rattle.meaning.specs.Equal.{Seen, seenFree, inside, outside, see, View, view}
-use Rattle.meaning.specs.Choice.{Mark, Marks, Owner, nodeOfFace, aboveFace, ownerOf, below, viewsFrom, views, ofFace, usesLabel, usesFace, Choice, isPlace}
+use Rattle.meaning.specs.Choice.{Mark, Marks, Owner, nodeOfFace, aboveFace, ownerOf, below, viewsFrom, views, ofFace, usesLabel, usesFace, Apart, Choice, isPlace}
 use Rattle.meaning.proofs.ShiftLaws.{ltb-yes, ltb-no, inner-with, pair-eq, shift-lower-term, lowered}
 use Rattle.meaning.proofs.Lists.{never, or-false, by-test, eqb-self}
 use Rattle.meaning.proofs.ChoiceLaws.{at-other, length-views, isPlace-eq}
@@ -286,8 +286,8 @@ module _ (n : ℕ) (face : Term) (ms : Marks) where
       let (x, v, w) = node-at face ms k (some i) l e in
       v ∙ ap some (lowered-view (x .0) (x .1) (a i) (Option·some-injective (nodeLowered x) (some (a i)) (sym w ∙ h k i e)))
 
-  takes-choice : length ms ≡ size (one face) → ((k i : ℕ) → getElem? ms k ≡ some (some i) → i < n) → (a : ℕ → Term) → Takes face ms a → Choice n face ms
-  takes-choice l low a h =
+  takes-choice : length ms ≡ size (one face) → ((k i : ℕ) → getElem? ms k ≡ some (some i) → i < n) → Apart ms (views face) → (a : ℕ → Term) → Takes face ms a → Choice n face ms
+  takes-choice l low apart a h =
       record {
         long = l;
         places = low;
@@ -295,9 +295,10 @@ module _ (n : ℕ) (face : Term) (ms : Marks) where
         unbound = λ k i u d e.
             let p : u ≡ view (ownerOf []) (one (a i)) = Option·some-injective u (view (ownerOf []) (one (a i))) (sym e ∙ takes-view l a h k i d) in
             ap usesFace p ∙ above-unused 0 (one (a i));
+        apart = apart;
       }
 
--- Main theorem: a choice is a set of nodes whose lowered subexpressions, place by place, are all defined and equal
+-- Main theorem: a choice is a set of nodes, none below another, whose lowered subexpressions, place by place, are all defined and equal
 pub choice-lowered : (n : ℕ) (face : Term) (ms : Marks) → length ms ≡ size (one face) → ((k i : ℕ) → getElem? ms k ≡ some (some i) → i < n)
-    → Choice n face ms ↔ ((a : ℕ → Term) × Takes face ms a)
-choice-lowered n face ms l low = (choice-takes n face ms, λ h. takes-choice n face ms l low (h .0) (h .1))
+    → Apart ms (views face) → Choice n face ms ↔ ((a : ℕ → Term) × Takes face ms a)
+choice-lowered n face ms l low apart = (choice-takes n face ms, λ h. takes-choice n face ms l low apart (h .0) (h .1))

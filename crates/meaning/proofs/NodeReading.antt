@@ -9,7 +9,7 @@ use native.Mathlib.Omega.{arith}
 use lib.ListN.{length, getD, length-append}
 use lib.Dec.{eqb, ltb}
 use borrow.Author.Tests.{ltb-true, ltb-false, lt-ltb, le-ltb, eqb-true, eqb-false, ne-eqb}
-use Rattle.meaning.specs.Limits.{metavariableCount, placeCount}
+use Rattle.meaning.specs.Limits.{metavariableCount}
 use Rattle.meaning.specs.Basics.{All}
 use Rattle.meaning.specs.Term.{Forest, nil, cons, graft, one, trees, symbol, variable, application, binder, own, slot, metavariable, function, hole, Named, NamedTerm}
 use Rattle.meaning.specs.Field.{Bytes, word, field, tagOf, fixedPart, encode}
@@ -50,8 +50,8 @@ kindTag variableKind = 2
 kindTag applicationKind = 3
 kindTag binderKind = 4
 kindTag metavariableKind = 5
-kindTag functionKind = 6
-kindTag holeKind = 10
+kindTag (functionKind n) = 6
+kindTag (holeKind i) = 10
 
 abbrev pub Placed : Context → Kind → Type 0
 Placed ctx symbolKind = Unit {0}
@@ -59,8 +59,8 @@ Placed ctx variableKind = Unit {0}
 Placed ctx applicationKind = Unit {0}
 Placed ctx binderKind = Unit {0}
 Placed ctx metavariableKind = MetavariableAt ctx
-Placed ctx functionKind = FunctionAt ctx
-Placed ctx holeKind = HoleAt ctx
+Placed ctx (functionKind n) = FunctionAt ctx × (n ≡ 1)
+Placed ctx (holeKind i) = HoleAt ctx × (i ≡ 0)
 
 metavariable-placed : (ctx : Context) {k : Kind} → metavariableIn ctx ≡ got k → (k ≡ metavariableKind) × MetavariableAt ctx
 unfolding metavariableIn
@@ -69,19 +69,19 @@ metavariable-placed inArgument e = (cc, tt)
 metavariable-placed inExpression e = absurd (refused-not e)
 metavariable-placed inBody e = absurd (refused-not e)
 
-function-placed : (ctx : Context) {k : Kind} → functionIn ctx ≡ got k → (k ≡ functionKind) × FunctionAt ctx
+function-placed : (n : ℕ) (ctx : Context) {k : Kind} → functionIn n ctx ≡ got k → (k ≡ functionKind n) × FunctionAt ctx
 unfolding functionIn
-function-placed inPattern e = (cc, tt)
-function-placed inArgument e = absurd (refused-not e)
-function-placed inExpression e = absurd (refused-not e)
-function-placed inBody e = absurd (refused-not e)
+function-placed n inPattern e = (cc, tt)
+function-placed n inArgument e = absurd (refused-not e)
+function-placed n inExpression e = absurd (refused-not e)
+function-placed n inBody e = absurd (refused-not e)
 
-hole-placed : (ctx : Context) {k : Kind} → holeIn ctx ≡ got k → (k ≡ holeKind) × HoleAt ctx
+hole-placed : (i : ℕ) (ctx : Context) {k : Kind} → holeIn i ctx ≡ got k → (k ≡ holeKind i) × HoleAt ctx
 unfolding holeIn
-hole-placed inPattern e = absurd (refused-not e)
-hole-placed inArgument e = absurd (refused-not e)
-hole-placed inExpression e = absurd (refused-not e)
-hole-placed inBody e = (cc, tt)
+hole-placed i inPattern e = absurd (refused-not e)
+hole-placed i inArgument e = absurd (refused-not e)
+hole-placed i inExpression e = absurd (refused-not e)
+hole-placed i inBody e = (cc, tt)
 
 placed-metavariable : (ctx : Context) → MetavariableAt ctx → metavariableIn ctx ≡ got metavariableKind
 unfolding metavariableIn
@@ -90,19 +90,19 @@ placed-metavariable inArgument p = refl
 placed-metavariable inExpression p = absurd p
 placed-metavariable inBody p = absurd p
 
-placed-function : (ctx : Context) → FunctionAt ctx → functionIn ctx ≡ got functionKind
+placed-function : (n : ℕ) (ctx : Context) → FunctionAt ctx → functionIn n ctx ≡ got (functionKind n)
 unfolding functionIn
-placed-function inPattern p = refl
-placed-function inArgument p = absurd p
-placed-function inExpression p = absurd p
-placed-function inBody p = absurd p
+placed-function n inPattern p = refl
+placed-function n inArgument p = absurd p
+placed-function n inExpression p = absurd p
+placed-function n inBody p = absurd p
 
-placed-hole : (ctx : Context) → HoleAt ctx → holeIn ctx ≡ got holeKind
+placed-hole : (i : ℕ) (ctx : Context) → HoleAt ctx → holeIn i ctx ≡ got (holeKind i)
 unfolding holeIn
-placed-hole inPattern p = absurd p
-placed-hole inArgument p = absurd p
-placed-hole inExpression p = absurd p
-placed-hole inBody p = refl
+placed-hole i inPattern p = absurd p
+placed-hole i inArgument p = absurd p
+placed-hole i inExpression p = absurd p
+placed-hole i inBody p = refl
 
 -- A tag that has a place there is its kind's
 kind-is : (ctx : Context) (tag : ℕ) (k j : Kind) → eqb tag (kindTag j) ≡ true → k ≡ j → Placed ctx j → (kindTag k ≡ tag) × Placed ctx k
@@ -116,8 +116,8 @@ kind-tag ctx tag k e =
     by-choice (eqb tag 3) _ _ e (λ t q. kind-is ctx tag k applicationKind t (cc) tt) (λ _ e.
     by-choice (eqb tag 4) _ _ e (λ t q. kind-is ctx tag k binderKind t (cc) tt) (λ _ e.
     by-choice (eqb tag 5) _ _ e (λ t q. let r = metavariable-placed ctx q in kind-is ctx tag k metavariableKind t (r .0) (r .1)) (λ _ e.
-    by-choice (eqb tag 6) _ _ e (λ t q. let r = function-placed ctx q in kind-is ctx tag k functionKind t (r .0) (r .1)) (λ _ e.
-    by-choice (eqb tag 10) _ _ e (λ t q. let r = hole-placed ctx q in kind-is ctx tag k holeKind t (r .0) (r .1)) (λ _ e.
+    by-choice (eqb tag 6) _ _ e (λ t q. let r = function-placed 1 ctx q in kind-is ctx tag k (functionKind 1) t (r .0) (r .1, refl)) (λ _ e.
+    by-choice (eqb tag 10) _ _ e (λ t q. let r = hole-placed 0 ctx q in kind-is ctx tag k (holeKind 0) t (r .0) (r .1, refl)) (λ _ e.
     absurd (refused-not e))))))))
 
 -- A node's kind
@@ -127,8 +127,8 @@ kindOn (own (variable x)) = variableKind
 kindOn (own (application n)) = applicationKind
 kindOn (own (binder b x)) = binderKind
 kindOn (slot (metavariable m)) = metavariableKind
-kindOn (slot (function f)) = functionKind
-kindOn (slot (hole i)) = holeKind
+kindOn (slot (function f n)) = functionKind n
+kindOn (slot (hole i)) = holeKind i
 
 pub kind-on : (ctx : Context) (l : Named) (c : Forest Named) → NodeFits ctx l c → kindOf ctx (tagOf l) ≡ got (kindOn l)
 unfolding kindOf
@@ -137,8 +137,8 @@ kind-on ctx (own (variable x)) c fits = refl
 kind-on ctx (own (application n)) c fits = refl
 kind-on ctx (own (binder b x)) c fits = refl
 kind-on ctx (slot (metavariable m)) c fits = placed-metavariable ctx (fits .0)
-kind-on ctx (slot (function f)) c fits = placed-function ctx (fits .0)
-kind-on ctx (slot (hole i)) c fits = placed-hole ctx (fits .0)
+kind-on ctx (slot (function f n)) c fits = rw (fits .2) (placed-function 1 ctx (fits .0))
+kind-on ctx (slot (hole i)) c fits = rw (fits .1) (placed-hole 0 ctx (fits .0))
 
 -- What the fixed part of a content says: the node, the bytes that it takes, and how many inner fields are due
 abbrev pub Opened : Context → ℕ → Bytes → Content → Type 0
@@ -153,7 +153,7 @@ contentOn (own (variable x)) c = leaf (own (variable x))
 contentOn (own (application n)) c = many (encode c)
 contentOn (own (binder b x)) c = over (own (binder b x)) 1 (encode c)
 contentOn (slot (metavariable m)) c = leaf (slot (metavariable m))
-contentOn (slot (function f)) c = over (slot (function f)) 1 (encode c)
+contentOn (slot (function f n)) c = over (slot (function f n)) n (encode c)
 contentOn (slot (hole i)) c = leaf (slot (hole i))
 
 pub tag-byte : (l : Named) → Byte (tagOf l)
@@ -162,7 +162,7 @@ tag-byte (own (variable x)) = omega arith
 tag-byte (own (application n)) = omega arith
 tag-byte (own (binder b x)) = omega arith
 tag-byte (slot (metavariable m)) = omega arith
-tag-byte (slot (function f)) = omega arith
+tag-byte (slot (function f n)) = omega arith
 tag-byte (slot (hole i)) = omega arith
 
 -- The main theorems. A head that is read was a field of its kind's tag, which has a place there
@@ -182,7 +182,7 @@ field-head ctx tag k c later e = rw (field-some tag c later, field-parts tag c l
 
 -- A content that is read says what its bytes are
 pub content-opened : (ctx : Context) (k : Kind) (c : Bytes) (x : Content) → All Byte c → Placed ctx k → contentOf k c ≡ got x → Opened ctx (kindTag k) c x
-unfolding contentOf placeCount
+unfolding contentOf
 content-opened ctx symbolKind c x b p e =
     let r = when-got (eqb (length c) 2) 6 _ e in
     let w = exact-word c b (eqb-true (length c) 2 (r .0)) in
@@ -203,27 +203,27 @@ content-opened ctx metavariableKind c x b p e =
     let r = when-got (eqb (length c) 1) 6 _ e in
     let q = when-got (ltb (getD c 0 0) metavariableCount) 10 _ (r .1) in
     subst (Opened ctx 5 c) (got-is (q .1)) (refl, one-byte c (eqb-true (length c) 1 (r .0)), (p, ltb-true (getD c 0 0) metavariableCount (q .0), refl))
-content-opened ctx functionKind c x b p e =
+content-opened ctx (functionKind n) c x b p e =
     let r = unless-got (eqb (length c) 0) 6 _ e in
     let some : (length c ≡ 0 → ⊥) = eqb-false (length c) 0 (r .0) in
     let q = when-got (ltb (getD c 0 0) metavariableCount) 10 _ (r .1) in
-    subst (Opened ctx 6 c) (got-is (q .1)) (refl, first-byte c (omega arith), λ f h. (p, ltb-true (getD c 0 0) metavariableCount (q .0), h))
-content-opened ctx holeKind c x b p e =
+    subst (Opened ctx 6 c) (got-is (q .1)) (refl, first-byte c (omega arith), λ f h. (p .0, ltb-true (getD c 0 0) metavariableCount (q .0), p .1, h))
+content-opened ctx (holeKind i) c x b p e =
     let r = when-got (eqb (length c) 0) 6 _ e in
     let some : length c ≡ 0 = eqb-true (length c) 0 (r .0) in
-    subst (Opened ctx 10 c) (got-is (r .1)) (refl, sym (none-left c (omega arith)), (p, omega arith, refl))
+    subst (Opened ctx 10 c) (got-is (r .1)) (refl, sym (none-left c (omega arith)), (p .0, p .1, refl))
 
 -- The content of a node that fits is read as that node
 pub content-on : (ctx : Context) (l : Named) (c : Forest Named) → NodeFits ctx l c → contentOf (kindOn l) (fixedPart l ++ encode c) ≡ got (contentOn l c)
-unfolding contentOf encode word placeCount
+unfolding contentOf encode word
 content-on ctx (own (symbol n)) c fits = rw (fits .1, word-value n)
 content-on ctx (own (variable x)) c fits = rw (fits .1, word-value x)
 content-on ctx (own (application n)) c fits = rw (ne-eqb (length (encode c)) 0 (λ e. omega (arith, some-bytes c (omega arith))))
 content-on ctx (own (binder b x)) c fits =
     rw (word-value b, word-value x, le-ltb (length (word b ++ word x ++ encode c)) 4 (omega arith))
 content-on ctx (slot (metavariable m)) c fits = rw (fits .2, lt-ltb m metavariableCount (fits .1))
-content-on ctx (slot (function f)) c fits = rw (lt-ltb f metavariableCount (fits .1), ne-eqb (length (f ∷ encode c)) 0 (λ e. omega arith))
-content-on ctx (slot (hole i)) c fits = let z : i ≡ 0 = omega arith in rw (fits .2, z)
+content-on ctx (slot (function f n)) c fits = rw (lt-ltb f metavariableCount (fits .1), ne-eqb (length (f ∷ encode c)) 0 (λ e. omega arith))
+content-on ctx (slot (hole i)) c fits = rw (fits .2)
 
 -- A node that fits has bytes before its inner fields
 pub fixed-bytes : (ctx : Context) (l : Named) (c : Forest Named) → NodeFits ctx l c → All Byte (fixedPart l)
@@ -233,5 +233,5 @@ fixed-bytes ctx (own (variable x)) c fits = word-bytes x (fits .0)
 fixed-bytes ctx (own (application n)) c fits = tt
 fixed-bytes ctx (own (binder b x)) c fits = all-append Byte (word b) (word x) (word-bytes b (fits .0)) (word-bytes x (fits .1))
 fixed-bytes ctx (slot (metavariable m)) c fits = (omega arith, tt)
-fixed-bytes ctx (slot (function f)) c fits = (omega arith, tt)
+fixed-bytes ctx (slot (function f n)) c fits = (omega arith, tt)
 fixed-bytes ctx (slot (hole i)) c fits = tt

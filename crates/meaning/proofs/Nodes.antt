@@ -14,7 +14,6 @@ use native.Mathlib.Omega.{arith}
 use native.Mathlib.Decide.{decLt}
 use lib.ListN.{length, drop}
 use lib.Dec.{eqb, T}
-use Rattle.meaning.specs.Limits.{placeCount}
 use Rattle.meaning.specs.Basics.{choose, each, upTo, andThen, orNone, join, guard, _∈_}
 use Rattle.meaning.specs.Term.{Forest, nil, cons, Tree, graft, one, size, nodeAt, relabel, Own, symbol, variable, application, binder, own, slot, Variable, free, bound, Slot, metavariable, function, hole, Named, Nameless, NamedTerm, Terms, Term, inner}
 use Rattle.meaning.specs.Scope.{resolve, enter, namelessLabel, nameless, namelessTerm}
@@ -182,7 +181,7 @@ lowered-stands {i} {v} n t u e h d =
 -- Sources
 source-there : (z : Slot) (n : ℕ) (t : Term) (s : Source) → s ∈ sourceAt z n t → s .node ≡ n
 source-there (metavariable m) n t s q = ap (λ (x : Source). x .node) (List·Memᴰ·eq-of-singleton q)
-source-there (function f) n t s q = absurd (List·Memᴰ·not-nil q)
+source-there (function f a) n t s q = absurd (List·Memᴰ·not-nil q)
 source-there (hole i) n t s q = absurd (List·Memᴰ·not-nil q)
 
 abbrev Further : ℕ → Terms → Source → Type 0
@@ -216,8 +215,8 @@ application-within : (b : ℕ → Term) (n : ℕ) (e : Terms) (x : Face) → Wit
     → Further n e s
 application-within b n e x w (metavariable m) s q d = absurd (List·Memᴰ·not-nil q)
 application-within b n e x w (hole i) s q d = absurd (List·Memᴰ·not-nil q)
-application-within b n e x w (function f) s q d =
-    let y = each-mem (λ i. fromHole (x .under) (argument (x .children) i) (lowestHole i (orNone (walk 0 (x .node) (one (b f)) (one (x .term)))))) s (upTo placeCount) q in
+application-within b n e x w (function f a) s q d =
+    let y = each-mem (λ i. fromHole (x .under) (argument (x .children) i) (lowestHole i (orNone (walk 0 (x .node) (one (b f)) (one (x .term)))))) s (upTo a) q in
     further (at (walk 0 (x .node) (one (b f)) (one (x .term))) refl (y .0) (y .2))
   where
     further : Further (x .node) (one (x .term)) s → Further n e s

@@ -7,12 +7,11 @@ use mathlib.Core.List.{List, [], _∷_, map, List·Memᴰ·head, List·Memᴰ·t
 use lib.Dec.{T, eqb, ltb}
 use borrow.Author.Tests.{ltb-true, lt-ltb, not-false}
 use native.Mathlib.Omega.{arith}
-use Rattle.meaning.specs.Limits.{placeCount}
 use Rattle.meaning.specs.Basics.{choose, every, isIn, _∈_, Distinct}
 use Rattle.meaning.specs.Term.{nil, cons, one, own, slot, metavariable, function, hole, NamedTerm, Nameless, Terms, Term, IsExpression}
 use Rattle.meaning.specs.Shift.{ClosedTerm, isClosed}
 use Rattle.meaning.specs.Equal.{sameTerms}
-use Rattle.meaning.specs.Problem.{Problem, patterns, expressions, plain, applied, isFunction, isPlain, Where, Standing, standings}
+use Rattle.meaning.specs.Problem.{Problem, patterns, expressions, plain, applied, placesOf, isFunction, isPlain, Where, Standing, standings}
 use Rattle.meaning.specs.Filling.{Entry, absent, leftOpen, value, body, Filling, filled, bodyLabel, IsBody}
 use Rattle.meaning.specs.Solution.{needs, Idle, Solution}
 use Rattle.meaning.specs.Text.{Item, meant, said, Says, Passes}
@@ -54,14 +53,14 @@ label-body n (own o) c t = tt
 label-body n (slot (hole i)) nil t = (ltb-true i n (T-true t), refl)
 label-body n (slot (hole i)) (cons l c s) t = absurd (false≢true (T-true t))
 label-body n (slot (metavariable m)) c t = absurd (false≢true (T-true t))
-label-body n (slot (function f)) c t = absurd (false≢true (T-true t))
+label-body n (slot (function f k)) c t = absurd (false≢true (T-true t))
 
 body-label : (n : ℕ) (l : Nameless) (c : Terms) → bodyLabel n l c → T (isBodyLabel n l c)
 body-label n (own o) c b = tt
 body-label n (slot (hole i)) nil b = true-T (lt-ltb i n (b .0))
 body-label n (slot (hole i)) (cons l c s) b = never (cc (b .1))
 body-label n (slot (metavariable m)) c b = absurd b
-body-label n (slot (function f)) c b = absurd b
+body-label n (slot (function f k)) c b = absurd b
 
 test-body : (n : ℕ) (u : Terms) → T (isBody n u) → IsBody n u
 test-body n nil t = tt
@@ -81,7 +80,7 @@ none-expression : (u : Terms) → IsBody 0 u → IsExpression u
 none-expression nil b = tt
 none-expression (cons (own o) c s) b = (tt, none-expression c (b .1), none-expression s (b .2))
 none-expression (cons (slot (metavariable m)) c s) b = absurd (b .0)
-none-expression (cons (slot (function f)) c s) b = absurd (b .0)
+none-expression (cons (slot (function f k)) c s) b = absurd (b .0)
 none-expression (cons (slot (hole i)) c s) b = absurd (let h = b .0 .0 in omega arith)
 
 expression-none : (u : Terms) → IsExpression u → IsBody 0 u
@@ -228,13 +227,13 @@ module _ (p : Problem) (is : List Item) where
       let c = and-T (kinds p σ) _ (b .1) in
       let d = and-T (openUnneeded p σ) _ (c .1) in
       let f = and-T (unneededOpen p σ) _ (d .1) in
-      let k = and-T (every (λ g. isBodyEntry placeCount (σ g)) (applied (patterns p))) _ (c .0) in
+      let k = and-T (every (λ g. isBodyEntry (placesOf p g) (σ g)) (applied (patterns p))) _ (c .0) in
       record {
         filling = σ;
         says = record { once = once-distinct (map (λ (i : Item). i .0) is) (a .0); names = λ m. refl };
         solution = record {
           meets = sameTerms-eq (filled σ (patterns p)) (expressions p) (f .1);
-          bodies = λ g q. entry-body placeCount (σ g) (every-mem (λ h. isBodyEntry placeCount (σ h)) (applied (patterns p)) (k .0) g q);
+          bodies = λ g q. entry-body (placesOf p g) (σ g) (every-mem (λ h. isBodyEntry (placesOf p h) (σ h)) (applied (patterns p)) (k .0) g q);
           values = λ m q. entry-value (σ m) (every-mem (λ h. isValueEntry (σ h)) (plain (patterns p)) (k .1) m q);
           others = known-others p is (every-mem knownItem is (b .0));
           openIdle = λ m o w q.
@@ -255,8 +254,8 @@ module _ (p : Problem) (is : List Item) where
       T-true (T-and (once is) _ (distinct-once (map (λ (i : Item). i .0) is) d)
       (T-and (known p is) _ (mem-every knownItem is (others-known p is d (s .others)))
       (T-and (kinds p σ) _
-      (T-and (every (λ g. isBodyEntry placeCount (σ g)) (applied (patterns p))) _
-      (mem-every (λ g. isBodyEntry placeCount (σ g)) (applied (patterns p)) (λ g q. body-entry placeCount (σ g) (s .bodies g q)))
+      (T-and (every (λ g. isBodyEntry (placesOf p g) (σ g)) (applied (patterns p))) _
+      (mem-every (λ g. isBodyEntry (placesOf p g) (σ g)) (applied (patterns p)) (λ g q. body-entry (placesOf p g) (σ g) (s .bodies g q)))
       (mem-every (λ m. isValueEntry (σ m)) (plain (patterns p)) (λ m q. value-entry (σ m) (s .values m q))))
       (T-and (openUnneeded p σ) _
       (mem-every (λ (x : Standing). not (isOpen (σ (x .0)) && needs σ (x .1))) (standings (patterns p))

@@ -12,10 +12,10 @@ use lib.ListN.{length, replicate, getElem?}
 use lib.Pow.{pow-pos}
 use lib.Dec.{ltb}
 use borrow.Author.Tests.{ltb-false, not-true, not-false}
-use Rattle.meaning.specs.Limits.{placeCount, maxFunctions, maxFaceNodes}
+use Rattle.meaning.specs.Limits.{maxFunctions, maxFaceNodes}
 use Rattle.meaning.specs.Basics.{every, isSome, _∈_}
 use Rattle.meaning.specs.Term.{one, size}
-use Rattle.meaning.specs.Problem.{Problem, functions}
+use Rattle.meaning.specs.Problem.{Problem, placesOf, functions}
 use Rattle.meaning.specs.Face.{faces}
 use Rattle.meaning.specs.Choice.{Mark, Marks, Choice}
 use Rattle.meaning.specs.Row.{Row, rows, faceOf, IsRow, ChoiceEach}
@@ -25,6 +25,7 @@ use Rattle.meaning.specs.Search.{Place, at, past, placeOf, From}
 use Rattle.meaning.specs.PlaceValue.{maskOf, PlaceValue, masksOf, placeValue, IsPlace, Names}
 use Rattle.meaning.proofs.Lists.{true-T, all-mem, every-all}
 use Rattle.meaning.proofs.ByteLaws.{unless-got}
+use Rattle.meaning.proofs.Proper.{one-place, functions-applied}
 use Rattle.meaning.proofs.ChoiceLaws.{rows-are}
 
 -- What an accepted problem is like
@@ -75,15 +76,19 @@ mask-injective (suc w) (some i ∷ ms) (some j ∷ us) h l o q e =
     (mask-injective w ms us (omega arith) (omega arith) (λ k. o (suc k)) (λ k. q (suc k)) (omega arith))
 
 -- The masks of two choices of a face are two
-choice-mask : (p : Problem) (f : ℕ) (ms us : Marks) → size (one (faceOf p f)) ≤ maxFaceNodes
-    → Choice placeCount (faceOf p f) ms → Choice placeCount (faceOf p f) us
+abbrev Small : Problem → ℕ → Type 0
+Small p f = (placesOf p f ≡ 1) × (size (one (faceOf p f)) ≤ maxFaceNodes)
+
+choice-mask : (p : Problem) (f : ℕ) (ms us : Marks) → Small p f
+    → Choice (placesOf p f) (faceOf p f) ms → Choice (placesOf p f) (faceOf p f) us
     → maskOf maxFaceNodes ms ≡ maskOf maxFaceNodes us → ms ≡ us
-unfolding placeCount
 choice-mask p f ms us h c d e =
+    let n : placesOf p f ≡ 1 = h .0 in
+    let s : size (one (faceOf p f)) ≤ maxFaceNodes = h .1 in
     mask-injective maxFaceNodes ms us (omega (arith, c .long)) (c .long ∙ sym (d .long))
     (λ k i q. omega (arith, c .places k i q)) (λ k i q. omega (arith, d .places k i q)) e
 
-choices-injective : (p : Problem) (fs : List ℕ) → ((f : ℕ) → f ∈ fs → size (one (faceOf p f)) ≤ maxFaceNodes) → (r s : Row)
+choices-injective : (p : Problem) (fs : List ℕ) → ((f : ℕ) → f ∈ fs → Small p f) → (r s : Row)
     → ChoiceEach p fs r → ChoiceEach p fs s
     → (xs ys : List ℕ) → map (maskOf maxFaceNodes) r ++ xs ≡ map (maskOf maxFaceNodes) s ++ ys → r ≡ s
 choices-injective p [] h [] [] c d xs ys e = refl
@@ -102,7 +107,8 @@ choices-injective p (f ∷ fs) h (m ∷ r) (u ∷ s) c d xs ys e =
 pub masks-injective : (p : Problem) → Accepted p → (r s : Row) → IsRow p r → IsRow p s → masksOf r ≡ masksOf s → r ≡ s
 unfolding masksOf
 masks-injective p a r s c d e =
-    choices-injective p (functions p) (small-faces p a (c .agree)) r s (c .choice) (d .choice)
+    choices-injective p (functions p)
+    (λ f m. (one-place p (a .within) f (functions-applied p f m), small-faces p a (c .agree) f m)) r s (c .choice) (d .choice)
     (replicate (maxFunctions - length r) 0) (replicate (maxFunctions - length s) 0) e
 
 -- A value says whether it is past the last

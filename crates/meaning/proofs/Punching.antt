@@ -3,7 +3,7 @@
 --   Clear     no mark stands below a marked node
 --   holesOf   the marks of a body's holes in the filled body
 use mathlib.Core.Path.{_≡_, refl, ap, ap₂, sym, _∙_}
-use Prim.Native.Nat.{ℕ, _+_, _≤_}
+use Prim.Native.Nat.{ℕ, zero, suc, _+_, _≤_}
 use mathlib.Core.List.{[], _∷_, _++_}
 use mathlib.Core.Option.{none, some}
 use lib.ListN.{length, take, drop, replicate, length-append, length-replicate, length-drop}
@@ -12,7 +12,7 @@ use native.Mathlib.Omega.{arith}
 use Rattle.meaning.specs.Term.{Forest, nil, cons, Tree, graft, size, own, slot, metavariable, function, hole, Terms, Term, inner, IsExpression}
 use Rattle.meaning.specs.Shift.{shift, shiftTerm}
 use Rattle.meaning.specs.Filling.{fill, plugHandler, IsBody}
-use Rattle.meaning.specs.Choice.{Mark, Marks, mark, rest, punch}
+use Rattle.meaning.specs.Choice.{Mark, Marks, mark, rest, punch, setSize}
 use Rattle.meaning.proofs.ShiftLaws.{shift-size}
 use Rattle.meaning.proofs.Lists.{never}
 
@@ -45,7 +45,7 @@ abbrev pub holesOf : (ℕ → Term) → Terms → Marks
 holesOf a nil = []
 holesOf a (cons (own o) c s) = none ∷ (holesOf a c ++ holesOf a s)
 holesOf a (cons (slot (metavariable m)) c s) = none ∷ (holesOf a c ++ holesOf a s)
-holesOf a (cons (slot (function m)) c s) = none ∷ (holesOf a c ++ holesOf a s)
+holesOf a (cons (slot (function m d)) c s) = none ∷ (holesOf a c ++ holesOf a s)
 holesOf a (cons (slot (hole i)) c s) = some i ∷ (blank (size (a i .1)) ++ holesOf a s)
 
 -- What lies past a forest's own marks is not read
@@ -81,6 +81,10 @@ module _ (b : Marks) where
 pub blank-length : (n : ℕ) → length (blank n) ≡ n
 blank-length n = length-replicate {A = Mark} n none
 
+pub size-blank : (n : ℕ) → setSize (blank n) ≡ 0
+size-blank zero = refl
+size-blank (suc n) = size-blank n
+
 hole-length : (a : ℕ → Term) (k i : ℕ) → length (blank (size (a i .1))) ≡ size (shift k (inner (a i .0) 0) (a i .1))
 hole-length a k i = blank-length (size (a i .1)) ∙ sym (shift-size k (inner (a i .0) 0) (a i .1))
 
@@ -91,7 +95,7 @@ module _ (a : ℕ → Term) where
   holes-length k (cons (own o) c s) =
       rw (length-append (holesOf a c) (holesOf a s), holes-length (inner (own o) k) c, holes-length k s)
   holes-length k (cons (slot (metavariable m)) c s) = rw (length-append (holesOf a c) (holesOf a s), holes-length k c, holes-length k s)
-  holes-length k (cons (slot (function m)) c s) = rw (length-append (holesOf a c) (holesOf a s), holes-length k c, holes-length k s)
+  holes-length k (cons (slot (function m d)) c s) = rw (length-append (holesOf a c) (holesOf a s), holes-length k c, holes-length k s)
   holes-length k (cons (slot (hole i)) c s) =
       rw (length-append (blank (size (a i .1))) (holesOf a s), blank-length (size (a i .1)), holes-length k s, shift-size k (inner (a i .0) 0) (a i .1))
 
@@ -107,7 +111,7 @@ module _ (a : ℕ → Term) where
           punch-holes k s (h .2),
         )
     punch-holes k (cons (slot (metavariable m)) c s) h = absurd (h .0)
-    punch-holes k (cons (slot (function m)) c s) h = absurd (h .0)
+    punch-holes k (cons (slot (function m d)) c s) h = absurd (h .0)
     punch-holes k (cons (slot (hole i)) c s) h =
         rw (
           drop-at (blank (size (a i .1))) (holesOf a s) (size (shift k (inner (a i .0) 0) (a i .1))) (hole-length a k i),
@@ -123,7 +127,7 @@ module _ (a : ℕ → Term) where
           rw (drop-at (holesOf a c) (holesOf a s) (size (plugAll a (inner (own o) k) c)) e) (fits-holes k s (h .2)),
         )
     fits-holes k (cons (slot (metavariable m)) c s) h = absurd (h .0)
-    fits-holes k (cons (slot (function m)) c s) h = absurd (h .0)
+    fits-holes k (cons (slot (function m d)) c s) h = absurd (h .0)
     fits-holes k (cons (slot (hole i)) c s) h = (
       refl,
       rw (drop-at (blank (size (a i .1))) (holesOf a s) (size (shift k (inner (a i .0) 0) (a i .1))) (hole-length a k i)) (fits-holes k s (h .2)),
@@ -137,7 +141,7 @@ module _ (a : ℕ → Term) where
           rw (drop-at (holesOf a c) (holesOf a s) (size (plugAll a (inner (own o) k) c)) e) (clear-holes k s (h .2)),
         )
     clear-holes k (cons (slot (metavariable m)) c s) h = absurd (h .0)
-    clear-holes k (cons (slot (function m)) c s) h = absurd (h .0)
+    clear-holes k (cons (slot (function m d)) c s) h = absurd (h .0)
     clear-holes k (cons (slot (hole i)) c s) h =
         let e : length (blank (size (a i .1))) ≡ size (shift k (inner (a i .0) 0) (a i .1)) = hole-length a k i in (
           take-at (blank (size (a i .1))) (holesOf a s) (size (shift k (inner (a i .0) 0) (a i .1))) e ∙ rw (shift-size k (inner (a i .0) 0) (a i .1)),

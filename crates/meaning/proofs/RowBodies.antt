@@ -8,10 +8,10 @@ use mathlib.Core.Bool.{Bool, true, false, false≢true}
 use mathlib.Core.List.{List, [], _∷_, List·Memᴰ·head, List·Memᴰ·tail, List·Memᴰ·append-cases, List·Memᴰ·cases-cons, List·Memᴰ·not-nil}
 use mathlib.Core.Option.{Option, none, some}
 use lib.Dec.{eqb}
-use Rattle.meaning.specs.Limits.{metavariableCount, placeCount}
+use Rattle.meaning.specs.Limits.{metavariableCount}
 use Rattle.meaning.specs.Basics.{choose, upTo, orNone, isSome, _∈_, Distinct}
 use Rattle.meaning.specs.Term.{Tree, nil, cons, one, size, Label, own, slot, Slot, metavariable, function, hole, Terms, Term, IsExpression}
-use Rattle.meaning.specs.Problem.{Problem, patterns, expressions, applied, isFunction, functions}
+use Rattle.meaning.specs.Problem.{Problem, patterns, expressions, applied, placesOf, isFunction, functions}
 use Rattle.meaning.specs.Filling.{plug, Entry, body, Filling, bodyOr, fillHandler, IsBody}
 use Rattle.meaning.specs.Solution.{Solution}
 use Rattle.meaning.specs.Face.{Face, faces, isApplication, firstFace, Satisfied}
@@ -22,27 +22,28 @@ use Rattle.meaning.proofs.Lists.{at-mem, keep-distinct, distinct-countF
 use Rattle.meaning.proofs.Renaming.{one-injective}
 use Rattle.meaning.proofs.ChoiceLaws.{rows-are}
 use Rattle.meaning.proofs.Punching.{blank, holesOf, holes-length, punch-holes, fits-holes, clear-holes, punch-unique}
-use Rattle.meaning.proofs.BodyChoice.{fits-choice, choice-clear}
+use Rattle.meaning.proofs.Apart.{choice-clear}
+use Rattle.meaning.proofs.BodyChoice.{fits-choice}
 use Rattle.meaning.proofs.Proper.{Proper, functions-applied}
 use Rattle.meaning.proofs.Slots.{slot-face, applied-slot, faces-expression}
 use Rattle.meaning.proofs.Sources.{arguments, plugged}
 use Rattle.meaning.proofs.Candidate.{Fitting, theWalk, faced, shapeOf}
 
 -- The first application of a function
-application-is : (f : ℕ) (z : Slot) → isApplication f z ≡ true → z ≡ function f
+application-is : (f : ℕ) (z : Slot) → isApplication f z ≡ true → (n : ℕ) × (z ≡ function f n)
 application-is f (metavariable m) e = absurd (false≢true e)
-application-is f (function g) e = ap function (sym (eqb-eq f g e))
+application-is f (function g n) e = (n, ap (λ (h : ℕ). function h n) (sym (eqb-eq f g e)))
 application-is f (hole i) e = absurd (false≢true e)
 
-first-there : (f : ℕ) (xs : List Face) (x : Face) → x ∈ xs → x .what ≡ function f → (y : Face) × (firstFace f xs ≡ some y) × (y ∈ xs) × (y .what ≡ function f)
-first-there f [] x m e = absurd (List·Memᴰ·not-nil m)
-first-there f (z ∷ zs) x m e = go (isApplication f (z .what)) refl (λ q. first-there f zs x q e) (List·Memᴰ·cases-cons m)
+first-there : (f n : ℕ) (xs : List Face) (x : Face) → x ∈ xs → x .what ≡ function f n → (y : Face) × (firstFace f xs ≡ some y) × (y ∈ xs) × ((a : ℕ) × (y .what ≡ function f a))
+first-there f n [] x m e = absurd (List·Memᴰ·not-nil m)
+first-there f n (z ∷ zs) x m e = go (isApplication f (z .what)) refl (λ q. first-there f n zs x q e) (List·Memᴰ·cases-cons m)
   where
-    go : (b : Bool) → isApplication f (z .what) ≡ b → (x ∈ zs → (y : Face) × (firstFace f zs ≡ some y) × (y ∈ zs) × (y .what ≡ function f)) → (x ≡ z) ⊎ (x ∈ zs)
-        → (y : Face) × (choose b (some z) (firstFace f zs) ≡ some y) × (y ∈ (z ∷ zs)) × (y .what ≡ function f)
+    go : (b : Bool) → isApplication f (z .what) ≡ b → (x ∈ zs → (y : Face) × (firstFace f zs ≡ some y) × (y ∈ zs) × ((a : ℕ) × (y .what ≡ function f a))) → (x ≡ z) ⊎ (x ∈ zs)
+        → (y : Face) × (choose b (some z) (firstFace f zs) ≡ some y) × (y ∈ (z ∷ zs)) × ((a : ℕ) × (y .what ≡ function f a))
     go true q ih r = (z, refl, List·Memᴰ·head refl, application-is f (z .what) q)
     go false q ih (inl r) = absurd (false≢true (sym q ∙ ap (isApplication f) (ap (λ (y : Face). y .what) (sym r) ∙ e) ∙ eqb-self f))
-    go false q ih (inr r) = let y = ih r in (y .0, y .1, List·Memᴰ·tail (y .2), y .3)
+    go false q ih (inr r) = let (y, e, i, w) = ih r in (y, e, List·Memᴰ·tail i, w)
 
 -- Marks of a body's holes have the places of its holes
 holes-places : (n : ℕ) (a : ℕ → Term) (b : Terms) → IsBody n b → (i : ℕ) → some i ∈ holesOf a b → i < n
@@ -51,7 +52,7 @@ holes-places n a (cons (own o) c s) h i q =
     ⊎-elim (λ (e : some i ≡ none). never (cc))
     (λ r. ⊎-elim (holes-places n a c (h .1) i) (holes-places n a s (h .2) i) (List·Memᴰ·append-cases (holesOf a c) r)) (List·Memᴰ·cases-cons q)
 holes-places n a (cons (slot (metavariable m)) c s) h i q = absurd (h .0)
-holes-places n a (cons (slot (function m)) c s) h i q = absurd (h .0)
+holes-places n a (cons (slot (function m d)) c s) h i q = absurd (h .0)
 holes-places n a (cons (slot (hole j)) c s) h i q =
     ⊎-elim (λ (e : some i ≡ some j). let w : j ≡ i = cc in subst (λ (x : ℕ). x < n) w (h .0 .0))
     (λ r. ⊎-elim (λ z. absurd (none-blank (size (a j .1)) i z)) (holes-places n a s (h .2) i) (List·Memᴰ·append-cases (blank (size (a j .1))) r)) (List·Memᴰ·cases-cons q)
@@ -72,19 +73,21 @@ punch-one {X} {B} ms t = go (mark ms)
 pub record FaceOf (p : Problem) (xs : List Face) (f : ℕ) : Type 0 where
   pub face : Face
   pub among : face ∈ xs
-  pub applies : face .what ≡ function f
+  pub places : ℕ
+  pub applies : face .what ≡ function f places
   pub isFirst : faceOf p f ≡ face .term
 
 module _ (p : Problem) (c : Proper p) (xs : List Face) (defined : faces p ≡ some xs) where
   pub face-of : (f : ℕ) → f ∈ applied (patterns p) → FaceOf p xs f
   face-of f a =
       let s = applied-slot (patterns p) (c .pattern) f a in
-      let x = slot-face 0 0 (patterns p) (expressions p) xs (function f) (s .0) defined (s .1) in
-      let y = first-there f xs (x .0) (x .1) (x .2) in
+      let x = slot-face 0 0 (patterns p) (expressions p) xs (function f (s .0)) (s .1) defined (s .2) in
+      let y = first-there f (s .0) xs (x .0) (x .1) (x .2) in
       record {
         face = y .0;
         among = y .2;
-        applies = y .3;
+        places = y .3 .0;
+        applies = y .3 .1;
         isFirst = ap (λ (o : Option (List Face)). faceTerm (firstFace f (orNone o)) f) defined ∙ ap (λ (o : Option Face). faceTerm o f) (y .1);
       }
 
@@ -96,45 +99,45 @@ module _ (p : Problem) (c : Proper p) (xs : List Face) (defined : faces p ≡ so
 -- A body that fills to its function's face comes from a choice of it
 module _ (p : Problem) (σ : Filling) (b : ℕ → Term) (fit : Fitting p σ b) where
   pub record Chosen (f : ℕ) (ms : Marks) : Type 0 where
-    pub choice : Choice placeCount (faceOf p f) ms
+    pub choice : Choice (placesOf p f) (faceOf p f) ms
     pub punched : punch ms (one (faceOf p f)) ≡ one (b f)
 
   pub body-chosen : (f : ℕ) → f ∈ applied (patterns p) → (ms : Marks) × Chosen f ms
   body-chosen f a =
       let x = face-of p (fit .proper) (theWalk p σ b fit .found) (theWalk p σ b fit .defined) f a in
-      let shape = shapeOf p σ b fit f (x .face) (x .among) (x .applies) in
+      let shape = shapeOf p σ b fit f (x .places) (x .face) (x .among) (x .applies) in
       let sat : Satisfied (fillHandler σ) (x .face) = theWalk p σ b fit .satisfied (x .face) (x .among) in
       let ex : IsExpression (one (x .face .term)) = faced p σ b fit (x .face) (x .among) in
-      let args : ℕ → Term = arguments σ (b f) f (x .face) (fit .agree f a) (x .applies) shape ex sat in
-      let e : plug args (b f) ≡ faceOf p f = plugged σ (b f) f (x .face) (fit .agree f a) (x .applies) shape ex sat ∙ sym (x .isFirst) in
+      let args : ℕ → Term = arguments σ (b f) f (x .places) (x .face) (fit .agree f a) (x .applies) shape ex sat in
+      let e : plug args (b f) ≡ faceOf p f = plugged σ (b f) f (x .places) (x .face) (fit .agree f a) (x .applies) shape ex sat ∙ sym (x .isFirst) in
       (holesOf args (one (b f)), from-plug args e)
     where
       from-plug : (args : ℕ → Term) → plug args (b f) ≡ faceOf p f → Chosen f (holesOf args (one (b f)))
       from-plug args e =
           let ms : Marks = holesOf args (one (b f)) in
-          let ib : IsBody placeCount (one (b f)) = fit .shapes f a in
-          let r : Choice placeCount (faceOf p f) ms × (punch ms (one (faceOf p f)) ≡ one (b f)) =
-          subst (λ (t : Term). Choice placeCount t ms × (punch ms (one t) ≡ one (b f))) e (
-            fits-choice args placeCount (plug args (b f)) ms (holes-length args 0 (one (b f)))
-                (λ k i q. holes-places placeCount args (one (b f)) ib i (at-mem ms k (some i) q))
-                (fits-holes args placeCount 0 (one (b f)) ib) (clear-holes args placeCount 0 (one (b f)) ib),
-            punch-holes args placeCount 0 (one (b f)) ib,
+          let ib : IsBody (placesOf p f) (one (b f)) = fit .shapes f a in
+          let r : Choice (placesOf p f) (faceOf p f) ms × (punch ms (one (faceOf p f)) ≡ one (b f)) =
+          subst (λ (t : Term). Choice (placesOf p f) t ms × (punch ms (one t) ≡ one (b f))) e (
+            fits-choice args (placesOf p f) (plug args (b f)) ms (holes-length args 0 (one (b f)))
+                (λ k i q. holes-places (placesOf p f) args (one (b f)) ib i (at-mem ms k (some i) q))
+                (fits-holes args (placesOf p f) 0 (one (b f)) ib) (clear-holes args (placesOf p f) 0 (one (b f)) ib),
+            punch-holes args (placesOf p f) 0 (one (b f)) ib,
           ) in
           record { choice = r .0; punched = r .1 }
 
 -- Rows by the choices of their functions
-pub choice-in : (p : Problem) (fs : List ℕ) (r : Row) → ChoiceEach p fs r → (f : ℕ) → f ∈ fs → Choice placeCount (faceOf p f) (choiceIn fs r f)
+pub choice-in : (p : Problem) (fs : List ℕ) (r : Row) → ChoiceEach p fs r → (f : ℕ) → f ∈ fs → Choice (placesOf p f) (faceOf p f) (choiceIn fs r f)
 choice-in p [] r h f q = absurd (List·Memᴰ·not-nil q)
 choice-in p (g ∷ gs) [] h f q = absurd h
 choice-in p (g ∷ gs) (c ∷ r) h f q = go (eqb f g) refl (choice-in p gs r (h .1) f) (List·Memᴰ·cases-cons q)
   where
-    go : (b : Bool) → eqb f g ≡ b → (f ∈ gs → Choice placeCount (faceOf p f) (choiceIn gs r f)) → (f ≡ g) ⊎ (f ∈ gs) → Choice placeCount (faceOf p f) (choose b c (choiceIn gs r f))
-    go true e ih k = subst (λ (x : ℕ). Choice placeCount (faceOf p x) c) (sym (eqb-eq f g e)) (h .0)
+    go : (b : Bool) → eqb f g ≡ b → (f ∈ gs → Choice (placesOf p f) (faceOf p f) (choiceIn gs r f)) → (f ≡ g) ⊎ (f ∈ gs) → Choice (placesOf p f) (faceOf p f) (choose b c (choiceIn gs r f))
+    go true e ih k = subst (λ (x : ℕ). Choice (placesOf p x) (faceOf p x) c) (sym (eqb-eq f g e)) (h .0)
     go false e ih (inl k) = absurd (false≢true (sym e ∙ ap (eqb f) (sym k) ∙ eqb-self f))
     go false e ih (inr k) = ih k
 
 -- A row of choices that are given one by one
-row-of : (p : Problem) (P : ℕ → Marks → Type 0) → ((f : ℕ) (ms : Marks) → P f ms → Choice placeCount (faceOf p f) ms) → (fs : List ℕ) → ((f : ℕ) → f ∈ fs → (ms : Marks) × P f ms)
+row-of : (p : Problem) (P : ℕ → Marks → Type 0) → ((f : ℕ) (ms : Marks) → P f ms → Choice (placesOf p f) (faceOf p f) ms) → (fs : List ℕ) → ((f : ℕ) → f ∈ fs → (ms : Marks) × P f ms)
     → (r : Row) × ChoiceEach p fs r × ((f : ℕ) → f ∈ fs → P f (choiceIn fs r f))
 row-of p P h [] g = ([], tt, λ f q. absurd (List·Memᴰ·not-nil q))
 row-of p P h (f ∷ fs) g = go (g f (List·Memᴰ·head refl)) (row-of p P h fs (λ x q. g x (List·Memᴰ·tail q)))
@@ -190,7 +193,7 @@ own-fitting p σ c s = record {
   meets = s .meets;
   agree = solution-bodies p σ s;
   shapes = λ f a. let x = s .bodies f a in
-      subst (λ (e : Entry Term). IsBody placeCount (one (bodyOr f e))) (sym (x .1)) (x .2);
+      subst (λ (e : Entry Term). IsBody (placesOf p f) (one (bodyOr f e))) (sym (x .1)) (x .2);
 }
 
 pub row-exists : (p : Problem) (σ : Filling) → Proper p → Solution p σ → (r : Row) × (r ∈ rows p) × HasBodies p r σ
@@ -217,10 +220,10 @@ row-only p σ c s r r′ i j h g =
     same : (f : ℕ) → f ∈ functions p → choiceIn (functions p) r f ≡ choiceIn (functions p) r′ f
     same f q =
         let b : ℕ → Term = λ x. bodyOr x (σ x) in
-        let x : Choice placeCount (faceOf p f) (choiceIn (functions p) r f) = choice-in p (functions p) r (ch .choice) f q in
-        let y : Choice placeCount (faceOf p f) (choiceIn (functions p) r′ f) = choice-in p (functions p) r′ (ch′ .choice) f q in
+        let x : Choice (placesOf p f) (faceOf p f) (choiceIn (functions p) r f) = choice-in p (functions p) r (ch .choice) f q in
+        let y : Choice (placesOf p f) (faceOf p f) (choiceIn (functions p) r′ f) = choice-in p (functions p) r′ (ch′ .choice) f q in
         let eb : body (rowBody p r f) ≡ body (rowBody p r′ f) = sym (h f q) ∙ g f q in
         let e : rowBody p r f ≡ rowBody p r′ f = cc in
         punch-unique (choiceIn (functions p) r f) (choiceIn (functions p) r′ f) (one (faceOf p f)) (face-expression p c (theWalk p σ b (own-fitting p σ c s) .found) (theWalk p σ b (own-fitting p σ c s) .defined) f (functions-applied p f q)) (x .long) (y .long)
-        (choice-clear (faceOf p f) (choiceIn (functions p) r f) x) (choice-clear (faceOf p f) (choiceIn (functions p) r′ f) y)
+        (choice-clear (placesOf p f) (faceOf p f) (choiceIn (functions p) r f) x) (choice-clear (placesOf p f) (faceOf p f) (choiceIn (functions p) r′ f) y)
         (sym (body-row p r f) ∙ ap (λ (t : Term). one t) e ∙ body-row p r′ f)

@@ -8,10 +8,9 @@ use mathlib.Core.List.{List, [], _∷_, _++_, map, map-append, List·Memᴰ·hea
 use mathlib.Core.Option.{Option, none, some}
 use native.Mathlib.Omega.{arith}
 use lib.Dec.{eqb}
-use Rattle.meaning.specs.Limits.{placeCount}
 use Rattle.meaning.specs.Basics.{each, join, guard, _∈_}
 use Rattle.meaning.specs.Term.{nil, cons, one, size, trees, own, slot, Slot, metavariable, function, hole, Nameless, Terms, Term, inner, IsExpression}
-use Rattle.meaning.specs.Problem.{plain, applied, alone, argumentOf, Standing, inArguments, standings}
+use Rattle.meaning.specs.Problem.{plain, applications, applied, alone, argumentOf, Standing, inArguments, standings}
 use Rattle.meaning.specs.Filling.{argument, IsBody}
 use Rattle.meaning.specs.Solution.{hasHole}
 use Rattle.meaning.specs.Face.{Face, agrees, meet, walk}
@@ -105,14 +104,14 @@ faces-expression k n p e xs h q = subst (When (λ ys. (z : Face) → z ∈ ys �
 
 -- Standings by slots
 abbrev pub standingAt : Slot × Terms → List Standing
-standingAt y = elim (y .0) [ metavariable m ↦ (m, alone) ∷ [] | function f ↦ inArguments f 0 (y .1) | hole i ↦ [] ]
+standingAt y = elim (y .0) [ metavariable m ↦ (m, alone) ∷ [] | function f n ↦ inArguments f 0 (y .1) | hole i ↦ [] ]
 
 pub standings-slots : (u : Terms) → standings u ≡ each standingAt (slots u)
 standings-slots nil = refl
 standings-slots (cons (own o) c s) =
     ap₂ (λ (x y : List Standing). x ++ y) (standings-slots c) (standings-slots s) ∙ sym (each-append standingAt (slots c) (slots s))
 standings-slots (cons (slot (metavariable m)) c s) = ap (λ (x : List Standing). (m, alone) ∷ x) (standings-slots s)
-standings-slots (cons (slot (function f)) c s) = ap (λ (x : List Standing). inArguments f 0 c ++ x) (standings-slots s)
+standings-slots (cons (slot (function f n)) c s) = ap (λ (x : List Standing). inArguments f 0 c ++ x) (standings-slots s)
 standings-slots (cons (slot (hole i)) c s) = standings-slots s
 
 pub slot-standing : (u : Terms) (z : Slot) (c : Terms) (x : Standing) → (z, c) ∈ slots u → x ∈ standingAt (z, c) → x ∈ standings u
@@ -175,7 +174,7 @@ plain-slot (cons (slot (metavariable k)) c s) h m q = go (plain-slot s (h .2) m)
     go : (m ∈ plain s → (d : Terms) × ((metavariable m, d) ∈ slots s)) → (m ≡ k) ⊎ (m ∈ plain s) → (d : Terms) × ((metavariable m, d) ∈ ((metavariable k, c) ∷ slots s))
     go f (inl e) = (c, List·Memᴰ·head (ap (λ (x : ℕ). (metavariable x, c)) e))
     go f (inr x) = let r = f x in (r .0, List·Memᴰ·tail (r .1))
-plain-slot (cons (slot (function f)) c s) h m q = absurd (h .0)
+plain-slot (cons (slot (function f n)) c s) h m q = absurd (h .0)
 plain-slot (cons (slot (hole i)) c s) h m q = absurd (h .0)
 
 pub slot-plain : (u : Terms) (m : ℕ) (d : Terms) → (metavariable m, d) ∈ slots u → m ∈ plain u
@@ -185,63 +184,80 @@ slot-plain (cons (own o) c s) m d q =
 slot-plain (cons (slot (metavariable k)) c s) m d q =
     ⊎-elim (λ (e : metavariable m ≡ metavariable k). let w : m ≡ k = cc in List·Memᴰ·head w)
     (λ x. List·Memᴰ·tail (slot-plain s m d x)) (slot-cases q)
-slot-plain (cons (slot (function f)) c s) m d q =
-    ⊎-elim (λ (e : metavariable m ≡ function f). never (cc))
+slot-plain (cons (slot (function f n)) c s) m d q =
+    ⊎-elim (λ (e : metavariable m ≡ function f n). never (cc))
     (λ x. Memᴰ·append-right (plain c) (slot-plain s m d x)) (slot-cases q)
 slot-plain (cons (slot (hole i)) c s) m d q =
     ⊎-elim (λ (e : metavariable m ≡ hole i). never (cc))
     (λ x. slot-plain s m d x) (slot-cases q)
 
 -- Functions of a pattern
-argument-unapplied : (u : Terms) → IsArgument u → (f : ℕ) → f ∈ applied u → ⊥
-argument-unapplied nil h f q = List·Memᴰ·not-nil q
-argument-unapplied (cons (own o) c s) h f q = ⊎-elim (argument-unapplied c (h .1) f) (argument-unapplied s (h .2) f) (List·Memᴰ·append-cases (applied c) q)
-argument-unapplied (cons (slot (metavariable m)) c s) h f q = argument-unapplied s (h .2) f q
-argument-unapplied (cons (slot (function g)) c s) h f q = h .0
-argument-unapplied (cons (slot (hole i)) c s) h f q = h .0
+argument-unapplied : (u : Terms) → IsArgument u → (f n : ℕ) → (f, n) ∈ applications u → ⊥
+argument-unapplied nil h f n q = List·Memᴰ·not-nil q
+argument-unapplied (cons (own o) c s) h f n q =
+    ⊎-elim (argument-unapplied c (h .1) f n) (argument-unapplied s (h .2) f n) (List·Memᴰ·append-cases (applications c) q)
+argument-unapplied (cons (slot (metavariable m)) c s) h f n q = argument-unapplied s (h .2) f n q
+argument-unapplied (cons (slot (function g a)) c s) h f n q = h .0
+argument-unapplied (cons (slot (hole i)) c s) h f n q = h .0
 
-pub applied-slot : (u : Terms) → IsPattern u → (f : ℕ) → f ∈ applied u → (c : Terms) × ((function f, c) ∈ slots u)
-applied-slot nil h f q = absurd (List·Memᴰ·not-nil q)
-applied-slot (cons (own o) c s) h f q = go (applied-slot c (h .1) f) (applied-slot s (h .2) f) (List·Memᴰ·append-cases (applied c) q)
+application-slot : (u : Terms) → IsPattern u → (f n : ℕ) → (f, n) ∈ applications u → (c : Terms) × ((function f n, c) ∈ slots u)
+application-slot nil h f n q = absurd (List·Memᴰ·not-nil q)
+application-slot (cons (own o) c s) h f n q =
+    go (application-slot c (h .1) f n) (application-slot s (h .2) f n) (List·Memᴰ·append-cases (applications c) q)
   where
-    go : (f ∈ applied c → (d : Terms) × ((function f, d) ∈ slots c)) → (f ∈ applied s → (d : Terms) × ((function f, d) ∈ slots s))
-        → (f ∈ applied c) ⊎ (f ∈ applied s) → (d : Terms) × ((function f, d) ∈ (slots c ++ slots s))
+    go : ((f, n) ∈ applications c → (d : Terms) × ((function f n, d) ∈ slots c)) → ((f, n) ∈ applications s → (d : Terms) × ((function f n, d) ∈ slots s))
+        → ((f, n) ∈ applications c) ⊎ ((f, n) ∈ applications s) → (d : Terms) × ((function f n, d) ∈ (slots c ++ slots s))
     go x y (inl z) = let r = x z in (r .0, Memᴰ·append-left (slots s) (r .1))
     go x y (inr z) = let r = y z in (r .0, Memᴰ·append-right (slots c) (r .1))
-applied-slot (cons (slot (metavariable m)) c s) h f q = let r = applied-slot s (h .2) f q in (r .0, List·Memᴰ·tail (r .1))
-applied-slot (cons (slot (function g)) c s) h f q = go (applied-slot s (h .2) f) (List·Memᴰ·cases-cons q)
+application-slot (cons (slot (metavariable m)) c s) h f n q = let r = application-slot s (h .2) f n q in (r .0, List·Memᴰ·tail (r .1))
+application-slot (cons (slot (function g a)) c s) h f n q = go (application-slot s (h .2) f n) (List·Memᴰ·cases-cons q)
   where
-    go : (f ∈ applied s → (d : Terms) × ((function f, d) ∈ slots s)) → (f ≡ g) ⊎ (f ∈ (applied c ++ applied s)) → (d : Terms) × ((function f, d) ∈ ((function g, c) ∷ slots s))
-    go x (inl e) = (c, List·Memᴰ·head (ap (λ (y : ℕ). (function y, c)) e))
+    go : ((f, n) ∈ applications s → (d : Terms) × ((function f n, d) ∈ slots s)) → (_≡_ {A = ℕ × ℕ} (f, n) (g, a)) ⊎ ((f, n) ∈ (applications c ++ applications s))
+        → (d : Terms) × ((function f n, d) ∈ ((function g a, c) ∷ slots s))
+    go x (inl e) = (c, List·Memᴰ·head (ap (λ (y : ℕ × ℕ). (function (y .0) (y .1), c)) e))
     go x (inr z) =
-        let r = x (⊎-elim (λ (y : f ∈ applied c). absurd (argument-unapplied c (h .0 .1) f y)) (λ y. y) (List·Memᴰ·append-cases (applied c) z)) in
+        let r = x (⊎-elim (λ y. absurd (argument-unapplied c (h .0 .1) f n y)) (λ y. y) (List·Memᴰ·append-cases (applications c) z)) in
         (r .0, List·Memᴰ·tail (r .1))
-applied-slot (cons (slot (hole i)) c s) h f q = absurd (h .0)
+application-slot (cons (slot (hole i)) c s) h f n q = absurd (h .0)
 
-pub slot-applied : (u : Terms) (f : ℕ) (d : Terms) → (function f, d) ∈ slots u → f ∈ applied u
-slot-applied nil f d q = absurd (List·Memᴰ·not-nil q)
-slot-applied (cons (own o) c s) f d q =
-    ⊎-elim (λ x. Memᴰ·append-left (applied s) (slot-applied c f d x)) (λ x. Memᴰ·append-right (applied c) (slot-applied s f d x)) (List·Memᴰ·append-cases (slots c) q)
-slot-applied (cons (slot (metavariable m)) c s) f d q =
-    ⊎-elim (λ (e : function f ≡ metavariable m). never (cc))
-    (λ x. slot-applied s f d x) (slot-cases q)
-slot-applied (cons (slot (function g)) c s) f d q =
-    ⊎-elim (λ (e : function f ≡ function g). let w : f ≡ g = cc in List·Memᴰ·head w)
-    (λ x. List·Memᴰ·tail (Memᴰ·append-right (applied c) (slot-applied s f d x))) (slot-cases q)
-slot-applied (cons (slot (hole i)) c s) f d q =
-    ⊎-elim (λ (e : function f ≡ hole i). never (cc))
-    (λ x. slot-applied s f d x) (slot-cases q)
+slot-application : (u : Terms) (f n : ℕ) (d : Terms) → (function f n, d) ∈ slots u → (f, n) ∈ applications u
+slot-application nil f n d q = absurd (List·Memᴰ·not-nil q)
+slot-application (cons (own o) c s) f n d q =
+    ⊎-elim (λ x. Memᴰ·append-left (applications s) (slot-application c f n d x)) (λ x. Memᴰ·append-right (applications c) (slot-application s f n d x))
+    (List·Memᴰ·append-cases (slots c) q)
+slot-application (cons (slot (metavariable m)) c s) f n d q =
+    ⊎-elim (λ (e : function f n ≡ metavariable m). never (cc))
+    (λ x. slot-application s f n d x) (slot-cases q)
+slot-application (cons (slot (function g a)) c s) f n d q =
+    ⊎-elim (λ (e : function f n ≡ function g a). let v : f ≡ g = cc in let w : n ≡ a = cc in List·Memᴰ·head (ap₂ (λ (x y : ℕ). (x, y)) v w))
+    (λ x. List·Memᴰ·tail (Memᴰ·append-right (applications c) (slot-application s f n d x))) (slot-cases q)
+slot-application (cons (slot (hole i)) c s) f n d q =
+    ⊎-elim (λ (e : function f n ≡ hole i). never (cc))
+    (λ x. slot-application s f n d x) (slot-cases q)
 
-pub pattern-slot : (u : Terms) → IsPattern u → (f : ℕ) (c : Terms) → (function f, c) ∈ slots u → (trees c ≡ placeCount) × IsArgument c
-pattern-slot nil h f d q = absurd (List·Memᴰ·not-nil q)
-pattern-slot (cons (own o) c s) h f d q = ⊎-elim (pattern-slot c (h .1) f d) (pattern-slot s (h .2) f d) (List·Memᴰ·append-cases (slots c) q)
-pattern-slot (cons (slot (metavariable m)) c s) h f d q =
-    ⊎-elim (λ (e : function f ≡ metavariable m). never (cc))
-    (pattern-slot s (h .2) f d) (slot-cases q)
-pattern-slot (cons (slot (function g)) c s) h f d q =
-    ⊎-elim (λ (e : _≡_ {A = Slot × Terms} (function f, d) (function g, c)). subst (λ (y : Terms). (trees y ≡ placeCount) × IsArgument y) (sym (ap (λ (y : Slot × Terms). y .1) e)) (h .0))
-    (pattern-slot s (h .2) f d) (List·Memᴰ·cases-cons q)
-pattern-slot (cons (slot (hole i)) c s) h f d q = absurd (h .0)
+pub applied-slot : (u : Terms) → IsPattern u → (f : ℕ) → f ∈ applied u → (n : ℕ) × (c : Terms) × ((function f n, c) ∈ slots u)
+applied-slot u h f q =
+    let (a, m, e) = map-mem (λ (y : ℕ × ℕ). y .0) f (applications u) q in
+    let (c, i) = application-slot u h f (a .1) (subst (λ (g : ℕ). (g, a .1) ∈ applications u) (sym e) m) in
+    (a .1, c, i)
+
+pub slot-applied : (u : Terms) (f n : ℕ) (d : Terms) → (function f n, d) ∈ slots u → f ∈ applied u
+slot-applied u f n d q = mem-map (λ (y : ℕ × ℕ). y .0) (slot-application u f n d q)
+
+pub pattern-slot : (u : Terms) → IsPattern u → (f n : ℕ) (c : Terms) → (function f n, c) ∈ slots u → (trees c ≡ n) × IsArgument c
+pattern-slot nil h f n d q = absurd (List·Memᴰ·not-nil q)
+pattern-slot (cons (own o) c s) h f n d q = ⊎-elim (pattern-slot c (h .1) f n d) (pattern-slot s (h .2) f n d) (List·Memᴰ·append-cases (slots c) q)
+pattern-slot (cons (slot (metavariable m)) c s) h f n d q =
+    ⊎-elim (λ (e : function f n ≡ metavariable m). never (cc))
+    (pattern-slot s (h .2) f n d) (slot-cases q)
+pattern-slot (cons (slot (function g a)) c s) h f n d q =
+    ⊎-elim (λ (e : _≡_ {A = Slot × Terms} (function f n, d) (function g a, c)).
+    let v : d ≡ c = ap (λ (y : Slot × Terms). y .1) e in
+    let w : function f n ≡ function g a = ap (λ (y : Slot × Terms). y .0) e in
+    let k : n ≡ a = cc in
+    (ap trees v ∙ h .0 .0 ∙ sym k, subst IsArgument (sym v) (h .0 .1)))
+    (pattern-slot s (h .2) f n d) (List·Memᴰ·cases-cons q)
+pattern-slot (cons (slot (hole i)) c s) h f n d q = absurd (h .0)
 
 -- Holes of a body
 pub hole-slot : (n : ℕ) (u : Terms) → IsBody n u → (i : ℕ) → hasHole i u ≡ true → (c : Terms) × ((hole i, c) ∈ slots u)
@@ -253,7 +269,7 @@ hole-slot n (cons (own o) c s) h i e = go (hole-slot n c (h .1) i) (hole-slot n 
     go x y (inl z) = let r = x z in (r .0, Memᴰ·append-left (slots s) (r .1))
     go x y (inr z) = let r = y z in (r .0, Memᴰ·append-right (slots c) (r .1))
 hole-slot n (cons (slot (metavariable m)) c s) h i e = absurd (h .0)
-hole-slot n (cons (slot (function f)) c s) h i e = absurd (h .0)
+hole-slot n (cons (slot (function f a)) c s) h i e = absurd (h .0)
 hole-slot n (cons (slot (hole j)) c s) h i e = go (hole-slot n s (h .2) i) (or-cases (eqb i j) (hasHole i c || hasHole i s) e)
   where
     none-below : hasHole i c ≡ false
@@ -271,8 +287,8 @@ slot-hole (cons (own o) c s) i d q =
 slot-hole (cons (slot (metavariable m)) c s) i d q =
     ⊎-elim (λ (e : hole i ≡ metavariable m). never (cc))
     (λ x. or-right (hasHole i c) (hasHole i s) (slot-hole s i d x)) (slot-cases q)
-slot-hole (cons (slot (function f)) c s) i d q =
-    ⊎-elim (λ (e : hole i ≡ function f). never (cc))
+slot-hole (cons (slot (function f n)) c s) i d q =
+    ⊎-elim (λ (e : hole i ≡ function f n). never (cc))
     (λ x. or-right (hasHole i c) (hasHole i s) (slot-hole s i d x)) (slot-cases q)
 slot-hole (cons (slot (hole j)) c s) i d q =
     ⊎-elim (λ (e : hole i ≡ hole j). let w : i ≡ j = cc in or-left (eqb i j) (hasHole i c || hasHole i s) (ap (λ (x : ℕ). eqb i x) (sym w) ∙ eqb-self i))

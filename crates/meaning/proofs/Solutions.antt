@@ -7,12 +7,11 @@ use mathlib.Core.List.{[], _∷_, map, List·Memᴰ·head, List·Memᴰ·tail}
 use mathlib.Core.Option.{none, some}
 use lib.Dec.{T}
 use lib.ListN.{drop}
-use Rattle.meaning.specs.Limits.{placeCount}
 use Rattle.meaning.specs.Basics.{keep, every, _∈_, Distinct}
 use Rattle.meaning.specs.Term.{nil, cons, one, size, own, slot, Terms, Term, IsExpression}
 use Rattle.meaning.specs.Shift.{ClosedTerm}
 use Rattle.meaning.specs.Equal.{sameTerms}
-use Rattle.meaning.specs.Problem.{Where, standings, Problem, patterns, expressions, plain, applied, isFunction, isPlain, functions, metavariables}
+use Rattle.meaning.specs.Problem.{Where, standings, Problem, patterns, expressions, plain, applied, placesOf, isFunction, isPlain, functions, metavariables}
 use Rattle.meaning.specs.Filling.{leftOpen, value, body, Filling, filled, IsBody}
 use Rattle.meaning.specs.Solution.{Idle, Solution}
 use Rattle.meaning.specs.Face.{faces}
@@ -39,13 +38,13 @@ punch-body n (none ∷ ms) (cons (own o) c s) h f =
 punch-body n (some j ∷ ms) (cons (own o) c s) h f =
     ((f j (List·Memᴰ·head refl), refl), tt, punch-body n (drop (size c) ms) s (h .2) (λ i q. f i (List·Memᴰ·tail (drop-mem (some i) (size c) ms q))))
 
-row-body-shape : (p : Problem) (r : Row) → Proper p → IsRow p r → (f : ℕ) → f ∈ applied (patterns p) → IsBody placeCount (one (rowBody p r f))
+row-body-shape : (p : Problem) (r : Row) → Proper p → IsRow p r → (f : ℕ) → f ∈ applied (patterns p) → IsBody (placesOf p f) (one (rowBody p r f))
 row-body-shape p r c i f a =
     let xs = is-some (faces p) (i .agree) in
     let q : f ∈ functions p = applied-functions p c f a in
-    let ch : Choice placeCount (faceOf p f) (choiceIn (functions p) r f) = choice-in p (functions p) r (i .choice) f q in
-    subst (IsBody placeCount) (sym (body-row p r f))
-    (punch-body placeCount (choiceIn (functions p) r f) (one (faceOf p f)) (face-expression p c (xs .0) (xs .1) f a)
+    let ch : Choice (placesOf p f) (faceOf p f) (choiceIn (functions p) r f) = choice-in p (functions p) r (i .choice) f q in
+    subst (IsBody (placesOf p f)) (sym (body-row p r f))
+    (punch-body (placesOf p f) (choiceIn (functions p) r f) (one (faceOf p f)) (face-expression p c (xs .0) (xs .1) f a)
     (λ k z. let y = mem-at (choiceIn (functions p) r f) (some k) z in ch .places (y .0) k (y .1)))
 
 -- What the test of a row says

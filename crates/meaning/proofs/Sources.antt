@@ -7,7 +7,6 @@ use mathlib.Core.Bool.{Bool, true, false, false≢true}
 use mathlib.Core.List.{List, [], _∷_, List·Memᴰ·head, List·Memᴰ·tail, List·Memᴰ·cases-cons, List·Memᴰ·not-nil, List·Memᴰ·eq-of-singleton}
 use mathlib.Core.Option.{Option, none, some}
 use native.Mathlib.Omega.{arith}
-use Rattle.meaning.specs.Limits.{placeCount}
 use Rattle.meaning.specs.Basics.{choose, each, upTo, AllO, _∈_, andThen, orNone}
 use Rattle.meaning.specs.Term.{nil, cons, one, trees, Slot, metavariable, function, hole, Terms, Term, IsExpression}
 use Rattle.meaning.specs.Shift.{shiftTerm, lowerTerm}
@@ -49,7 +48,7 @@ walked h k n p e q = walked-from h k n p e (walk-in h k n p e q)
 pub source-at : (z : Slot) (n : ℕ) (t : Term) (s : Source) → s ∈ sourceAt z n t → (z ≡ metavariable (s .number)) × (s .term ≡ t)
 source-at (metavariable m) n t s q =
     let e = List·Memᴰ·eq-of-singleton q in (ap (λ (x : Source). metavariable (x .number)) (sym e), ap (λ (x : Source). x .term) e)
-source-at (function f) n t s q = absurd (List·Memᴰ·not-nil q)
+source-at (function f a) n t s q = absurd (List·Memᴰ·not-nil q)
 source-at (hole i) n t s q = absurd (List·Memᴰ·not-nil q)
 
 -- A metavariable with a source among some
@@ -65,7 +64,7 @@ face-source x m xs q e =
 -- The lowest hole of a place
 hole-is : (i : ℕ) (z : Slot) → isHole i z ≡ true → z ≡ hole i
 hole-is i (metavariable m) e = absurd (false≢true e)
-hole-is i (function f) e = absurd (false≢true e)
+hole-is i (function f n) e = absurd (false≢true e)
 hole-is i (hole j) e = ap hole (sym (eqb-eq i j e))
 
 pub lowest-is : (i : ℕ) (xs : List Face) (h : Face) → lowestHole i xs ≡ some h → (h ∈ xs) × (h .what ≡ hole i)
@@ -98,8 +97,8 @@ argument-of nil i h q = absurd (omega arith)
 argument-of (cons l c s) zero h q = (h .0, h .1, tt)
 argument-of (cons l c s) (suc i) h q = argument-of s i (h .2) (omega arith)
 
--- One application: its function has the body b, it has as many arguments as there are places, it is satisfied
-module _ (σ : Filling) (b : Term) (f : ℕ) (x : Face) (given : σ f ≡ body b) (isFunction : x .what ≡ function f) (shape : (trees (x .children) ≡ placeCount) × IsArgument (x .children))
+-- One application: its function has the body b, it has as many arguments as its label says, it is satisfied
+module _ (σ : Filling) (b : Term) (f n : ℕ) (x : Face) (given : σ f ≡ body b) (isFunction : x .what ≡ function f n) (shape : (trees (x .children) ≡ n) × IsArgument (x .children))
     (faced : IsExpression (one (x .term))) (sat : Satisfied (fillHandler σ) x) where
   abbrev pub arguments : ℕ → Term
   arguments = argument (fill (fillHandler σ) (x .under) (x .children))
@@ -113,12 +112,12 @@ module _ (σ : Filling) (b : Term) (f : ℕ) (x : Face) (given : σ f ≡ body b
   bodyWalk = walked (plugHandler arguments) 0 (x .node) (one b) (one (x .term)) (ap (λ (t : Term). one t) plugged)
 
   -- At a hole of place i, found in the walk of the body
-  module _ (i : ℕ) (small : i < placeCount) (h : Face) (isLowest : lowestHole i (orNone (walk 0 (x .node) (one b) (one (x .term)))) ≡ some h) where
+  module _ (i : ℕ) (small : i < n) (h : Face) (isLowest : lowestHole i (orNone (walk 0 (x .node) (one b) (one (x .term)))) ≡ some h) where
     inWalk : (h ∈ bodyWalk .found) × (h .what ≡ hole i)
     inWalk = lowest-is i (bodyWalk .found) h (subst (λ (o : Option (List Face)). lowestHole i (orNone o) ≡ some h) (bodyWalk .defined) isLowest)
 
     fewer : i < trees (x .children)
-    fewer = subst (λ (n : ℕ). i < n) (sym (shape .0)) small
+    fewer = subst (λ (m : ℕ). i < m) (sym (shape .0)) small
 
     lowered : lowerTerm (h .under) (h .term) ≡ some (arguments i)
     lowered =
@@ -158,6 +157,13 @@ module _ (σ : Filling) (b : Term) (f : ℕ) (x : Face) (given : σ f ≡ body b
         (subst (λ (z : Slot). _∈_ {A = Slot × Terms} (z, h .children) (slots (one b))) (inWalk .1)
         (face-slot 0 (x .node) (one b) (one (x .term)) (bodyWalk .found) h (bodyWalk .defined) (inWalk .0)))
 
+    -- Each metavariable of the argument has a source there
+    pub hole-has : (m : ℕ) → m ∈ plain (one (argument (x .children) i)) → HasSource m (fromHole (x .under) (argument (x .children) i) (some h))
+    hole-has m q =
+        let s = plain-slot (one (argument (x .children) i)) (argument-of (x .children) i (shape .1) fewer) m q in
+        let y = slot-face (x .under) (h .node) (one (argument (x .children) i)) (one (arguments i)) (argumentWalk .found) (metavariable m) (s .0) (argumentWalk .defined) (s .1) in
+        subst (HasSource m) (sym hole-sources) (face-source (y .0) m (argumentWalk .found) (y .1) (y .2))
+
   abbrev lowest : ℕ → Option Face
   lowest i = lowestHole i (orNone (walk 0 (x .node) (one b) (one (x .term))))
 
@@ -167,19 +173,19 @@ module _ (σ : Filling) (b : Term) (f : ℕ) (x : Face) (given : σ f ≡ body b
   -- A source of this application: its value, and the standing that needs one
   pub record Told (s : Source) : Type 0 where
     pub place : ℕ
-    pub small : place < placeCount
+    pub small : place < n
     pub holds : σ (s .number) ≡ value (s .term)
     pub expression : IsExpression (one (s .term))
     pub hasHoles : hasHole place (one b) ≡ true
     pub stands : s .number ∈ plain (one (argument (x .children) place))
 
-  pub application-told : (s : Source) → s ∈ each fromPlace (upTo placeCount) → Told s
+  pub application-told : (s : Source) → s ∈ each fromPlace (upTo n) → Told s
   application-told s q =
-      let r = each-mem fromPlace s (upTo placeCount) q in
-      let small : r .0 < placeCount = upTo-mem placeCount (r .0) (r .1) in
+      let r = each-mem fromPlace s (upTo n) q in
+      let small : r .0 < n = upTo-mem n (r .0) (r .1) in
       go (r .0) small (lowest (r .0)) refl (r .2)
     where
-      go : (i : ℕ) → i < placeCount → (o : Option Face) → lowest i ≡ o → s ∈ fromHole (x .under) (argument (x .children) i) o → Told s
+      go : (i : ℕ) → i < n → (o : Option Face) → lowest i ≡ o → s ∈ fromHole (x .under) (argument (x .children) i) o → Told s
       go i small none e w = absurd (List·Memᴰ·not-nil w)
       go i small (some h) e w =
           let walk-there = argumentWalk i small h e in
@@ -197,19 +203,13 @@ module _ (σ : Filling) (b : Term) (f : ℕ) (x : Face) (given : σ f ≡ body b
           }
 
   -- A metavariable of an argument whose hole the body has is given a source
-  pub application-has : IsBody placeCount (one b) → (i m : ℕ) → i < placeCount → hasHole i (one b) ≡ true → m ∈ plain (one (argument (x .children) i))
-      → HasSource m (each fromPlace (upTo placeCount))
-  application-has isBody i m small there q =
-      let hs = hole-slot placeCount (one b) isBody i there in
+  pub application-has : (places : ℕ) → IsBody places (one b) → (i m : ℕ) → i < n → hasHole i (one b) ≡ true → m ∈ plain (one (argument (x .children) i))
+      → HasSource m (each fromPlace (upTo n))
+  application-has places isBody i m small there q =
+      let hs = hole-slot places (one b) isBody i there in
       let hf = slot-face 0 (x .node) (one b) (one (x .term)) (bodyWalk .found) (hole i) (hs .0) (bodyWalk .defined) (hs .1) in
       let lo = lowest-there i (bodyWalk .found) (hf .0) (hf .1) (hf .2) in
       let e : lowest i ≡ some (lo .0) = ap (λ (o : Option (List Face)). lowestHole i (orNone o)) (bodyWalk .defined) ∙ lo .1 in
-      let walk-there = argumentWalk i small (lo .0) e in
-      let fewer : i < trees (x .children) = subst (λ (n : ℕ). i < n) (sym (shape .0)) small in
-      let ps = plain-slot (one (argument (x .children) i)) (argument-of (x .children) i (shape .1) fewer) m q in
-      let pf = slot-face (x .under) (lo .0 .node) (one (argument (x .children) i)) (one (arguments i)) (walk-there .found) (metavariable m) (ps .0) (walk-there .defined) (ps .1) in
-      let src = face-source (pf .0) m (walk-there .found) (pf .1) (pf .2) in
-      let inHole : src .0 ∈ fromPlace i =
-      subst (λ (o : Option Face). src .0 ∈ fromHole (x .under) (argument (x .children) i) o) (sym e)
-      (subst (λ (l : List Source). src .0 ∈ l) (sym (hole-sources i small (lo .0) e)) (src .1)) in
-      (src .0, mem-each fromPlace i (src .0) (upTo placeCount) (mem-upTo placeCount i small) inHole, src .2)
+      let src : HasSource m (fromPlace i) =
+      subst (λ (o : Option Face). HasSource m (fromHole (x .under) (argument (x .children) i) o)) (sym e) (hole-has i small (lo .0) e m q) in
+      (src .0, mem-each fromPlace i (src .0) (upTo n) (mem-upTo n i small) (src .1), src .2)

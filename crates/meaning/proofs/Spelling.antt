@@ -63,7 +63,7 @@ freeOwn (binder n x) = 0
 
 abbrev pub freeSlot : (ℕ → ℕ) → Slot → ℕ
 freeSlot E (metavariable m) = E m
-freeSlot E (function f) = E f
+freeSlot E (function f n) = E f
 freeSlot E (hole i) = 0
 
 abbrev pub freeLabel : (ℕ → ℕ) → Nameless → ℕ

@@ -10,7 +10,6 @@ use native.Mathlib.Omega.{arith}
 use lib.ListN.{length, length-append}
 use lib.Dec.{eqb}
 use borrow.Author.Tests.{eqb-true, ne-eqb}
-use Rattle.meaning.specs.Limits.{placeCount}
 use Rattle.meaning.specs.Basics.{All}
 use Rattle.meaning.specs.Term.{Forest, nil, cons, graft, one, trees, symbol, variable, application, binder, own, slot, metavariable, function, hole, Named, NamedTerm}
 use Rattle.meaning.specs.Field.{Bytes, field, tagOf, fixedPart, encode}
@@ -143,7 +142,7 @@ module _ (levels : ℕ) (ctx : Context) (read : Reader) (law : Complete levels c
 
 -- Its inner fields are its children
 node-complete : (levels : ℕ) (ctx : Context) (read : Context → Reader) → ((below : Context) → Complete levels below (read below)) → (l : Named) (c : Forest Named) → NodeFits ctx l c → Readable levels (contextBelow l ctx) c → readContent read ctx (contentOn l c) ≡ got (l, c)
-unfolding contextBelow placeCount
+unfolding contextBelow
 node-complete levels ctx read law (own (symbol n)) c fits r = rw (fits .1)
 node-complete levels ctx read law (own (variable x)) c fits r = rw (fits .1)
 node-complete levels ctx read law (own (application n)) c fits r =
@@ -151,8 +150,8 @@ node-complete levels ctx read law (own (application n)) c fits r =
 node-complete levels ctx read law (own (binder b x)) c fits r =
     rw (← fits .2, exactly-complete levels ctx (read ctx) (law ctx) c r)
 node-complete levels ctx read law (slot (metavariable m)) c fits r = rw (fits .2)
-node-complete levels ctx read law (slot (function f)) c fits r =
-    rw (← fits .2, exactly-complete levels inArgument (read inArgument) (law inArgument) c r)
+node-complete levels ctx read law (slot (function f n)) c fits r =
+    rw (← fits .3, exactly-complete levels inArgument (read inArgument) (law inArgument) c r)
 node-complete levels ctx read law (slot (hole i)) c fits r = rw (fits .2)
 
 term-complete : (levels : ℕ) (ctx : Context) → Complete levels ctx (readTerm levels ctx)

@@ -9,12 +9,12 @@ use mathlib.Core.List.{List, [], _∷_, map, List·Memᴰ·head, List·Memᴰ·t
 use mathlib.Core.Option.{Option, none, some}
 use lib.ListN.{drop}
 use lib.Dec.{eqb, T}
-use Rattle.meaning.specs.Limits.{metavariableCount, maxDepth, placeCount}
+use Rattle.meaning.specs.Limits.{metavariableCount, maxDepth}
 use Rattle.meaning.specs.Basics.{choose, isIn, upTo, All, _∈_, Distinct, orNone}
 use Rattle.meaning.specs.Term.{Forest, nil, cons, one, size, trees, nodeAt, symbol, variable, application, binder, own, slot, metavariable, function, hole, Named, NamedTerm, Term, IsExpression}
 use Rattle.meaning.specs.Scope.{enter, nameless, namelessTerm}
 use Rattle.meaning.specs.Shift.{ClosedTerm}
-use Rattle.meaning.specs.Problem.{Constraint, Problem, namedExpressions, patterns, expressions, plain, applied, isFunction, isPlain, functions, metavariables}
+use Rattle.meaning.specs.Problem.{Constraint, Problem, namedExpressions, patterns, expressions, plain, applied, placesOf, isFunction, isPlain, functions, metavariables}
 use Rattle.meaning.specs.Filling.{Entry, absent, value, body, fillHandler, IsBody}
 use Rattle.meaning.specs.Face.{Face, faces, isApplication, firstFace}
 use Rattle.meaning.specs.Choice.{Mark, Marks, mark, rest, punch, punchNode}
@@ -26,7 +26,7 @@ use Rattle.meaning.specs.Text.{Item, termOr, termAt, faceNode, writtenBo
 use Rattle.meaning.proofs.Lists.{never, true-T, keep-distinct, eqb-eq, eqb-self, eqb-other, by-test, choose-true, choose-false, keep-mem, isIn-mem, mem-isIn, not-isIn, upTo-mem, all-mem, mem-all, distinct-countFrom}
 use Rattle.meaning.proofs.ShiftLaws.{test-closed}
 use Rattle.meaning.proofs.ChoiceLaws.{rows-are}
-use Rattle.meaning.proofs.Proper.{Proper, accepted-proper, applied-occurs, plain-occurs}
+use Rattle.meaning.proofs.Proper.{Proper, accepted-proper, hole-tagged, applied-occurs, plain-occurs}
 use Rattle.meaning.proofs.Sources.{Walked, walked}
 use Rattle.meaning.proofs.Candidate.{lookup-is, candidate-function, candidate-plain, candidate-other}
 use Rattle.meaning.proofs.RowBodies.{punch-one, face-expression}
@@ -187,7 +187,7 @@ same-context : (l : Named) (c : Forest Named) → NodeFits inExpression l c → 
 unfolding contextBelow
 same-context (own o) c h = refl
 same-context (slot (metavariable m)) c h = absurd (h .0)
-same-context (slot (function f)) c h = absurd (h .0)
+same-context (slot (function f n)) c h = absurd (h .0)
 same-context (slot (hole i)) c h = absurd (h .0)
 
 readable-node : {n : ℕ} {u : Forest Named} {t : NamedTerm} (levels : ℕ) → Stands n u t → Readable levels inExpression u → Readable levels inExpression (one t)
@@ -217,26 +217,27 @@ punched-fits (own (variable x)) ms c h = ((h .0, punch-nil ms c (h .1)), refl)
 punched-fits (own (application n)) ms c h = ((h .0 ∙ sym (punch-trees ms c), h .1), refl)
 punched-fits (own (binder b x)) ms c h = ((h .0, h .1, punch-trees ms c ∙ h .2), refl)
 punched-fits (slot (metavariable m)) ms c h = absurd (h .0)
-punched-fits (slot (function f)) ms c h = absurd (h .0)
+punched-fits (slot (function f n)) ms c h = absurd (h .0)
 punched-fits (slot (hole i)) ms c h = absurd (h .0)
 
-punched-readable : (levels : ℕ) (sc : List ℕ) (ms : Marks) (u : Forest Named) → Readable levels inExpression u → IsBody placeCount (nameless sc (punch ms u))
+punched-readable : (n : ℕ) → ((i : ℕ) → i < n → NodeFits inBody (slot (hole i)) nil)
+    → (levels : ℕ) (sc : List ℕ) (ms : Marks) (u : Forest Named) → Readable levels inExpression u → IsBody n (nameless sc (punch ms u))
     → Readable levels inBody (punch ms u)
-punched-readable levels sc ms nil h b = tt
-punched-readable zero sc ms (cons l c s) h b = absurd h
-punched-readable (suc levels) sc ms (cons l c s) h b =
+punched-readable n tagged levels sc ms nil h b = tt
+punched-readable n tagged zero sc ms (cons l c s) h b = absurd h
+punched-readable n tagged (suc levels) sc ms (cons l c s) h b =
     go (mark ms) b
-    (punched-readable levels (enter l sc) (rest ms) c (subst (λ (x : Context). Readable levels x c) (same-context l c (h .0)) (h .1)))
-    (punched-readable (suc levels) sc (drop (size c) (rest ms)) s (h .2))
+    (punched-readable n tagged levels (enter l sc) (rest ms) c (subst (λ (x : Context). Readable levels x c) (same-context l c (h .0)) (h .1)))
+    (punched-readable n tagged (suc levels) sc (drop (size c) (rest ms)) s (h .2))
   where
-    go : (m : Mark) → IsBody placeCount (nameless sc (punchNode m l (punch (rest ms) c) (punch (drop (size c) (rest ms)) s)))
-        → (IsBody placeCount (nameless (enter l sc) (punch (rest ms) c)) → Readable levels inBody (punch (rest ms) c))
-        → (IsBody placeCount (nameless sc (punch (drop (size c) (rest ms)) s)) → Readable (suc levels) inBody (punch (drop (size c) (rest ms)) s))
+    go : (m : Mark) → IsBody n (nameless sc (punchNode m l (punch (rest ms) c) (punch (drop (size c) (rest ms)) s)))
+        → (IsBody n (nameless (enter l sc) (punch (rest ms) c)) → Readable levels inBody (punch (rest ms) c))
+        → (IsBody n (nameless sc (punch (drop (size c) (rest ms)) s)) → Readable (suc levels) inBody (punch (drop (size c) (rest ms)) s))
         → Readable (suc levels) inBody (punchNode m l (punch (rest ms) c) (punch (drop (size c) (rest ms)) s))
     go none d x y =
         let r = punched-fits l (rest ms) c (h .0) in
         (r .0, subst (λ (ctx : Context). Readable levels ctx (punch (rest ms) c)) (sym (r .1)) (x (d .1)), y (d .2))
-    go (some i) d x y = ((tt, d .0 .0, refl), tt, y (d .2))
+    go (some i) d x y = (tagged i (d .0 .0), tt, y (d .2))
 
 -- THE TEXT NAMES THE SOLUTION
 pub text-says : (p : Problem) (r : Row) → Accepted p → solves p r ≡ true → Says (textOf p r) (candidate p r)
@@ -272,11 +273,11 @@ text-readable p r ok inRows e = go (metavariables p) (λ m h. (small-number p m 
         let c : Copied p (w .0) (faceOf p m) = w .2 in
         let ms : Marks = choiceIn (functions p) r m in
         let v : NamedTerm = termAt p (w .0) in
-        let shape : IsBody placeCount (one (rowBody p r m)) = passes-fitting p r e (accepted-proper p ok) (rows-are p r .0 inRows) .shapes m a in
+        let shape : IsBody (placesOf p m) (one (rowBody p r m)) = passes-fitting p r e (accepted-proper p ok) (rows-are p r .0 inRows) .shapes m a in
         let same : one (rowBody p r m) ≡ nameless (c .scope) (punch ms (one v)) =
         ap (λ (t : Term). one t) (body-copied p r ok e m (w .0) c) ∙ ap (nameless (c .scope)) (punch-one ms v) in
         let x : Readable maxDepth inBody (punch ms (one v)) =
-        punched-readable maxDepth (c .scope) ms (one v) (at (w .0) (faceOf p m) c) (subst (IsBody placeCount) same shape) in
+        punched-readable (placesOf p m) (λ i. hole-tagged p (ok .within) m i a) maxDepth (c .scope) ms (one v) (at (w .0) (faceOf p m) c) (subst (IsBody (placesOf p m)) same shape) in
         subst ReadableEntry (sym (w .1)) (subst (Readable maxDepth inBody) (sym (punch-one ms v)) x)
 
     valueEntry : (m : ℕ) → m ∈ metavariables p → (m ∈ applied (patterns p) → ⊥) → m ∈ plain (patterns p) → (o : Option Source) → lookup m (sources p r) ≡ o

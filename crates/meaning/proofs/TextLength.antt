@@ -13,7 +13,6 @@ use mathlib.Core.List.{List, [], _∷_, map, List·Memᴰ·head, List·Memᴰ·t
 use mathlib.Core.Option.{Option, none, some}
 use native.Mathlib.Omega.{arith}
 use lib.ListN.{length, drop}
-use Rattle.meaning.specs.Limits.{placeCount}
 use Rattle.meaning.specs.Basics.{each, upTo, _∈_, andThen, orNone}
 use Rattle.meaning.specs.Term.{nil, cons, one, size, trees, own, slot, Slot, metavariable, function, hole, Variable, NamedTerm, Terms, Term, IsExpression}
 use Rattle.meaning.specs.Shift.{lowerTerm}
@@ -52,7 +51,7 @@ source-most (x ∷ xs) =
   where
     go : (z : Slot) → total given-weight (sourceAt z (x .node) (x .term)) ≤ faced x
     go (metavariable m) = omega arith
-    go (function f) = omega arith
+    go (function f n) = omega arith
     go (hole i) = omega arith
 
 abbrev holeWeight : Option Face → ℕ
@@ -92,7 +91,7 @@ punched-slots (some i ∷ ms) (cons (own o) d s) h z c q =
 -- One application with the body b: ys are the holes of b where it meets the term t
 abbrev holeNumber : Slot → ℕ
 holeNumber (metavariable m) = 0
-holeNumber (function f) = 0
+holeNumber (function f n) = 0
 holeNumber (hole i) = i
 
 -- What a hole has beyond its own 3 bytes
@@ -120,19 +119,19 @@ lowest-most n ys =
         let l = lowest-is i ys h e in
         inr (subst (λ (k : ℕ). (k, faced h - 3) ∈ map beyond ys) (ap holeNumber (l .1)) (mem-map beyond (l .0)))
 
-application-most : (n k : ℕ) (b t : Term) (a : ℕ → Term) (ys : List Face) → walk 0 n (one b) (one t) ≡ some ys → ((y : Face) → y ∈ ys → slotted y ≡ 3)
-    → weight (one b) + total given-weight (each (λ i. fromHole k (a i) (lowestHole i ys)) (upTo placeCount)) ≤ weight (one t) + 3 * placeCount
-application-most n k b t a ys q three =
+application-most : (places n k : ℕ) (b t : Term) (a : ℕ → Term) (ys : List Face) → walk 0 n (one b) (one t) ≡ some ys → ((y : Face) → y ∈ ys → slotted y ≡ 3)
+    → weight (one b) + total given-weight (each (λ i. fromHole k (a i) (lowestHole i ys)) (upTo places)) ≤ weight (one t) + 3 * places
+application-most places n k b t a ys q three =
     let w = walk-weight 0 n (one b) (one t) ys q in
     let s : total slotted ys ≤ total (λ y. 3) ys = total-most slotted (λ y. 3) ys (λ y m. let e : slotted y ≡ 3 = three y m in omega arith) in
     let f : total (λ y. 3 + (faced y - 3)) ys ≤ total faced ys =
     total-most (λ y. 3 + (faced y - 3)) faced ys (λ y m. let e : 3 * 1 ≤ faced y = trees-weight (one (y .term)) in omega arith) in
     let g : total (λ y. 3 + (faced y - 3)) ys ≡ total (λ y. 3) ys + total (λ y. faced y - 3) ys = total-add (λ y. 3) (λ y. faced y - 3) ys in
-    let l = lowest-most placeCount ys in
-    let i : total given-weight (each (λ j. fromHole k (a j) (lowestHole j ys)) (upTo placeCount)) ≡ total (λ j. total given-weight (fromHole k (a j) (lowestHole j ys))) (upTo placeCount) =
-    total-each given-weight (λ j. fromHole k (a j) (lowestHole j ys)) (upTo placeCount) in
-    let j : total (λ j. total given-weight (fromHole k (a j) (lowestHole j ys))) (upTo placeCount) ≤ total (λ j. holeWeight (lowestHole j ys)) (upTo placeCount) =
-    total-most (λ j. total given-weight (fromHole k (a j) (lowestHole j ys))) (λ j. holeWeight (lowestHole j ys)) (upTo placeCount)
+    let l = lowest-most places ys in
+    let i : total given-weight (each (λ j. fromHole k (a j) (lowestHole j ys)) (upTo places)) ≡ total (λ j. total given-weight (fromHole k (a j) (lowestHole j ys))) (upTo places) =
+    total-each given-weight (λ j. fromHole k (a j) (lowestHole j ys)) (upTo places) in
+    let j : total (λ j. total given-weight (fromHole k (a j) (lowestHole j ys))) (upTo places) ≤ total (λ j. holeWeight (lowestHole j ys)) (upTo places) =
+    total-most (λ j. total given-weight (fromHole k (a j) (lowestHole j ys))) (λ j. holeWeight (lowestHole j ys)) (upTo places)
     (λ j m. hole-most k (a j) (lowestHole j ys)) in
     omega arith
 
@@ -142,7 +141,7 @@ sourceCharge s = (s .number, given-weight s)
 
 abbrev chargesAt : (ℕ → Term) → Face → Slot → List Charge
 chargesAt b x (metavariable m) = (m, faced x) ∷ []
-chargesAt b x (function f) = (f, weight (one (b f))) ∷ map sourceCharge (fromApplication b x (function f))
+chargesAt b x (function f n) = (f, weight (one (b f))) ∷ map sourceCharge (fromApplication b x (function f n))
 chargesAt b x (hole i) = []
 
 abbrev charges : (ℕ → Term) → Face → List Charge
@@ -150,12 +149,12 @@ charges b x = chargesAt b x (x .what)
 
 face-charged : (b : ℕ → Term) (x : Face) (z : Slot) (s : Source) → s ∈ sourceAt z (x .node) (x .term) → sourceCharge s ∈ chargesAt b x z
 face-charged b x (metavariable m) s q = List·Memᴰ·head (ap sourceCharge (List·Memᴰ·eq-of-singleton q))
-face-charged b x (function f) s q = absurd (List·Memᴰ·not-nil q)
+face-charged b x (function f n) s q = absurd (List·Memᴰ·not-nil q)
 face-charged b x (hole i) s q = absurd (List·Memᴰ·not-nil q)
 
 application-charged : (b : ℕ → Term) (x : Face) (z : Slot) (s : Source) → s ∈ fromApplication b x z → sourceCharge s ∈ chargesAt b x z
 application-charged b x (metavariable m) s q = absurd (List·Memᴰ·not-nil q)
-application-charged b x (function f) s q = List·Memᴰ·tail (mem-map sourceCharge q)
+application-charged b x (function f n) s q = List·Memᴰ·tail (mem-map sourceCharge q)
 application-charged b x (hole i) s q = absurd (List·Memᴰ·not-nil q)
 
 source-charged : (b : ℕ → Term) (xs : List Face) (s : Source) → s ∈ sourcesIn b xs → sourceCharge s ∈ each (charges b) xs
@@ -189,26 +188,26 @@ module _ (p : Problem) (r : Row) (ok : Accepted p) (e : solves p r ≡ true) whe
       punched-slots ms (one (faceOf p f)) (face-expression p proper (theFaces .found) (theFaces .defined) f a) z c
       (subst (λ (u : Terms). _∈_ {A = Slot × Terms} (z, c) (slots u)) (body-row p r f) q)
 
-  function-most : (x : Face) → x ∈ theFaces .found → (f : ℕ) → x .what ≡ function f → total amount (chargesAt bodies x (function f)) ≤ faced x + slotted x
-  function-most x m f h =
-      let there : _∈_ {A = Slot × Terms} (function f, x .children) (slots (patterns p)) =
+  function-most : (x : Face) → x ∈ theFaces .found → (f n : ℕ) → x .what ≡ function f n → total amount (chargesAt bodies x (function f n)) ≤ faced x + slotted x
+  function-most x m f n h =
+      let there : _∈_ {A = Slot × Terms} (function f n, x .children) (slots (patterns p)) =
       subst (λ (z : Slot). _∈_ {A = Slot × Terms} (z, x .children) (slots (patterns p))) h (face-slot 0 0 (patterns p) (expressions p) (theFaces .found) x (theFaces .defined) m) in
-      let shape = pattern-slot (patterns p) (proper .pattern) f (x .children) there in
-      let a : f ∈ applied (patterns p) = slot-applied (patterns p) f (x .children) there in
+      let shape = pattern-slot (patterns p) (proper .pattern) f n (x .children) there in
+      let a : f ∈ applied (patterns p) = slot-applied (patterns p) f n (x .children) there in
       let ex : IsExpression (one (x .term)) = faces-expression 0 0 (patterns p) (expressions p) (theFaces .found) (proper .expression) (theFaces .defined) x m in
       let sat : Satisfied (fillHandler (candidate p r)) x = theFaces .satisfied x m in
-      let args : ℕ → Term = arguments (candidate p r) (bodies f) f x (candidate-function p r f a) h shape ex sat in
+      let args : ℕ → Term = arguments (candidate p r) (bodies f) f n x (candidate-function p r f a) h shape ex sat in
       let w : Walked (plugHandler args) 0 (x .node) (one (bodies f)) (one (x .term)) =
       walked (plugHandler args) 0 (x .node) (one (bodies f)) (one (x .term))
-      (ap (λ (t : Term). one t) (plugged (candidate p r) (bodies f) f x (candidate-function p r f a) h shape ex sat)) in
-      let q = application-most (x .node) (x .under) (bodies f) (x .term) (argument (x .children)) (w .found) (w .defined)
-      (λ y n. body-slots f a (y .what) (y .children) (face-slot 0 (x .node) (one (bodies f)) (one (x .term)) (w .found) y (w .defined) n)) in
-      let same : fromApplication bodies x (function f) ≡ each (λ i. fromHole (x .under) (argument (x .children) i) (lowestHole i (w .found))) (upTo placeCount) =
-      ap (λ (o : Option (List Face)). each (λ i. fromHole (x .under) (argument (x .children) i) (lowestHole i (orNone o))) (upTo placeCount)) (w .defined) in
-      let s : total amount (map sourceCharge (fromApplication bodies x (function f))) ≡ total given-weight (each (λ i. fromHole (x .under) (argument (x .children) i) (lowestHole i (w .found))) (upTo placeCount)) =
-      total-map amount sourceCharge (fromApplication bodies x (function f)) ∙ ap (total given-weight) same in
+      (ap (λ (t : Term). one t) (plugged (candidate p r) (bodies f) f n x (candidate-function p r f a) h shape ex sat)) in
+      let q = application-most n (x .node) (x .under) (bodies f) (x .term) (argument (x .children)) (w .found) (w .defined)
+      (λ y i. body-slots f a (y .what) (y .children) (face-slot 0 (x .node) (one (bodies f)) (one (x .term)) (w .found) y (w .defined) i)) in
+      let same : fromApplication bodies x (function f n) ≡ each (λ i. fromHole (x .under) (argument (x .children) i) (lowestHole i (w .found))) (upTo n) =
+      ap (λ (o : Option (List Face)). each (λ i. fromHole (x .under) (argument (x .children) i) (lowestHole i (orNone o))) (upTo n)) (w .defined) in
+      let s : total amount (map sourceCharge (fromApplication bodies x (function f n))) ≡ total given-weight (each (λ i. fromHole (x .under) (argument (x .children) i) (lowestHole i (w .found))) (upTo n)) =
+      total-map amount sourceCharge (fromApplication bodies x (function f n)) ∙ ap (total given-weight) same in
       let c : 3 * trees (x .children) ≤ weight (x .children) = trees-weight (x .children) in
-      let t : trees (x .children) ≡ placeCount = shape .0 in
+      let t : trees (x .children) ≡ n = shape .0 in
       let l : labelWeight {X = Variable} {B = Unit {0}} (slot (x .what)) ≡ 4 = ap (λ (z : Slot). labelWeight {X = Variable} {B = Unit {0}} (slot z)) h in
       omega arith
 
@@ -217,7 +216,7 @@ module _ (p : Problem) (r : Row) (ok : Accepted p) (e : solves p r ≡ true) whe
     where
       go : (z : Slot) → x .what ≡ z → total amount (chargesAt bodies x z) ≤ faced x + slotted x
       go (metavariable k) h = omega arith
-      go (function f) h = function-most x m f h
+      go (function f n) h = function-most x m f n h
       go (hole i) h = omega arith
 
   charges-most : total amount (each (charges bodies) (theFaces .found)) ≤ weight (patterns p) + weight (expressions p)

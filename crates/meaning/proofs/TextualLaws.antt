@@ -15,7 +15,7 @@ use Rattle.meaning.specs.Shift.{raise, shiftLabel, shift, shiftTerm}
 use Rattle.meaning.specs.Rename.{binds}
 use Rattle.meaning.specs.Filling.{Handler, fill, plugHandler, argument, Entry, absent, leftOpen, value, body, valueOr, bodyOr, plug, fillHandler, filled}
 use Rattle.meaning.specs.Text.{meant}
-use Rattle.meaning.specs.Textual.{isVariable, isFree, Avoids, Putting, put, inHoles, argumentAt, NamedFilling, valueFor, bodyFor, asWritten, textual, Condition, AtSlots, holeUncaught, slotUncaught, UncaughtIn, Uncaught, putTerm, meantBy}
+use Rattle.meaning.specs.Textual.{isVariable, isFree, Avoids, Putting, put, inHoles, NamedFilling, asWritten, textual, Condition, AtSlots, holeUncaught, slotUncaught, UncaughtIn, Uncaught, putTerm, meantBy}
 use Rattle.meaning.proofs.Lists.{or-left, or-right, eqb-self, eqb-other, by-test, choose-true, choose-false}
 use Rattle.meaning.proofs.ShiftLaws.{raise-low, raise-high, shift-closed-term, pair-eq}
 use Rattle.meaning.proofs.Renaming.{cons-eq, one-injective}
@@ -134,23 +134,23 @@ put-plug sc arguments b a = one-injective _ _ (put-fill (inHoles arguments) plug
         → Agrees (inHoles arguments) plugged (holeUncaught arguments) sc ys c
         → AgreesAt (inHoles arguments) plugged (holeUncaught arguments) sc ys z c
     at ys (metavariable m) c u ih = pair-eq refl ih
-    at ys (function f) c u ih = pair-eq refl ih
+    at ys (function f n) c u ih = pair-eq refl ih
     at ys (hole i) c u ih = avoiding-shift ys sc (arguments i) u
 
 -- Values, bodies and arguments with names mean those without
-value-meant : (m : ℕ) (x : Entry NamedTerm) → namelessTerm [] (valueFor (metavariable m) x) ≡ valueOr m (meant x)
+value-meant : (m : ℕ) (x : Entry NamedTerm) → namelessTerm [] (valueOr m x) ≡ valueOr m (meant x)
 value-meant m absent = refl
 value-meant m leftOpen = refl
 value-meant m (value t) = refl
 value-meant m (body t) = refl
 
-body-meant : (f : ℕ) (x : Entry NamedTerm) → namelessTerm [] (bodyFor (function f) x) ≡ bodyOr f (meant x)
+body-meant : (f : ℕ) (x : Entry NamedTerm) → namelessTerm [] (bodyOr f x) ≡ bodyOr f (meant x)
 body-meant f absent = refl
 body-meant f leftOpen = refl
 body-meant f (value t) = refl
 body-meant f (body t) = refl
 
-argument-meant : (sc : List ℕ) (c : Forest Named) (i : ℕ) → namelessTerm sc (argumentAt c i) ≡ argument (nameless sc c) i
+argument-meant : (sc : List ℕ) (c : Forest Named) (i : ℕ) → namelessTerm sc (argument c i) ≡ argument (nameless sc c) i
 argument-meant sc nil i = refl
 argument-meant sc (cons l c s) zero = refl
 argument-meant sc (cons l c s) (suc i) = argument-meant sc s i
@@ -162,14 +162,14 @@ module _ (τ : NamedFilling) (ys : List ℕ) where
 
   written-filled : (z : Slot) (c : Forest Named) → slotUncaught τ ys z c → Agrees (asWritten τ) asFilled (slotUncaught τ) [] ys c
       → AgreesAt (asWritten τ) asFilled (slotUncaught τ) [] ys z c
-  written-filled (metavariable m) c u ih = avoiding-closed ys (valueFor (metavariable m) (τ m)) u ∙ value-meant m (τ m)
-  written-filled (function f) c u ih =
-      let b : NamedTerm = bodyFor (function f) (τ f) in
-      put-plug (ys ++ []) (argumentAt (textual τ c)) b (u .1)
+  written-filled (metavariable m) c u ih = avoiding-closed ys (valueOr m (τ m)) u ∙ value-meant m (τ m)
+  written-filled (function f n) c u ih =
+      let b : NamedTerm = bodyOr f (τ f) in
+      put-plug (ys ++ []) (argument (textual τ c)) b (u .1)
       ∙ ap₂ plug (fun-ext filledArgument) (avoiding-closed ys b (u .0) ∙ body-meant f (τ f))
     where
       filledArgument : (i : ℕ)
-          → namelessTerm (ys ++ []) (argumentAt (textual τ c) i) ≡ argument (fill asFilled (length ys) (nameless (ys ++ []) c)) i
+          → namelessTerm (ys ++ []) (argument (textual τ c) i) ≡ argument (fill asFilled (length ys) (nameless (ys ++ []) c)) i
       filledArgument i = argument-meant (ys ++ []) (textual τ c) i ∙ ap (λ (v : Terms). argument v i) ih
   written-filled (hole i) c u ih = pair-eq refl ih
 

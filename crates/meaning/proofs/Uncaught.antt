@@ -15,9 +15,9 @@ use Rattle.meaning.specs.Term.{Forest, nil, cons, graft, one, symbol, va
 use Rattle.meaning.specs.Scope.{nameless, namelessTerm}
 use Rattle.meaning.specs.Shift.{closedLabel, Closed}
 use Rattle.meaning.specs.Rename.{binds, Alpha}
-use Rattle.meaning.specs.Filling.{Entry, absent, leftOpen, value, body, Filling}
+use Rattle.meaning.specs.Filling.{argument, Entry, absent, leftOpen, value, body, Filling, valueOr, bodyOr}
 use Rattle.meaning.specs.Text.{meant}
-use Rattle.meaning.specs.Textual.{isVariable, isFree, putTerm, put, inHoles, argumentAt, NamedFilling, valueFor, bodyFor, textual, Condition, AtSlots, holeUncaught, UncaughtIn, slotUncaught, Uncaught, ClosedEntry, meantBy, Spelling, AlphaEntry, bothAbsent, bothOpen, values, bodies, Respelling}
+use Rattle.meaning.specs.Textual.{isVariable, isFree, putTerm, put, inHoles, NamedFilling, textual, Condition, AtSlots, holeUncaught, UncaughtIn, slotUncaught, Uncaught, ClosedEntry, meantBy, Spelling, AlphaEntry, bothAbsent, bothOpen, values, bodies, Respelling}
 use Rattle.meaning.proofs.Lists.{or-false, eqb-self, eqb-other, by-test, choose-true, choose-false}
 use Rattle.meaning.proofs.Renaming.{nameless-alpha}
 use Rattle.meaning.proofs.ViewLaws.{nameless-closed}
@@ -41,7 +41,7 @@ node-free y l c s e =
 free-tree : (y : ℕ) (t : NamedTerm) (s : Forest Named) → isFree y (one t) ≡ false → isFree y s ≡ false → isFree y (graft t s) ≡ false
 free-tree y t s e r = let p = node-free y (t .0) (t .1) nil e in ap₂ _||_ (p .0) (ap₂ _||_ (p .1) r)
 
-free-argument : (y : ℕ) (c : Forest Named) (i : ℕ) → isFree y c ≡ false → isFree y (one (argumentAt c i)) ≡ false
+free-argument : (y : ℕ) (c : Forest Named) (i : ℕ) → isFree y c ≡ false → isFree y (one (argument c i)) ≡ false
 free-argument y nil i e = refl
 free-argument y (cons l c s) zero e = let p = node-free y l c s e in ap₂ _||_ (p .0) (ap₂ _||_ (p .1) refl)
 free-argument y (cons l c s) (suc i) e = free-argument y s i (node-free y l c s e .2)
@@ -57,8 +57,8 @@ free-in-holes y arguments h (cons (own o) c s) e =
 free-in-holes y arguments h (cons (slot (metavariable m)) c s) e =
     let p = node-free y (slot (metavariable m)) c s e in
     ap₂ _||_ (free-in-holes y arguments h c (p .1)) (free-in-holes y arguments h s (p .2))
-free-in-holes y arguments h (cons (slot (function f)) c s) e =
-    let p = node-free y (slot (function f)) c s e in
+free-in-holes y arguments h (cons (slot (function f n)) c s) e =
+    let p = node-free y (slot (function f n)) c s e in
     ap₂ _||_ (free-in-holes y arguments h c (p .1)) (free-in-holes y arguments h s (p .2))
 free-in-holes y arguments h (cons (slot (hole i)) c s) e =
     free-tree y (arguments i) (put (inHoles arguments) s) (h i) (free-in-holes y arguments h s (node-free y (slot (hole i)) c s e .2))
@@ -95,19 +95,19 @@ spell-misses y b k (cons l c s) h g m =
     (λ e. spell-misses y b (inner l k) c (h .1) (omega arith) (misses-under y b k l e m))
     (spell-misses y b k s (h .2) (omega arith) m)
 
-value-misses : (y b : ℕ) (z : Slot) (x : Entry Term) → ClosedEntry x → entryCeiling x ≤ y
-    → isFree y (one (valueFor z (spellEntry b x))) ≡ false
-value-misses y b z absent h g = refl
-value-misses y b z leftOpen h g = refl
-value-misses y b z (value t) h g = spell-misses y b 0 (one t) h g (λ d k e. omega arith)
-value-misses y b z (body t) h g = refl
+value-misses : (y b m : ℕ) (x : Entry Term) → ClosedEntry x → entryCeiling x ≤ y
+    → isFree y (one (valueOr m (spellEntry b x))) ≡ false
+value-misses y b m absent h g = refl
+value-misses y b m leftOpen h g = refl
+value-misses y b m (value t) h g = spell-misses y b 0 (one t) h g (λ d k e. omega arith)
+value-misses y b m (body t) h g = refl
 
-body-misses : (y b : ℕ) (z : Slot) (x : Entry Term) → ClosedEntry x → entryCeiling x ≤ y
-    → isFree y (one (bodyFor z (spellEntry b x))) ≡ false
-body-misses y b z absent h g = refl
-body-misses y b z leftOpen h g = refl
-body-misses y b z (value t) h g = refl
-body-misses y b z (body t) h g = spell-misses y b 0 (one t) h g (λ d k e. omega arith)
+body-misses : (y b f : ℕ) (x : Entry Term) → ClosedEntry x → entryCeiling x ≤ y
+    → isFree y (one (bodyOr f (spellEntry b x))) ≡ false
+body-misses y b f absent h g = refl
+body-misses y b f leftOpen h g = refl
+body-misses y b f (value t) h g = refl
+body-misses y b f (body t) h g = spell-misses y b 0 (one t) h g (λ d k e. omega arith)
 
 -- A condition holds at the slots of a spelled forest if it holds at each, below names of binders
 all-levels : (P : ℕ → Type 0) (b : ℕ) → ((d : ℕ) → P (name b d)) → (k : ℕ) → All P (levels b k)
@@ -131,7 +131,7 @@ spelled-slots E C b at k (cons (slot z) c s) h g = (
 
 -- Arguments in which no name of a body's binders is free are not caught by the body
 body-uncaught : (b f : ℕ) (x : Entry Term) (arguments : ℕ → NamedTerm) → ClosedEntry x → entryCeiling x ≤ b
-    → ((d i : ℕ) → isFree (name b d) (one (arguments i)) ≡ false) → UncaughtIn (bodyFor (function f) (spellEntry b x)) arguments
+    → ((d i : ℕ) → isFree (name b d) (one (arguments i)) ≡ false) → UncaughtIn (bodyOr f (spellEntry b x)) arguments
 body-uncaught b f absent arguments h g r = (tt, tt, tt)
 body-uncaught b f leftOpen arguments h g r = (tt, tt, tt)
 body-uncaught b f (value t) arguments h g r = (tt, tt, tt)
@@ -140,7 +140,7 @@ body-uncaught b f (body t) arguments h g r = spelled-slots (λ m. 0) (holeUncaug
     at : (k : ℕ) (z : Slot) (c : Terms) → Closed k c → freeSlot (λ m. 0) z ≤ b → ownCeiling c ≤ b
         → holeUncaught arguments (levels b k) z (spell b k c)
     at k (metavariable m) c h g e = tt
-    at k (function f) c h g e = tt
+    at k (function f n) c h g e = tt
     at k (hole i) c h g e = all-levels (λ y. isFree y (one (arguments i)) ≡ false) b (λ d. r d i) k
 
 -- A closed filling, and N above all free names of patterns and of what is put into them
@@ -165,23 +165,23 @@ module _ (σ : Filling) (closed : (m : ℕ) → ClosedEntry (σ m)) (N : ℕ) wh
       (λ e. filled-misses y p q (inner (own o) k) c (h .1) (omega arith))
       (filled-misses y p q k s (h .2) (omega arith))
   filled-misses y p q k (cons (slot (metavariable m)) c s) h g =
-      free-tree y (valueFor (metavariable m) (spelled m)) (textual spelled (spell N k s))
-      (value-misses y (base m) (metavariable m) (σ m) (closed m) (omega arith))
+      free-tree y (valueOr m (spelled m)) (textual spelled (spell N k s))
+      (value-misses y (base m) m (σ m) (closed m) (omega arith))
       (filled-misses y p q k s (h .2) (omega arith))
-  filled-misses y p q k (cons (slot (function f)) c s) h g =
+  filled-misses y p q k (cons (slot (function f n)) c s) h g =
       let v : Forest Named = textual spelled (spell N k c) in
-      let b : NamedTerm = bodyFor (function f) (spelled f) in
+      let b : NamedTerm = bodyOr f (spelled f) in
       let inside : isFree y v ≡ false = filled-misses y p q k c (h .1) (omega arith) in
-      let outside : isFree y (one b) ≡ false = body-misses y (base f) (function f) (σ f) (closed f) (omega arith) in
-      free-tree y (putTerm (inHoles (argumentAt v)) b) (textual spelled (spell N k s))
-      (free-in-holes y (argumentAt v) (λ i. free-argument y v i inside) (one b) outside)
+      let outside : isFree y (one b) ≡ false = body-misses y (base f) f (σ f) (closed f) (omega arith) in
+      free-tree y (putTerm (inHoles (argument v)) b) (textual spelled (spell N k s))
+      (free-in-holes y (argument v) (λ i. free-argument y v i inside) (one b) outside)
       (filled-misses y p q k s (h .2) (omega arith))
   filled-misses y p q k (cons (slot (hole i)) c s) h g =
       ap₂ _||_ (filled-misses y p q k c (h .1) (omega arith)) (filled-misses y p q k s (h .2) (omega arith))
 
   -- Those of a body's binders are none of these, so they are free in no argument
   arguments-miss : (f k : ℕ) (c : Terms) → Closed k c → ceiling given c ≤ N
-      → (d i : ℕ) → isFree (name (base f) d) (one (argumentAt (textual spelled (spell N k c)) i)) ≡ false
+      → (d i : ℕ) → isFree (name (base f) d) (one (argument (textual spelled (spell N k c)) i)) ≡ false
   arguments-miss f k c h g d i =
       let y : ℕ = name (base f) d in
       free-argument y (textual spelled (spell N k c)) i (filled-misses y (omega arith) (λ j q. omega arith) k c h g)
@@ -190,12 +190,12 @@ module _ (σ : Filling) (closed : (m : ℕ) → ClosedEntry (σ m)) (N : ℕ) wh
   slot-uncaught : (k : ℕ) (z : Slot) (c : Terms) → Closed k c → freeSlot given z ≤ N → ceiling given c ≤ N
       → slotUncaught spelled (levels N k) z (spell N k c)
   slot-uncaught k (metavariable m) c h g e =
-      all-levels (λ y. isFree y (one (valueFor (metavariable m) (spelled m))) ≡ false) N
-      (λ d. value-misses (name N d) (base m) (metavariable m) (σ m) (closed m) (omega arith)) k
-  slot-uncaught k (function f) c h g e = (
-    all-levels (λ y. isFree y (one (bodyFor (function f) (spelled f))) ≡ false) N
-        (λ d. body-misses (name N d) (base f) (function f) (σ f) (closed f) (omega arith)) k,
-    body-uncaught (base f) f (σ f) (argumentAt (textual spelled (spell N k c))) (closed f) (omega arith) (arguments-miss f k c h e),
+      all-levels (λ y. isFree y (one (valueOr m (spelled m))) ≡ false) N
+      (λ d. value-misses (name N d) (base m) m (σ m) (closed m) (omega arith)) k
+  slot-uncaught k (function f n) c h g e = (
+    all-levels (λ y. isFree y (one (bodyOr f (spelled f))) ≡ false) N
+        (λ d. body-misses (name N d) (base f) f (σ f) (closed f) (omega arith)) k,
+    body-uncaught (base f) f (σ f) (argument (textual spelled (spell N k c))) (closed f) (omega arith) (arguments-miss f k c h e),
   )
   slot-uncaught k (hole i) c h g e = tt
 

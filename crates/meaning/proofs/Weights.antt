@@ -29,7 +29,7 @@ labelWeight (own (variable x)) = 5
 labelWeight (own (application n)) = 3
 labelWeight (own (binder b x)) = 7
 labelWeight (slot (metavariable m)) = 4
-labelWeight (slot (function f)) = 4
+labelWeight (slot (function f n)) = 4
 labelWeight (slot (hole i)) = 3
 
 abbrev pub weight : {X B : Type 0} → Forest (Label X B) → ℕ
@@ -43,7 +43,7 @@ fixed-weight (own (variable x)) = omega arith
 fixed-weight (own (application n)) = omega arith
 fixed-weight (own (binder b x)) = omega arith
 fixed-weight (slot (metavariable m)) = omega arith
-fixed-weight (slot (function f)) = omega arith
+fixed-weight (slot (function f n)) = omega arith
 fixed-weight (slot (hole i)) = omega arith
 
 pub encode-weight : (u : Forest Named) → length (encode u) ≡ weight u
@@ -69,7 +69,7 @@ trees-weight (cons l c s) = let a = label-most l in let r = trees-weight s in om
     label-most (own (application n)) = omega arith
     label-most (own (binder b x)) = omega arith
     label-most (slot (metavariable m)) = omega arith
-    label-most (slot (function f)) = omega arith
+    label-most (slot (function f n)) = omega arith
     label-most (slot (hole i)) = omega arith
 
 -- Labels of the same kind weigh the same
@@ -91,7 +91,7 @@ nameless-weight sc u = relabel-weight enter namelessLabel same sc u
     same sc (own (application n)) = refl
     same sc (own (binder b x)) = refl
     same sc (slot (metavariable m)) = refl
-    same sc (slot (function f)) = refl
+    same sc (slot (function f n)) = refl
     same sc (slot (hole i)) = refl
 
 pub lower-weight : (n : ℕ) (t u : Term) → lowerTerm n t ≡ some u → weight (one u) ≡ weight (one t)
@@ -103,7 +103,7 @@ lower-weight n t u e = sym (relabel-weight inner (shiftLabel n) same 0 (one u)) 
     same k (own (application m)) = refl
     same k (own (binder b x)) = refl
     same k (slot (metavariable m)) = refl
-    same k (slot (function f)) = refl
+    same k (slot (function f m)) = refl
     same k (slot (hole i)) = refl
 
 -- Walks

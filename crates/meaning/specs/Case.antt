@@ -32,7 +32,7 @@ abbrev meta : ℕ → NamedTerm
 meta m = (slot (metavariable m), nil)
 
 abbrev call : ℕ → NamedTerm → NamedTerm
-call f t = (slot (function f), one t)
+call f t = (slot (function f 1), one t)
 
 abbrev pub box : NamedTerm
 box = (slot (hole 0), nil)

@@ -3,11 +3,11 @@
 --   Owner     a binder outside a node, seen from the face: a node of the face, or a binder above the face (0 the innermost)
 --   punch     "the face with these nodes as holes"
 use mathlib.Core.Path.{_≡_}
-use Prim.Native.Nat.{ℕ, zero, suc, _+_, _<_}
+use Prim.Native.Nat.{ℕ, zero, suc, _+_, _-_, _<_, _≤_}
 use mathlib.Core.Bool.{Bool, true, false, _&&_, _||_, not}
 use mathlib.Core.List.{List, [], _∷_, _++_, map}
 use mathlib.Core.Option.{Option, none, some}
-use lib.ListN.{length, drop, getElem?}
+use lib.ListN.{length, take, drop, getElem?}
 use lib.Dec.{eqb}
 use Rattle.meaning.specs.Basics.{choose, keep, each, upTo, every, _∈_}
 use Rattle.meaning.specs.Term.{Forest, nil, cons, one, size, symbol, variable, application, binder, Label, own, slot, hole, Nameless, Terms, Term, metavariable, function}
@@ -46,7 +46,7 @@ abbrev pub holesIn : {X B : Type 0} → Forest (Label X B) → ℕ
 holesIn nil = 0
 holesIn (cons (own o) c s) = holesIn c + holesIn s
 holesIn (cons (slot (metavariable m)) c s) = holesIn c + holesIn s
-holesIn (cons (slot (function f)) c s) = holesIn c + holesIn s
+holesIn (cons (slot (function f n)) c s) = holesIn c + holesIn s
 holesIn (cons (slot (hole i)) c s) = suc (holesIn c + holesIn s)
 
 -- Which binder an index that reaches out of a node belongs to; above the node stand these binders of the face, the innermost first
@@ -100,13 +100,20 @@ abbrev pub usesFace : View Owner → Bool
 usesFace nil = false
 usesFace (cons l c s) = usesLabel l || (usesFace c || usesFace s)
 
+-- No marked node lies below another: the nodes of the subexpression u at node j are numbered from j on, and a later marked node k comes
+-- after them
+abbrev pub Apart : Marks → List (View Owner) → Type 0
+Apart ms us =
+    (j k h i : ℕ) (u : View Owner) → getElem? ms j ≡ some (some h) → getElem? ms k ≡ some (some i) → getElem? us j ≡ some u → j < k → j + size u ≤ k
+
 -- "A choice for a function is a set of nodes of its face whose subexpressions are all equal. A node that uses a variable bound inside
--- the face above it is in no choice." With n places: equal among the nodes of one place
+-- the face above it is in no choice." With n places: equal among the nodes of one place, and none below another of whatever place
 pub record Choice (n : ℕ) (face : Term) (ms : Marks) : Type 0 where
   pub long : length ms ≡ size (one face)
   pub places : (k i : ℕ) → getElem? ms k ≡ some (some i) → i < n
   pub equal : (j k i : ℕ) → getElem? ms j ≡ some (some i) → getElem? ms k ≡ some (some i) → getElem? (views face) j ≡ getElem? (views face) k
   pub unbound : (k i : ℕ) (u : View Owner) → getElem? ms k ≡ some (some i) → getElem? (views face) k ≡ some u → usesFace u ≡ false
+  pub apart : Apart ms (views face)
 
 -- The same as a test. The views of the nodes that become hole i
 abbrev pub isPlace : ℕ → Mark → Bool
@@ -128,8 +135,15 @@ allSame (u ∷ us) = every (sameOwned u) us
 abbrev pub fitsPlace : List (View Owner) → Marks → ℕ → Bool
 fitsPlace us ms i = allSame (chosen i ms us) && every (λ u. not (usesFace u)) (chosen i ms us)
 
+-- Of the nodes that follow a marked one, those below it are not marked
+abbrev pub areApart : Marks → List (View Owner) → Bool
+areApart [] us = true
+areApart (m ∷ ms) [] = true
+areApart (none ∷ ms) (u ∷ us) = areApart ms us
+areApart (some i ∷ ms) (u ∷ us) = eqb (setSize (take (size u - 1) ms)) 0 && areApart ms us
+
 abbrev pub isChoice : ℕ → Term → Marks → Bool
-isChoice n face ms = every (fitsPlace (views face) ms) (upTo n)
+isChoice n face ms = every (fitsPlace (views face) ms) (upTo n) && areApart ms (views face)
 
 -- "Of two choices the earlier is the one that has the lowest node in which they differ": a hole comes before none, and the hole of an
 -- earlier place before that of a later one

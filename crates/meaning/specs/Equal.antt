@@ -5,7 +5,7 @@
 -- Two terms are equal when their views are. For two whole terms nothing is bound outside, and the view says what `nameless` says.
 use mathlib.Core.Path.{_≡_}
 use Prim.Native.Nat.{ℕ, _-_}
-use mathlib.Core.Bool.{Bool, false}
+use mathlib.Core.Bool.{Bool, false, _&&_}
 use mathlib.Core.List.{[]}
 use lib.Dec.{ltb, eqb}
 use Rattle.meaning.specs.Basics.{choose}
@@ -40,13 +40,13 @@ EqualWhole t u = namelessTerm [] t ≡ namelessTerm [] u
 -- Tests: each label has a kind and two numbers at most
 abbrev pub sameSlot : Slot → Slot → Bool
 sameSlot (metavariable m) (metavariable n) = eqb m n
-sameSlot (metavariable m) (function n) = false
+sameSlot (metavariable m) (function n b) = false
 sameSlot (metavariable m) (hole n) = false
-sameSlot (function m) (metavariable n) = false
-sameSlot (function m) (function n) = eqb m n
-sameSlot (function m) (hole n) = false
+sameSlot (function m a) (metavariable n) = false
+sameSlot (function m a) (function n b) = eqb m n && eqb a b
+sameSlot (function m a) (hole n) = false
 sameSlot (hole m) (metavariable n) = false
-sameSlot (hole m) (function n) = false
+sameSlot (hole m) (function n b) = false
 sameSlot (hole m) (hole n) = eqb m n
 
 abbrev pub sameOwn : {X B : Type 0} → (X → X → Bool) → Own X B → Own X B → Bool

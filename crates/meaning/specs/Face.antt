@@ -46,7 +46,7 @@ faces p = walk 0 0 (patterns p) (expressions p)
 
 abbrev pub isApplication : ℕ → Slot → Bool
 isApplication f (metavariable m) = false
-isApplication f (function g) = eqb f g
+isApplication f (function g n) = eqb f g
 isApplication f (hole i) = false
 
 -- "A function's face is that of its first application"

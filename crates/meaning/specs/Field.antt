@@ -23,7 +23,7 @@ tagOf (own (variable x)) = 2
 tagOf (own (application n)) = 3
 tagOf (own (binder b x)) = 4
 tagOf (slot (metavariable m)) = 5
-tagOf (slot (function f)) = 6
+tagOf (slot (function f n)) = 6
 tagOf (slot (hole i)) = 10
 
 -- The content before the inner fields
@@ -33,7 +33,7 @@ fixedPart (own (variable x)) = word x
 fixedPart (own (application n)) = []
 fixedPart (own (binder b x)) = word b ++ word x
 fixedPart (slot (metavariable m)) = m ∷ []
-fixedPart (slot (function f)) = f ∷ []
+fixedPart (slot (function f n)) = f ∷ []
 fixedPart (slot (hole i)) = []
 
 unfoldable pub encode : Forest Named → Bytes

@@ -6,7 +6,7 @@
 -- values and bodies are closed, so that they need no shift.
 use mathlib.Core.Path.{_≡_}
 use Prim.Native.Nat.{ℕ, zero, suc, _<_}
-use Rattle.meaning.specs.Term.{nil, cons, graft, own, slot, Slot, metavariable, function, hole, Nameless, Terms, Term, inner}
+use Rattle.meaning.specs.Term.{Forest, nil, cons, Tree, graft, Label, own, slot, Slot, metavariable, function, hole, Nameless, Terms, Term, inner}
 use Rattle.meaning.specs.Shift.{shiftTerm}
 
 abbrev pub Handler : Type 0
@@ -26,14 +26,14 @@ fillTerm h k t = fillLabel h k (t .0) (fill h (inner (t .0) k) (t .1))
 -- Hole i under k binders of the body gets argument i, moved under these
 abbrev pub plugHandler : (ℕ → Term) → Handler
 plugHandler arguments k (metavariable m) c = (slot (metavariable m), c)
-plugHandler arguments k (function f) c = (slot (function f), c)
+plugHandler arguments k (function f n) c = (slot (function f n), c)
 plugHandler arguments k (hole i) c = shiftTerm k (arguments i)
 
 abbrev pub plug : (ℕ → Term) → Term → Term
 plug arguments b = fillTerm (plugHandler arguments) 0 b
 
 -- Argument i of a function application, by its children
-abbrev pub argument : Terms → ℕ → Term
+abbrev pub argument : {X B : Type 0} → Forest (Label X B) → ℕ → Tree (Label X B)
 argument nil i = (slot (hole i), nil)
 argument (cons l c s) zero = (l, c)
 argument (cons l c s) (suc i) = argument s i
@@ -49,21 +49,21 @@ abbrev pub Filling : Type 0
 Filling = ℕ → Entry Term
 
 -- A metavariable without a value, and a function without a body, stay as they are
-abbrev pub valueOr : ℕ → Entry Term → Term
+abbrev pub valueOr : {X B : Type 0} → ℕ → Entry (Tree (Label X B)) → Tree (Label X B)
 valueOr m absent = (slot (metavariable m), nil)
 valueOr m leftOpen = (slot (metavariable m), nil)
 valueOr m (value t) = t
 valueOr m (body t) = (slot (metavariable m), nil)
 
-abbrev pub bodyOr : ℕ → Entry Term → Term
-bodyOr f absent = (slot (function f), nil)
-bodyOr f leftOpen = (slot (function f), nil)
-bodyOr f (value t) = (slot (function f), nil)
+abbrev pub bodyOr : {X B : Type 0} → ℕ → Entry (Tree (Label X B)) → Tree (Label X B)
+bodyOr f absent = (slot (function f 0), nil)
+bodyOr f leftOpen = (slot (function f 0), nil)
+bodyOr f (value t) = (slot (function f 0), nil)
 bodyOr f (body b) = b
 
 abbrev pub fillHandler : Filling → Handler
 fillHandler σ k (metavariable m) c = valueOr m (σ m)
-fillHandler σ k (function f) c = plug (argument c) (bodyOr f (σ f))
+fillHandler σ k (function f n) c = plug (argument c) (bodyOr f (σ f))
 fillHandler σ k (hole i) c = (slot (hole i), c)
 
 -- Patterns filled
@@ -74,7 +74,7 @@ filled σ u = fill (fillHandler σ) 0 u
 abbrev pub bodyLabel : ℕ → Nameless → Terms → Type 0
 bodyLabel n (own o) c = Unit {0}
 bodyLabel n (slot (metavariable m)) c = ⊥
-bodyLabel n (slot (function f)) c = ⊥
+bodyLabel n (slot (function f a)) c = ⊥
 bodyLabel n (slot (hole i)) c = (i < n) × (c ≡ nil)
 
 abbrev pub IsBody : ℕ → Terms → Type 0

@@ -28,7 +28,3 @@ maxFaceNodes = 64
 -- "text over 8,192 bytes" (refusal 19)
 unfoldable pub maxText : ℕ
 maxText = 8192
-
--- The places of a function: m(t) has one argument, and a body has holes for that one.
-unfoldable pub placeCount : ℕ
-placeCount = 1

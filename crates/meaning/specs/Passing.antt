@@ -9,12 +9,11 @@ use Prim.Native.Nat.{ℕ}
 use mathlib.Core.Bool.{Bool, true, false, _&&_, _||_, not}
 use mathlib.Core.List.{List, [], _∷_, map}
 use lib.Dec.{eqb, ltb}
-use Rattle.meaning.specs.Limits.{placeCount}
 use Rattle.meaning.specs.Basics.{choose, every, isIn}
 use Rattle.meaning.specs.Term.{nil, cons, one, Label, own, slot, metavariable, function, hole, Nameless, Terms, Term}
 use Rattle.meaning.specs.Shift.{isClosed}
 use Rattle.meaning.specs.Equal.{sameTerms}
-use Rattle.meaning.specs.Problem.{Problem, patterns, expressions, plain, applied, isFunction, isPlain, Standing, standings}
+use Rattle.meaning.specs.Problem.{Problem, patterns, expressions, plain, applied, placesOf, isFunction, isPlain, Standing, standings}
 use Rattle.meaning.specs.Filling.{Entry, absent, leftOpen, value, body, Filling, filled}
 use Rattle.meaning.specs.Solution.{needs}
 use Rattle.meaning.specs.Text.{Item, said}
@@ -27,7 +26,7 @@ isOnce (m ∷ ms) = not (isIn m ms) && isOnce ms
 abbrev pub isBodyLabel : ℕ → Nameless → Terms → Bool
 isBodyLabel n (own o) c = true
 isBodyLabel n (slot (metavariable m)) c = false
-isBodyLabel n (slot (function f)) c = false
+isBodyLabel n (slot (function f k)) c = false
 isBodyLabel n (slot (hole i)) nil = ltb i n
 isBodyLabel n (slot (hole i)) (cons l c s) = false
 
@@ -74,7 +73,7 @@ abbrev pub known : Problem → List Item → Bool
 known p is = every (λ (i : Item). isAbsent (i .1) || (isFunction p (i .0) || isPlain p (i .0))) is
 
 abbrev pub kinds : Problem → Filling → Bool
-kinds p σ = every (λ f. isBodyEntry placeCount (σ f)) (applied (patterns p)) && every (λ m. isValueEntry (σ m)) (plain (patterns p))
+kinds p σ = every (λ f. isBodyEntry (placesOf p f) (σ f)) (applied (patterns p)) && every (λ m. isValueEntry (σ m)) (plain (patterns p))
 
 -- "an open metavariable stands only in arguments of functions whose body has no hole"
 abbrev pub openUnneeded : Problem → Filling → Bool

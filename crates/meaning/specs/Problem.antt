@@ -1,12 +1,14 @@
 -- A problem: its constraints, and what occurs in them.
 --   patterns, expressions   the constraints' terms, resolved; the two forests are walked and compared tree by tree
+--   places                  the arguments that a function has, and for which its body has holes
 --   Standing                where a metavariable that is no function stands: alone, or in an argument of a function
 --   functions               the metavariables that are applied, ascending: "by ascending metavariable number"
 use Prim.Native.Nat.{ℕ, suc}
 use mathlib.Core.Bool.{Bool, _||_}
 use mathlib.Core.List.{List, [], _∷_, _++_, map}
+use lib.Dec.{eqb}
 use Rattle.meaning.specs.Limits.{metavariableCount}
-use Rattle.meaning.specs.Basics.{keep, upTo, isIn}
+use Rattle.meaning.specs.Basics.{choose, keep, upTo, isIn}
 use Rattle.meaning.specs.Term.{Forest, nil, cons, Tree, graft, one, own, slot, metavariable, function, hole, Named, NamedTerm, Terms}
 use Rattle.meaning.specs.Scope.{nameless}
 
@@ -39,16 +41,25 @@ abbrev pub plain : Terms → List ℕ
 plain nil = []
 plain (cons (own o) c s) = plain c ++ plain s
 plain (cons (slot (metavariable m)) c s) = m ∷ plain s
-plain (cons (slot (function f)) c s) = plain c ++ plain s
+plain (cons (slot (function f n)) c s) = plain c ++ plain s
 plain (cons (slot (hole i)) c s) = plain s
+
+-- Function applications, in preorder: the function, and how many arguments it has there
+abbrev pub applications : Terms → List (ℕ × ℕ)
+applications nil = []
+applications (cons (own o) c s) = applications c ++ applications s
+applications (cons (slot (metavariable m)) c s) = applications s
+applications (cons (slot (function f n)) c s) = (f, n) ∷ (applications c ++ applications s)
+applications (cons (slot (hole i)) c s) = applications s
 
 -- Functions, in preorder
 abbrev pub applied : Terms → List ℕ
-applied nil = []
-applied (cons (own o) c s) = applied c ++ applied s
-applied (cons (slot (metavariable m)) c s) = applied s
-applied (cons (slot (function f)) c s) = f ∷ (applied c ++ applied s)
-applied (cons (slot (hole i)) c s) = applied s
+applied u = map (λ (a : ℕ × ℕ). a .0) (applications u)
+
+-- How many arguments the first application of f has
+abbrev pub placesAmong : ℕ → List (ℕ × ℕ) → ℕ
+placesAmong f [] = 0
+placesAmong f (a ∷ rest) = choose (eqb f (a .0)) (a .1) (placesAmong f rest)
 
 pub data Where : Type 0 where
   alone : Where
@@ -67,11 +78,15 @@ abbrev pub standings : Terms → List Standing
 standings nil = []
 standings (cons (own o) c s) = standings c ++ standings s
 standings (cons (slot (metavariable m)) c s) = (m, alone) ∷ standings s
-standings (cons (slot (function f)) c s) = inArguments f 0 c ++ standings s
+standings (cons (slot (function f n)) c s) = inArguments f 0 c ++ standings s
 standings (cons (slot (hole i)) c s) = standings s
 
 abbrev pub isFunction : Problem → ℕ → Bool
 isFunction p m = isIn m (applied (patterns p))
+
+-- A function's number of places
+unfoldable pub placesOf : Problem → ℕ → ℕ
+placesOf p f = placesAmong f (applications (patterns p))
 
 abbrev pub isPlain : Problem → ℕ → Bool
 isPlain p m = isIn m (plain (patterns p))

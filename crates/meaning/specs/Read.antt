@@ -35,8 +35,10 @@ pub data Kind : Type 0 where
   applicationKind : Kind
   binderKind : Kind
   metavariableKind : Kind
-  functionKind : Kind
-  holeKind : Kind
+  -- of so many places
+  functionKind : ℕ → Kind
+  -- of that place
+  holeKind : ℕ → Kind
 
 -- "8 tag 5 or 6 in an expression; 9 tag 6 in an argument"
 unfoldable pub metavariableIn : Context → Answer Kind
@@ -45,19 +47,19 @@ metavariableIn inArgument = got metavariableKind
 metavariableIn inExpression = refused 8
 metavariableIn inBody = refused 8
 
-unfoldable pub functionIn : Context → Answer Kind
-functionIn inPattern = got functionKind
-functionIn inArgument = refused 9
-functionIn inExpression = refused 8
-functionIn inBody = refused 8
+unfoldable pub functionIn : ℕ → Context → Answer Kind
+functionIn n inPattern = got (functionKind n)
+functionIn n inArgument = refused 9
+functionIn n inExpression = refused 8
+functionIn n inBody = refused 8
 
-unfoldable pub holeIn : Context → Answer Kind
-holeIn inPattern = refused 4
-holeIn inArgument = refused 4
-holeIn inExpression = refused 4
-holeIn inBody = got holeKind
+unfoldable pub holeIn : ℕ → Context → Answer Kind
+holeIn i inPattern = refused 4
+holeIn i inArgument = refused 4
+holeIn i inExpression = refused 4
+holeIn i inBody = got (holeKind i)
 
--- "4 tag has no place there, the cases of 8 and 9 aside"
+-- "4 tag has no place there, the cases of 8 and 9 aside". That a function has one place is said in the lines of 6 and 10 alone
 unfoldable pub kindOf : Context → ℕ → Answer Kind
 kindOf ctx tag =
     choose (eqb tag 1) (got symbolKind)
@@ -65,8 +67,8 @@ kindOf ctx tag =
     (choose (eqb tag 3) (got applicationKind)
     (choose (eqb tag 4) (got binderKind)
     (choose (eqb tag 5) (metavariableIn ctx)
-    (choose (eqb tag 6) (functionIn ctx)
-    (choose (eqb tag 10) (holeIn ctx)
+    (choose (eqb tag 6) (functionIn 1 ctx)
+    (choose (eqb tag 10) (holeIn 0 ctx)
     (refused 4)))))))
 
 -- The two bytes at a position, high byte first
@@ -117,9 +119,9 @@ contentOf applicationKind c = choose (eqb (length c) 0) (refused 6) (got (many c
 contentOf binderKind c = choose (ltb (length c) 4) (refused 6) (got (over (own (binder (wordAt c 0) (wordAt c 2))) 1 (drop 4 c)))
 contentOf metavariableKind c =
     choose (eqb (length c) 1) (numbered (getD c 0 0) (leaf (slot (metavariable (getD c 0 0))))) (refused 6)
-contentOf functionKind c =
-    choose (eqb (length c) 0) (refused 6) (numbered (getD c 0 0) (over (slot (function (getD c 0 0))) 1 (drop 1 c)))
-contentOf holeKind c = choose (eqb (length c) 0) (got (leaf (slot (hole 0)))) (refused 6)
+contentOf (functionKind n) c =
+    choose (eqb (length c) 0) (refused 6) (numbered (getD c 0 0) (over (slot (function (getD c 0 0) n)) n (drop 1 c)))
+contentOf (holeKind i) c = choose (eqb (length c) 0) (got (leaf (slot (hole i)))) (refused 6)
 
 -- A term, or a forest, with the bytes after it
 abbrev pub Reader : Type 0

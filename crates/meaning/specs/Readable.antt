@@ -6,7 +6,7 @@
 use mathlib.Core.Path.{_≡_}
 use Prim.Native.Nat.{ℕ, zero, suc, _<_, _≤_}
 use lib.ListN.{length}
-use Rattle.meaning.specs.Limits.{maxInput, maxConstraints, maxDepth, metavariableCount, placeCount}
+use Rattle.meaning.specs.Limits.{maxInput, maxConstraints, maxDepth, metavariableCount}
 use Rattle.meaning.specs.Basics.{All}
 use Rattle.meaning.specs.Term.{Forest, nil, cons, one, trees, symbol, variable, application, binder, own, slot, metavariable, function, hole, Named}
 use Rattle.meaning.specs.Problem.{Constraint, Problem}
@@ -43,8 +43,8 @@ NodeFits ctx (own (variable x)) c = TwoBytes x × (c ≡ nil)
 NodeFits ctx (own (application n)) c = (n ≡ trees c) × (0 < n)
 NodeFits ctx (own (binder b x)) c = TwoBytes b × TwoBytes x × (trees c ≡ 1)
 NodeFits ctx (slot (metavariable m)) c = MetavariableAt ctx × (m < metavariableCount) × (c ≡ nil)
-NodeFits ctx (slot (function f)) c = FunctionAt ctx × (f < metavariableCount) × (trees c ≡ placeCount)
-NodeFits ctx (slot (hole i)) c = HoleAt ctx × (i < placeCount) × (c ≡ nil)
+NodeFits ctx (slot (function f n)) c = FunctionAt ctx × (f < metavariableCount) × (n ≡ 1) × (trees c ≡ n)
+NodeFits ctx (slot (hole i)) c = HoleAt ctx × (i ≡ 0) × (c ≡ nil)
 
 abbrev pub Readable : ℕ → Context → Forest Named → Type 0
 Readable levels ctx nil = Unit {0}

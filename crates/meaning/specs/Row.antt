@@ -9,10 +9,9 @@ use mathlib.Core.Bool.{true}
 use mathlib.Core.List.{List, [], _∷_, map}
 use mathlib.Core.Option.{Option, none, some}
 use lib.Dec.{eqb}
-use Rattle.meaning.specs.Limits.{placeCount}
 use Rattle.meaning.specs.Basics.{choose, each, orNone, isSome, _∈_}
 use Rattle.meaning.specs.Term.{Forest, nil, Tree, Label, slot, function, hole, Term}
-use Rattle.meaning.specs.Problem.{Problem, functions}
+use Rattle.meaning.specs.Problem.{Problem, placesOf, functions}
 use Rattle.meaning.specs.Filling.{body, Filling}
 use Rattle.meaning.specs.Solution.{Solution}
 use Rattle.meaning.specs.Face.{Face, faces, firstFace}
@@ -28,7 +27,7 @@ product (xs ∷ xss) = each (λ x. map (λ ys. x ∷ ys) (product xss)) xs
 
 -- The subexpression that a function faces first, among the faces of the problem; a function that faces none stands for itself
 abbrev pub faceTerm : Option Face → ℕ → Term
-faceTerm none f = (slot (function f), nil)
+faceTerm none f = (slot (function f 0), nil)
 faceTerm (some x) f = x .term
 
 abbrev pub faceOf : Problem → ℕ → Term
@@ -36,7 +35,7 @@ faceOf p f = faceTerm (firstFace f (orNone (faces p))) f
 
 abbrev pub rowsOver : Problem → Option (List Face) → List Row
 rowsOver p none = []
-rowsOver p (some xs) = product (map (λ f. choices placeCount (faceOf p f)) (functions p))
+rowsOver p (some xs) = product (map (λ f. choices (placesOf p f) (faceOf p f)) (functions p))
 
 -- "If they disagree anywhere, the problem has no rows"; "With no function and agreeing shapes there is one row, the empty one"
 unfoldable pub rows : Problem → List Row
@@ -47,7 +46,7 @@ abbrev pub ChoiceEach : Problem → List ℕ → Row → Type 0
 ChoiceEach p [] [] = Unit {0}
 ChoiceEach p [] (c ∷ r) = ⊥
 ChoiceEach p (f ∷ fs) [] = ⊥
-ChoiceEach p (f ∷ fs) (c ∷ r) = Choice placeCount (faceOf p f) c × ChoiceEach p fs r
+ChoiceEach p (f ∷ fs) (c ∷ r) = Choice (placesOf p f) (faceOf p f) c × ChoiceEach p fs r
 
 -- "If they disagree anywhere, the problem has no rows"
 pub record IsRow (p : Problem) (r : Row) : Type 0 where

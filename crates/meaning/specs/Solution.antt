@@ -6,11 +6,10 @@ use Prim.Native.Nat.{ℕ}
 use mathlib.Core.Bool.{Bool, true, false, _||_}
 use mathlib.Core.Logic.{_⊎_}
 use lib.Dec.{eqb}
-use Rattle.meaning.specs.Limits.{placeCount}
 use Rattle.meaning.specs.Basics.{_∈_}
 use Rattle.meaning.specs.Term.{nil, cons, one, own, slot, metavariable, function, hole, Terms, Term, IsExpression}
 use Rattle.meaning.specs.Shift.{ClosedTerm}
-use Rattle.meaning.specs.Problem.{Problem, patterns, expressions, plain, applied, Where, alone, argumentOf, standings}
+use Rattle.meaning.specs.Problem.{Problem, patterns, expressions, plain, applied, placesOf, Where, alone, argumentOf, standings}
 use Rattle.meaning.specs.Filling.{absent, leftOpen, value, body, Filling, bodyOr, filled, IsBody}
 
 -- Whether a body has a hole for argument i
@@ -18,7 +17,7 @@ abbrev pub hasHole : ℕ → Terms → Bool
 hasHole i nil = false
 hasHole i (cons (own o) c s) = hasHole i c || hasHole i s
 hasHole i (cons (slot (metavariable m)) c s) = hasHole i c || hasHole i s
-hasHole i (cons (slot (function f)) c s) = hasHole i c || hasHole i s
+hasHole i (cons (slot (function f n)) c s) = hasHole i c || hasHole i s
 hasHole i (cons (slot (hole j)) c s) = eqb i j || (hasHole i c || hasHole i s)
 
 abbrev pub needs : Filling → Where → Bool
@@ -33,7 +32,7 @@ pub record Solution (p : Problem) (σ : Filling) : Type 0 where
   -- "each filled pattern equals its expression"
   pub meets : filled σ (patterns p) ≡ expressions p
   -- "each function metavariable a body"
-  pub bodies : (f : ℕ) → f ∈ applied (patterns p) → (b : Term) × (σ f ≡ body b) × IsBody placeCount (one b) × ClosedTerm b
+  pub bodies : (f : ℕ) → f ∈ applied (patterns p) → (b : Term) × (σ f ≡ body b) × IsBody (placesOf p f) (one b) × ClosedTerm b
   -- "each other metavariable an expression or nothing (open)"
   pub values : (m : ℕ) → m ∈ plain (patterns p) → (σ m ≡ leftOpen) ⊎ ((t : Term) × (σ m ≡ value t) × IsExpression (one t) × ClosedTerm t)
   -- "just the metavariables that occur"

@@ -64,7 +64,8 @@ pub data Own (X B : Type 0) : Type 0 where
 -- the hole for the argument of that number
 pub data Slot : Type 0 where
   metavariable : ℕ → Slot
-  function : ℕ → Slot
+  -- its number, and how many arguments stand below it
+  function : ℕ → ℕ → Slot
   hole : ℕ → Slot
 
 pub data Label (X B : Type 0) : Type 0 where

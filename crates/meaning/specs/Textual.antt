@@ -7,7 +7,7 @@
 --   Spelling, Respelling   bound names so chosen, for what is given without names and with names
 -- Where nothing is caught, `textual` gives what `filled` means; and there is always a spelling in which nothing is.
 use mathlib.Core.Path.{_≡_}
-use Prim.Native.Nat.{ℕ, zero, suc}
+use Prim.Native.Nat.{ℕ}
 use mathlib.Core.Bool.{Bool, false, _||_}
 use mathlib.Core.List.{List, []}
 use lib.Dec.{eqb}
@@ -16,7 +16,7 @@ use Rattle.meaning.specs.Term.{Forest, nil, cons, graft, one, symbol, va
 use Rattle.meaning.specs.Scope.{enter, nameless}
 use Rattle.meaning.specs.Shift.{ClosedTerm}
 use Rattle.meaning.specs.Rename.{binds, Alpha}
-use Rattle.meaning.specs.Filling.{Entry, absent, leftOpen, value, body, Filling}
+use Rattle.meaning.specs.Filling.{argument, Entry, absent, leftOpen, value, body, Filling, valueOr, bodyOr}
 use Rattle.meaning.specs.Text.{meant}
 
 -- Free names
@@ -53,35 +53,16 @@ putTerm g t = putLabel g (t .0) (put g (t .1))
 -- "puts the filled t in each hole of m's body"
 abbrev pub inHoles : (ℕ → NamedTerm) → Putting
 inHoles arguments (metavariable m) c = (slot (metavariable m), c)
-inHoles arguments (function f) c = (slot (function f), c)
+inHoles arguments (function f n) c = (slot (function f n), c)
 inHoles arguments (hole i) c = arguments i
-
--- Argument i of a function application, by its children
-abbrev pub argumentAt : Forest Named → ℕ → NamedTerm
-argumentAt nil i = (slot (hole i), nil)
-argumentAt (cons l c s) zero = (l, c)
-argumentAt (cons l c s) (suc i) = argumentAt s i
 
 -- What each metavariable is given, with names
 abbrev pub NamedFilling : Type 0
 NamedFilling = ℕ → Entry NamedTerm
 
--- A metavariable without a value, and a function without a body, stay as they are
-abbrev pub valueFor : Slot → Entry NamedTerm → NamedTerm
-valueFor z absent = (slot z, nil)
-valueFor z leftOpen = (slot z, nil)
-valueFor z (value t) = t
-valueFor z (body t) = (slot z, nil)
-
-abbrev pub bodyFor : Slot → Entry NamedTerm → NamedTerm
-bodyFor z absent = (slot z, nil)
-bodyFor z leftOpen = (slot z, nil)
-bodyFor z (value t) = (slot z, nil)
-bodyFor z (body b) = b
-
 abbrev pub asWritten : NamedFilling → Putting
-asWritten τ (metavariable m) c = valueFor (metavariable m) (τ m)
-asWritten τ (function f) c = putTerm (inHoles (argumentAt c)) (bodyFor (function f) (τ f))
+asWritten τ (metavariable m) c = valueOr m (τ m)
+asWritten τ (function f n) c = putTerm (inHoles (argument c)) (bodyOr f (τ f))
 asWritten τ (hole i) c = (slot (hole i), c)
 
 -- Patterns filled as the text stands
@@ -103,7 +84,7 @@ AtSlots C ys (cons l c s) = atLabel C ys l c × AtSlots C (enter l ys) c × AtSl
 -- In a body: no bound name above a hole is free in the argument that is put there
 abbrev pub holeUncaught : (ℕ → NamedTerm) → Condition
 holeUncaught arguments ys (metavariable m) c = Unit {0}
-holeUncaught arguments ys (function f) c = Unit {0}
+holeUncaught arguments ys (function f n) c = Unit {0}
 holeUncaught arguments ys (hole i) c = Avoids ys (arguments i)
 
 abbrev pub UncaughtIn : NamedTerm → (ℕ → NamedTerm) → Type 0
@@ -112,9 +93,8 @@ UncaughtIn b arguments = AtSlots (holeUncaught arguments) [] (one b)
 -- In a pattern: no bound name above a slot is free in the value or body that is put there. An argument is put into the body, so
 -- that only the body's binders can catch it: a variable of its own that the pattern binds stays bound by that binder.
 abbrev pub slotUncaught : NamedFilling → Condition
-slotUncaught τ ys (metavariable m) c = Avoids ys (valueFor (metavariable m) (τ m))
-slotUncaught τ ys (function f) c =
-    let b : NamedTerm = bodyFor (function f) (τ f) in Avoids ys b × UncaughtIn b (argumentAt (textual τ c))
+slotUncaught τ ys (metavariable m) c = Avoids ys (valueOr m (τ m))
+slotUncaught τ ys (function f n) c = Avoids ys (bodyOr f (τ f)) × UncaughtIn (bodyOr f (τ f)) (argument (textual τ c))
 slotUncaught τ ys (hole i) c = Unit {0}
 
 abbrev pub Uncaught : NamedFilling → Forest Named → Type 0

@@ -8,7 +8,6 @@ use mathlib.Core.Bool.{Bool, true, false, _&&_}
 use mathlib.Core.List.{List, [], _∷_, _++_, map}
 use mathlib.Core.Option.{Option, none, some}
 use lib.Dec.{eqb}
-use Rattle.meaning.specs.Limits.{placeCount}
 use Rattle.meaning.specs.Basics.{choose, keep, each, every, upTo, andThen, orNone}
 use Rattle.meaning.specs.Term.{one, Slot, metavariable, function, hole, Term}
 use Rattle.meaning.specs.Shift.{lowerTerm, isClosed}
@@ -26,7 +25,7 @@ pub record Source : Type 0 where
 -- What a metavariable faces
 abbrev pub sourceAt : Slot → ℕ → Term → List Source
 sourceAt (metavariable m) n t = record { number = m; node = n; term = t } ∷ []
-sourceAt (function f) n t = []
+sourceAt (function f a) n t = []
 sourceAt (hole i) n t = []
 
 abbrev pub sourceOf : Face → List Source
@@ -35,7 +34,7 @@ sourceOf x = sourceAt (x .what) (x .node) (x .term)
 -- "at the position of the body's lowest hole"
 abbrev pub isHole : ℕ → Slot → Bool
 isHole i (metavariable m) = false
-isHole i (function f) = false
+isHole i (function f n) = false
 isHole i (hole j) = eqb i j
 
 abbrev pub lowestHole : ℕ → List Face → Option Face
@@ -51,8 +50,8 @@ fromHole k t (some h) = each sourceOf (orNone (andThen (lowerTerm (h .under) (h 
 -- "in the subexpression which this application faces", for each place in turn
 abbrev pub fromApplication : (ℕ → Term) → Face → Slot → List Source
 fromApplication b x (metavariable m) = []
-fromApplication b x (function f) =
-    each (λ i. fromHole (x .under) (argument (x .children) i) (lowestHole i (orNone (walk 0 (x .node) (one (b f)) (one (x .term)))))) (upTo placeCount)
+fromApplication b x (function f n) =
+    each (λ i. fromHole (x .under) (argument (x .children) i) (lowestHole i (orNone (walk 0 (x .node) (one (b f)) (one (x .term)))))) (upTo n)
 fromApplication b x (hole i) = []
 
 -- "A value comes from the metavariable's first occurrence outside arguments, else from the first application whose function has a hole

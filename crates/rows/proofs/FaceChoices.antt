@@ -1,7 +1,7 @@
 -- The choices of one face: by its class table, as masks from the greatest, they are document 01's choices in their order.
 --
 --   unflag    a truth value as a node's mark: there is one place, so that a mark is a hole or none
-use mathlib.Core.Path.{_≡_, refl, ap, ap₂, sym, _∙_}
+use mathlib.Core.Path.{_≡_, refl, ap, ap₂, sym, _∙_, subst}
 use mathlib.Core.Bool.{Bool, true, false, cond, not, false≢true}
 use mathlib.Core.List.{List, [], _∷_, _++_, map, append-nil, map-append, map-map, map-id}
 use mathlib.Core.Option.{Option, none, some}
@@ -11,7 +11,7 @@ use native.Mathlib.Omega.{arith}
 use lib.Seq.{take-at}
 use lib.ListN.{length, take, getElem?, length-append, length-replicate, length-map}
 use borrow.Author.Tests.{not-true}
-use Rattle.meaning.specs.Limits.{placeCount, maxFaceNodes}
+use Rattle.meaning.specs.Limits.{maxFaceNodes}
 use Rattle.meaning.specs.Basics.{choose, All, _∈_}
 use Rattle.meaning.specs.Basics as basics
 use Rattle.meaning.specs.Term.{one, size, Term}
@@ -23,6 +23,7 @@ use Rattle.meaning.proofs.Lists.{T-true, true-T, mem-keep, keep-mem}
 use Rattle.meaning.proofs.Alike.{sameOwned-eq, sameOwned-refl}
 use Rattle.meaning.proofs.Ordered.{Placed, allMarks-are}
 use Rattle.meaning.proofs.ChoiceLaws.{at-other, length-views, choices-are}
+use Rattle.meaning.proofs.Apart.{equal-apart}
 use Rattle.masks.specs.Mask.{width, marks, value, In, empty}
 use Rattle.masks.specs.Order.{keep, withMark, subsets, choices, below, pad}
 use Rattle.masks.specs.Table.{Table, test}
@@ -145,13 +146,16 @@ passes-choice face l n e i j a b =
 choice-passes : (face : Term) (l : List Bool) → length l ≡ size (one face) → IsChoice (size (one face)) (free face) (equal face) l → passes face l ≡ true
 unfolding IsChoice free equal
 choice-passes face l n c =
+    let same : (j k h i : ℕ) → getElem? (unflags l) j ≡ some (some h) → getElem? (unflags l) k ≡ some (some i) → getElem? (views face) j ≡ getElem? (views face) k =
+    λ j k h i d e. views-same (getElem? (views face) j) (getElem? (views face) k) (c j k (mark-in l j h d .0) (mark-in l k i e .0) .2) in
     keep-mem (isChoice 1 face) (unflags l) (allMarks 1 (size (one face)))
     (choices-are 1 face (unflags l) .1
     (record {
       long = length-map l unflag ∙ n;
       places = λ k i e. omega (arith, mark-in l k i e .1);
-      equal = λ j k i d e. views-same (getElem? (views face) j) (getElem? (views face) k) (c j k (mark-in l j i d .0) (mark-in l k i e .0) .2);
+      equal = λ j k i d e. same j k i i d e;
       unbound = λ k i u d e. not-true (usesFace u) (ap isFree (sym e) ∙ c k k (mark-in l k i d .0) (mark-in l k i d .0) .1);
+      apart = λ j k h i u d e f less. equal-apart face j k u f (sym (same j k h i d e) ∙ f) less;
     }))
     .1
 
@@ -212,21 +216,20 @@ choice-mask-injective n w ms us h a b p q e =
     value-injective (pad (w - n) l) (pad (w - n) k) (length-append l (empty (w - n)) ∙ ap (λ (x : ℕ). x + length (empty (w - n))) (ln ∙ sym kn) ∙ sym (length-append k (empty (w - n)))) v in
     sym (unflag-flags ms p) ∙ ap unflags (sym (take-at l (empty (w - n)) n ln) ∙ ap (take n) same ∙ take-at k (empty (w - n)) n kn) ∙ unflag-flags us q
 
--- Main theorems: the choices by a face's class table are the face's choices
-pub face-choices : (face : Term) (ds : List ℕ) → FaceClasses face ds → below (test width ds) (2 ^ width) ≡ map (maskOf maxFaceNodes) (meant.choices placeCount face)
-unfolding maxFaceNodes placeCount
-face-choices face ds c = masks-choices width face ds c
+-- Main theorems: the choices by a face's class table are the face's choices, where there is one place
+pub face-choices : (n : ℕ) → n ≡ 1 → (face : Term) (ds : List ℕ) → FaceClasses face ds → below (test width ds) (2 ^ width) ≡ map (maskOf maxFaceNodes) (meant.choices n face)
+unfolding maxFaceNodes
+face-choices n single face ds c = masks-choices width face ds c ∙ ap (λ (k : ℕ). map (maskOf maxFaceNodes) (meant.choices k face)) (sym single)
 
 pub face-table : (face : Term) (ds : List ℕ) → FaceClasses face ds → Table width ds
 face-table face ds c = table-of width (size (one face)) (free face) (equal face) ds (equality face) c
 
 -- The masks of two choices of a face are two.
-pub choice-mask : (face : Term) (ms us : Marks) → size (one face) ≤ maxFaceNodes → Choice placeCount face ms → Choice placeCount face us
+pub choice-mask : (n : ℕ) → n ≡ 1 → (face : Term) (ms us : Marks) → size (one face) ≤ maxFaceNodes → Choice n face ms → Choice n face us
     → maskOf maxFaceNodes ms ≡ maskOf maxFaceNodes us → ms ≡ us
-unfolding placeCount
-choice-mask face ms us h c d e = choice-mask-injective (size (one face)) maxFaceNodes ms us h (c .long) (d .long) (placed ms c) (placed us d) e
+choice-mask n single face ms us h c d e = choice-mask-injective (size (one face)) maxFaceNodes ms us h (c .long) (d .long) (placed ms c) (placed us d) e
   where
-    placed : (xs : Marks) → Choice 1 face xs → All (Placed 1) xs
+    placed : (xs : Marks) → Choice n face xs → All (Placed 1) xs
     placed xs c =
-        let m = keep-mem (isChoice 1 face) xs (allMarks 1 (size (one face))) (choices-are 1 face xs .1 c) .0 in
-        allMarks-are 1 (size (one face)) xs .0 m .1
+        let m = keep-mem (isChoice n face) xs (allMarks n (size (one face))) (choices-are n face xs .1 c) .0 in
+        subst (λ (k : ℕ). All (Placed k) xs) single (allMarks-are n (size (one face)) xs .0 m .1)

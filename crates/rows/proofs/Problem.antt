@@ -11,17 +11,18 @@ use lib.Pow.{pow-pos}
 use lib.Dec.{ltb}
 use lib.Count.{leadingZeros}
 use borrow.Author.Tests.{ltb-false, not-true, not-false}
-use Rattle.meaning.specs.Limits.{placeCount, maxFunctions, maxFaceNodes}
+use Rattle.meaning.specs.Limits.{maxFunctions, maxFaceNodes}
 use Rattle.meaning.specs.Basics.{countFrom, upTo, every, _∈_, isSome}
 use Rattle.meaning.specs.Term.{one, size}
-use Rattle.meaning.specs.Problem.{Problem, functions}
+use Rattle.meaning.specs.Problem.{Problem, placesOf, functions}
 use Rattle.meaning.specs.Face.{Face, faces}
 use Rattle.meaning.specs.Choice.{Marks, choices}
 use Rattle.meaning.specs.Row.{Row, product, faceOf, rowsOver, rows, ChoiceEach}
 use Rattle.meaning.specs.Search.{at, placeOf, start, maskOf, PlaceValue, masksOf, placeValue}
 use Rattle.meaning.specs.Accept.{bothWays, overlarge, checkProblem}
 use Rattle.meaning.specs.Readable.{Accepted}
-use Rattle.meaning.proofs.Lists.{true-T, mem-map, map-mem, all-mem, every-all}
+use Rattle.meaning.proofs.Lists.{true-T, mem-map, map-mem, at-mem, all-mem, every-all}
+use Rattle.meaning.proofs.Proper.{one-place, functions-applied}
 use Rattle.meaning.proofs.ByteLaws.{unless-got}
 use Rattle.meaning.proofs.Ordered.{OneOfEach, product-are}
 use Rattle.meaning.proofs.ChoiceLaws.{empty-choice, rows-are}
@@ -53,6 +54,9 @@ small-faces p a agree f m =
     let e : not (every fits (functions p)) ≡ false = ap (λ (b : Bool). b && not (every fits (functions p))) (sym agree) ∙ unless-got (overlarge p) 14 _ few .0 in
     let all = all-mem (λ g. fits g ≡ true) f (functions p) (every-all fits (functions p) (true-T (not-false (every fits (functions p)) e))) m in
     ltb-false maxFaceNodes (size (one (faceOf p f))) (not-true (ltb maxFaceNodes (size (one (faceOf p f)))) all)
+
+single : (p : Problem) → Accepted p → (f : ℕ) → f ∈ functions p → placesOf p f ≡ 1
+single p a f m = one-place p (a .within) f (functions-applied p f m)
 
 -- ---- a function that is not there
 
@@ -88,11 +92,11 @@ counted {A} L X y k (suc n) (f ∷ fs) h there absent =
 
 choices-at : (p : Problem) (ds : List ℕ) → Accepted p → Tabled p ds
     → map (choicesAt ds) (upTo maxFunctions)
-    ≡ map (λ f. map (maskOf maxFaceNodes) (choices placeCount (faceOf p f))) (functions p) ++ replicate (maxFunctions - length (functions p)) (0 ∷ [])
+    ≡ map (λ f. map (maskOf maxFaceNodes) (choices (placesOf p f) (faceOf p f))) (functions p) ++ replicate (maxFunctions - length (functions p)) (0 ∷ [])
 unfolding choicesAt
 choices-at p ds a t =
-    counted (choicesAt ds) (λ f. map (maskOf maxFaceNodes) (choices placeCount (faceOf p f))) (0 ∷ []) 0 maxFunctions (functions p) (few-functions p a)
-    (λ i f k e q. let z : i ≡ k = omega arith in face-choices (faceOf p f) (classesAt ds k) (t .there k f (rw z at q)))
+    counted (choicesAt ds) (λ f. map (maskOf maxFaceNodes) (choices (placesOf p f) (faceOf p f))) (0 ∷ []) 0 maxFunctions (functions p) (few-functions p a)
+    (λ i f k e q. let z : i ≡ k = omega arith in face-choices (placesOf p f) (single p a f (at-mem (functions p) i f q)) (faceOf p f) (classesAt ds k) (t .there k f (rw z at q)))
     (λ i k e q. empty-choices width (classesAt ds k) (λ j. t .absent k j (omega arith)))
 
 at-or-past : (xs : List ℕ) (k : ℕ) → ((x : ℕ) × (getElem? xs k ≡ some x)) ⊎ (length xs ≤ k)
@@ -108,15 +112,15 @@ length-each [] (y ∷ ys) h = absurd h
 length-each (xs ∷ xss) [] h = absurd h
 length-each (xs ∷ xss) (y ∷ ys) h = ap suc (length-each xss ys (h .1))
 
-rows-product : (p : Problem) → isSome (faces p) ≡ true → rows p ≡ product (map (λ f. choices placeCount (faceOf p f)) (functions p))
+rows-product : (p : Problem) → isSome (faces p) ≡ true → rows p ≡ product (map (λ f. choices (placesOf p f) (faceOf p f)) (functions p))
 unfolding rows
 rows-product p e = go (faces p) e
   where
-    go : (w : Option (List Face)) → isSome w ≡ true → rowsOver p w ≡ product (map (λ f. choices placeCount (faceOf p f)) (functions p))
+    go : (w : Option (List Face)) → isSome w ≡ true → rowsOver p w ≡ product (map (λ f. choices (placesOf p f) (faceOf p f)) (functions p))
     go none e = absurd (false≢true e)
     go (some xs) e = refl
 
-choices-injective : (p : Problem) (fs : List ℕ) → ((f : ℕ) → f ∈ fs → size (one (faceOf p f)) ≤ maxFaceNodes) → (r s : Row) → ChoiceEach p fs r → ChoiceEach p fs s
+choices-injective : (p : Problem) (fs : List ℕ) → ((f : ℕ) → f ∈ fs → (placesOf p f ≡ 1) × (size (one (faceOf p f)) ≤ maxFaceNodes)) → (r s : Row) → ChoiceEach p fs r → ChoiceEach p fs s
     → (xs ys : List ℕ) → map (maskOf maxFaceNodes) r ++ xs ≡ map (maskOf maxFaceNodes) s ++ ys → r ≡ s
 choices-injective p [] h [] [] c d xs ys e = refl
 choices-injective p [] h [] (m ∷ s) c d xs ys e = absurd d
@@ -124,15 +128,16 @@ choices-injective p [] h (m ∷ r) s c d xs ys e = absurd c
 choices-injective p (f ∷ fs) h [] s c d xs ys e = absurd c
 choices-injective p (f ∷ fs) h (m ∷ r) [] c d xs ys e = absurd d
 choices-injective p (f ∷ fs) h (m ∷ r) (u ∷ s) c d xs ys e =
+    let here = h f (List·Memᴰ·head refl) in
     ap₂ {C = Row} (λ x y. x ∷ y)
-    (choice-mask (faceOf p f) m u (h f (List·Memᴰ·head refl)) (c .0) (d .0) (let q : maskOf maxFaceNodes m ≡ maskOf maxFaceNodes u = cc in q))
+    (choice-mask (placesOf p f) (here .0) (faceOf p f) m u (here .1) (c .0) (d .0) (let q : maskOf maxFaceNodes m ≡ maskOf maxFaceNodes u = cc in q))
     (choices-injective p fs (λ g k. h g (List·Memᴰ·tail k)) r s (c .1) (d .1) xs ys
     (let q : map (maskOf maxFaceNodes) r ++ xs ≡ map (maskOf maxFaceNodes) s ++ ys = cc in q))
 
 -- The row of all empty choices.
 empty-row : (p : Problem) (fs : List ℕ) → (r : Row) × ChoiceEach p fs r
 empty-row p [] = ([], tt)
-empty-row p (f ∷ fs) = let (r, c) = empty-row p fs in (replicate (size (one (faceOf p f))) none ∷ r, (empty-choice placeCount (faceOf p f), c))
+empty-row p (f ∷ fs) = let (r, c) = empty-row p fs in (replicate (size (one (faceOf p f))) none ∷ r, (empty-choice (placesOf p f) (faceOf p f), c))
 
 begins : {A : Type 0} (xs : List A) (x : A) → x ∈ xs → (y : A) × (ys : List A) × (xs ≡ y ∷ ys)
 begins [] x m = absurd (List·Memᴰ·not-nil m)
@@ -152,7 +157,7 @@ unfolding masksOf
 masksOf-injective p a r s m n e =
     let c = rows-are p r .0 m in
     let d = rows-are p s .0 n in
-    choices-injective p (functions p) (small-faces p a (c .agree)) r s (c .choice) (d .choice)
+    choices-injective p (functions p) (λ f q. (single p a f q, small-faces p a (c .agree) f q)) r s (c .choice) (d .choice)
     (replicate (maxFunctions - length r) 0) (replicate (maxFunctions - length s) 0) e
 
 -- The mask rows of the problem's table are the masks of its rows, in their order.
@@ -160,9 +165,9 @@ pub rows-listed : (p : Problem) (ds : List ℕ) → Accepted p → isSome (faces
 unfolding maskRows masksOf
 rows-listed p ds a agree t =
     ap product (choices-at p ds a t)
-    ∙ product-padded 0 rest (map (λ f. map mask (choices placeCount (faceOf p f))) (functions p))
+    ∙ product-padded 0 rest (map (λ f. map mask (choices (placesOf p f) (faceOf p f))) (functions p))
     ∙ ap (λ (xss : List (List ℕ)). map padded (product xss))
-    (sym (map-map (map mask) (λ f. choices placeCount (faceOf p f)) (functions p)))
+    (sym (map-map (map mask) (λ f. choices (placesOf p f) (faceOf p f)) (functions p)))
     ∙ ap (map padded) (product-map mask all)
     ∙ map-map padded (map mask) (product all)
     ∙ map-same (λ r. padded (map mask r)) masksOf (product all)
@@ -179,10 +184,10 @@ rows-listed p ds a agree t =
     padded ms = ms ++ replicate rest 0
 
     all : List (List Marks)
-    all = map (λ f. choices placeCount (faceOf p f)) (functions p)
+    all = map (λ f. choices (placesOf p f) (faceOf p f)) (functions p)
 
     long : (r : Row) → r ∈ product all → length r ≡ length (functions p)
-    long r m = length-each all r (product-are all r .0 m) ∙ length-map (functions p) (λ f. choices placeCount (faceOf p f))
+    long r m = length-each all r (product-are all r .0 m) ∙ length-map (functions p) (λ f. choices (placesOf p f) (faceOf p f))
 
 -- What the code asks of a table, a problem's table has.
 pub tabled-tables : (p : Problem) (ds : List ℕ) → Tabled p ds → Tables ds

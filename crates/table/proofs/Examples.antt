@@ -10,7 +10,7 @@ use Rattle.table.specs.Token.{levelOf, payloadOf, tokens, patternTokens,
 
 -- Document 01's (P(X), s)
 example : Problem
-example = record { pattern = (slot (function 0), cons (slot (metavariable 1)) nil nil); expression = (own (symbol 5), nil) } ∷ []
+example = record { pattern = (slot (function 0 1), cons (slot (metavariable 1)) nil nil); expression = (own (symbol 5), nil) } ∷ []
 
 example-read : readProblem (7 ∷ 0 ∷ 13 ∷ 6 ∷ 0 ∷ 5 ∷ 0 ∷ 5 ∷ 0 ∷ 1 ∷ 1 ∷ 1 ∷ 0 ∷ 2 ∷ 0 ∷ 5 ∷ []) ≡ got example
 unfolding example readProblem maxInput maxConstraints maxDepth metavariableCount readConstraints constraintHead readPair readTerm contextBelow readAll readExactly contentOf headOf partsOf kindOf metavariableIn functionIn holeIn

@@ -2,8 +2,8 @@
 --   root     the scope around the term whose tokens are looked at; its length is the binder depth from which keys are seen
 --   k        the number of binders between the root and a node inside the term
 --   code     a label of a view as the number that is its key; codes, those of a view in preorder
---   Ranked   each label of a view says how many children it has, which makes the codes a prefix code: two views with the same codes
---            are the same
+--   Ranked   each label of a view says how many children it has and can be read back from its code, which makes the codes a prefix
+--            code: two views with the same codes are the same
 -- Caveat: the theorems give each binder outside a term its level as identity. That is the right binder for two terms of one table
 -- only where each binder outside them that they use lies above both.
 use mathlib.Core.Path.{_≡_, refl, ap, ap₂, sym, _∙_}
@@ -19,7 +19,6 @@ use lib.ListN.{length, getD, take, length-append, length-drop}
 use lib.Seq.{take-at, getD-drop}
 use lib.Dec.{eqb, ltb, leb}
 use borrow.Author.Tests.{lt-ltb, le-ltb, le-leb, lt-leb}
-use Rattle.meaning.specs.Limits.{placeCount}
 use Rattle.meaning.specs.Basics.{choose, andThen, isSome}
 use Rattle.meaning.specs.Term.{Forest, nil, cons, one, size, trees, relabel, symbol, variable, application, binder, Label, own, slot, metavariable, function, hole, Named, Variable, free, bound, Nameless, NamedTerm, Terms, Term, inner}
 use Rattle.meaning.specs.Scope.{resolve, enter, namelessLabel, nameless, namelessTerm}
@@ -91,7 +90,7 @@ code (own (variable v)) = 2 + 256 * codeOfSeen v
 code (own (application n)) = 3 + 256 * n
 code (own (binder b x)) = 4 + 256 * b
 code (slot (metavariable m)) = 5 + 256 * m
-code (slot (function f)) = 6 + 256 * f
+code (slot (function f n)) = 6 + 256 * f
 code (slot (hole i)) = 10 + 256 * i
 
 abbrev codes : View ℕ → List ℕ
@@ -109,7 +108,7 @@ decode tag p =
     (choose (eqb tag 3) (own (application p))
     (choose (eqb tag 4) (own (binder p tt))
     (choose (eqb tag 5) (slot (metavariable p))
-    (choose (eqb tag 6) (slot (function p)) (slot (hole p)))))))
+    (choose (eqb tag 6) (slot (function p 1)) (slot (hole p)))))))
 
 read-back : (g p : ℕ) → g < 256 → decode ((g + 256 * p) % 256) ((g + 256 * p) / 256) ≡ decode g p
 read-back g p h =
@@ -132,18 +131,25 @@ seen-back (outside w) =
     let b : (4 * w + 2) / 4 ≡ w = omega arith in
     ap₂ decodeSeen a b
 
-code-back : (l : Viewed) → decode (code l % 256) (code l / 256) ≡ l
-unfolding decode
-code-back (own (symbol n)) = read-back 1 n (omega arith)
-code-back (own (variable v)) = read-back 2 (codeOfSeen v) (omega arith) ∙ ap (λ (w : Seen ℕ). own (variable w)) (seen-back v)
-code-back (own (application n)) = read-back 3 n (omega arith)
-code-back (own (binder b x)) = read-back 4 b (omega arith)
-code-back (slot (metavariable m)) = read-back 5 m (omega arith)
-code-back (slot (function f)) = read-back 6 f (omega arith)
-code-back (slot (hole i)) = read-back 10 i (omega arith)
+-- The label of a function of one place: the code does not tell how many it has
+abbrev pub Coded : Viewed → Type 0
+Coded (own o) = Unit {0}
+Coded (slot (metavariable m)) = Unit {0}
+Coded (slot (function f n)) = n ≡ 1
+Coded (slot (hole i)) = Unit {0}
 
-pub code-injective : (l m : Viewed) → code l ≡ code m → l ≡ m
-code-injective l m e = sym (code-back l) ∙ ap (λ (n : ℕ). decode (n % 256) (n / 256)) e ∙ code-back m
+code-back : (l : Viewed) → Coded l → decode (code l % 256) (code l / 256) ≡ l
+unfolding decode
+code-back (own (symbol n)) h = read-back 1 n (omega arith)
+code-back (own (variable v)) h = read-back 2 (codeOfSeen v) (omega arith) ∙ ap (λ (w : Seen ℕ). own (variable w)) (seen-back v)
+code-back (own (application n)) h = read-back 3 n (omega arith)
+code-back (own (binder b x)) h = read-back 4 b (omega arith)
+code-back (slot (metavariable m)) h = read-back 5 m (omega arith)
+code-back (slot (function f n)) h = read-back 6 f (omega arith) ∙ ap (λ (k : ℕ). slot (function f k)) (sym h)
+code-back (slot (hole i)) h = read-back 10 i (omega arith)
+
+pub code-injective : (l m : Viewed) → Coded l → Coded m → code l ≡ code m → l ≡ m
+code-injective l m h g e = sym (code-back l h) ∙ ap (λ (n : ℕ). decode (n % 256) (n / 256)) e ∙ code-back m g
 
 -- Views whose labels say how many children they have
 abbrev pub arity : {X B : Type 0} → Label X B → ℕ
@@ -152,21 +158,21 @@ arity (own (variable v)) = 0
 arity (own (application n)) = n
 arity (own (binder b x)) = 1
 arity (slot (metavariable m)) = 0
-arity (slot (function f)) = placeCount
+arity (slot (function f n)) = n
 arity (slot (hole i)) = 0
 
 abbrev Ranked : View ℕ → Type 0
 Ranked nil = Unit {0}
-Ranked (cons l c s) = (trees c ≡ arity l) × Ranked c × Ranked s
+Ranked (cons l c s) = (Coded l × (trees c ≡ arity l)) × Ranked c × Ranked s
 
 codes-injective : (u v : View ℕ) (xs ys : List ℕ) → trees u ≡ trees v → Ranked u → Ranked v → codes u ++ xs ≡ codes v ++ ys → (u ≡ v) × (xs ≡ ys)
 codes-injective nil nil xs ys n a b e = (refl, e)
 codes-injective nil (cons l c s) xs ys n a b e = absurd (omega arith)
 codes-injective (cons l c s) nil xs ys n a b e = absurd (omega arith)
 codes-injective (cons l c s) (cons l′ c′ s′) xs ys n a b e =
-    let el : l ≡ l′ = code-injective l l′ (cc) in
+    let el : l ≡ l′ = code-injective l l′ (a .0 .0) (b .0 .0) (cc) in
     let rest : (codes c ++ codes s) ++ xs ≡ (codes c′ ++ codes s′) ++ ys = cc in
-    let nc : trees c ≡ trees c′ = a .0 ∙ ap arity el ∙ sym (b .0) in
+    let nc : trees c ≡ trees c′ = a .0 .1 ∙ ap arity el ∙ sym (b .0 .1) in
     let rc = codes-injective c c′ (codes s ++ xs) (codes s′ ++ ys) nc (a .1) (b .1) (simp append-assoc at rest) in
     let rs = codes-injective s s′ xs ys (omega arith) (a .2) (b .2) (rc .1) in
     let ec : c ≡ c′ = rc .0 in
@@ -215,7 +221,7 @@ module _ (root : List ℕ) where
         let a : (b + 65536 * x) % 65536 ≡ b = omega (arith, f .0) in
         key-token 4 (length sc) n (b + 65536 * x) (omega arith) room small (length root) ∙ ap (λ (v : ℕ). 4 + 256 * v) a
     label-code (slot (metavariable m)) c f = key-token 5 (length sc) n m (omega arith) room small (length root)
-    label-code (slot (function g)) c f = key-token 6 (length sc) n g (omega arith) room small (length root)
+    label-code (slot (function g a)) c f = key-token 6 (length sc) n g (omega arith) room small (length root)
     label-code (slot (hole i)) c f = key-token 10 (length sc) n i (omega arith) room small (length root)
 
 -- Below a node: one scope more where it binds, in the table and in the nameless term alike
@@ -246,23 +252,24 @@ keys-codes root k (suc levels) ctx sc (cons l c s) deep r room small =
     ap₂ _∷_ el (map-append (keyOf (length root)) (tokens (enter l sc) c) (tokens sc s) ∙ ap₂ _++_ ec es)
 
 -- A readable term's view is ranked
-pub fits-arity : (root : List ℕ) (k : ℕ) (ctx : Context) (sc : List ℕ) (l : Named) (c : Forest Named) → NodeFits ctx l c
-    → trees c ≡ arity (seenLabel root k (namelessLabel sc l))
-fits-arity root k ctx sc (own (symbol n)) c f = ap trees (f .1)
-fits-arity root k ctx sc (own (variable x)) c f = ap trees (f .1)
-fits-arity root k ctx sc (own (application n)) c f = sym (f .0)
-fits-arity root k ctx sc (own (binder b x)) c f = f .2
-fits-arity root k ctx sc (slot (metavariable m)) c f = ap trees (f .2)
-fits-arity root k ctx sc (slot (function g)) c f = f .2
-fits-arity root k ctx sc (slot (hole i)) c f = ap trees (f .2)
+pub fits-label : (root : List ℕ) (k : ℕ) (ctx : Context) (sc : List ℕ) (l : Named) (c : Forest Named) → NodeFits ctx l c
+    → Coded (seenLabel root k (namelessLabel sc l)) × (trees c ≡ arity (seenLabel root k (namelessLabel sc l)))
+fits-label root k ctx sc (own (symbol n)) c f = (tt, ap trees (f .1))
+fits-label root k ctx sc (own (variable x)) c f = (tt, ap trees (f .1))
+fits-label root k ctx sc (own (application n)) c f = (tt, sym (f .0))
+fits-label root k ctx sc (own (binder b x)) c f = (tt, f .2)
+fits-label root k ctx sc (slot (metavariable m)) c f = (tt, ap trees (f .2))
+fits-label root k ctx sc (slot (function g n)) c f = (f .2, f .3)
+fits-label root k ctx sc (slot (hole i)) c f = (tt, ap trees (f .2))
 
 readable-ranked : (root : List ℕ) (k levels : ℕ) (ctx : Context) (sc : List ℕ) (u : Forest Named) → Readable levels ctx u
     → Ranked (viewFrom root k (nameless sc u))
 readable-ranked root k levels ctx sc nil r = tt
 readable-ranked root k zero ctx sc (cons l c s) r = absurd r
 readable-ranked root k (suc levels) ctx sc (cons l c s) r =
-    let k′ = inner (namelessLabel sc l) k in (
-      relabel-trees inner (seenLabel root) k′ (nameless (enter l sc) c) ∙ relabel-trees enter namelessLabel (enter l sc) c ∙ fits-arity root k ctx sc l c (r .0),
+    let k′ = inner (namelessLabel sc l) k in
+    let fits = fits-label root k ctx sc l c (r .0) in (
+      (fits .0, relabel-trees inner (seenLabel root) k′ (nameless (enter l sc) c) ∙ relabel-trees enter namelessLabel (enter l sc) c ∙ fits .1),
       readable-ranked root k′ levels (contextBelow l ctx) (enter l sc) c (r .1),
       readable-ranked root k (suc levels) ctx sc s (r .2),
     )
@@ -355,7 +362,7 @@ module _ (p : ℕ → Variable → Bool) (d r : ℕ) (told : Told p d r) where
   label-reaches ctx k sc n deep room small (own (binder b x)) c f =
       other-reaches (length sc) n room small 4 (b + 65536 * x) (omega arith) (λ z. omega arith)
   label-reaches ctx k sc n deep room small (slot (metavariable m)) c f = other-reaches (length sc) n room small 5 m (omega arith) (λ z. omega arith)
-  label-reaches ctx k sc n deep room small (slot (function g)) c f = other-reaches (length sc) n room small 6 g (omega arith) (λ z. omega arith)
+  label-reaches ctx k sc n deep room small (slot (function g a)) c f = other-reaches (length sc) n room small 6 g (omega arith) (λ z. omega arith)
   label-reaches ctx k sc n deep room small (slot (hole i)) c f = other-reaches (length sc) n room small 10 i (omega arith) (λ z. omega arith)
 
   tokens-reach : (k levels : ℕ) (ctx : Context) (sc : List ℕ) (u : Forest Named) → length sc ≡ k + r → Readable levels ctx u → length sc + levels ≤ 256
@@ -446,7 +453,7 @@ tag-room (own (variable x)) = omega arith
 tag-room (own (application n)) = omega arith
 tag-room (own (binder b x)) = omega arith
 tag-room (slot (metavariable m)) = omega arith
-tag-room (slot (function f)) = omega arith
+tag-room (slot (function f n)) = omega arith
 tag-room (slot (hole i)) = omega arith
 
 pub some-levels : (levels : ℕ) (ctx : Context) (t : NamedTerm) → Readable levels ctx (one t) → 0 < levels

@@ -41,8 +41,8 @@ kindFrom kinds.Variable = read.variableKind
 kindFrom kinds.Application = read.applicationKind
 kindFrom kinds.Binder = read.binderKind
 kindFrom kinds.Metavariable = read.metavariableKind
-kindFrom kinds.Function = read.functionKind
-kindFrom kinds.Hole = read.holeKind
+kindFrom kinds.Function = read.functionKind 1
+kindFrom kinds.Hole = read.holeKind 0
 
 abbrev pub ruledFrom : Ruled → Answer read.Kind
 ruledFrom (ruleds.Content k) = got (kindFrom k)
@@ -62,7 +62,7 @@ labelOf (nodes.Variable x) n = own (variable (x .0))
 labelOf nodes.Application n = own (application n)
 labelOf (nodes.Binder b x) n = own (binder (b .0) (x .0))
 labelOf (nodes.Metavariable m) n = slot (metavariable (m .0))
-labelOf (nodes.Function m) n = slot (function (m .0))
+labelOf (nodes.Function m) n = slot (function (m .0) 1)
 labelOf nodes.Hole n = slot (hole 0)
 
 abbrev pub fixedOf : Node → ℕ
@@ -90,7 +90,7 @@ contentWith (nodes.Variable x) c = leaf (own (variable (x .0)))
 contentWith nodes.Application c = many c
 contentWith (nodes.Binder b x) c = over (own (binder (b .0) (x .0))) 1 (drop 4 c)
 contentWith (nodes.Metavariable m) c = leaf (slot (metavariable (m .0)))
-contentWith (nodes.Function m) c = over (slot (function (m .0))) 1 (drop 1 c)
+contentWith (nodes.Function m) c = over (slot (function (m .0) 1)) 1 (drop 1 c)
 contentWith nodes.Hole c = leaf (slot (hole 0))
 
 abbrev pub contentFrom : Bytes → Content → Answer read.Content

@@ -41,7 +41,7 @@ payloadOf sc (own (variable x)) = x + 65536 * levelOf sc x
 payloadOf sc (own (application n)) = n
 payloadOf sc (own (binder b x)) = b + 65536 * x
 payloadOf sc (slot (metavariable m)) = m
-payloadOf sc (slot (function f)) = f
+payloadOf sc (slot (function f n)) = f
 payloadOf sc (slot (hole i)) = i
 
 -- The tokens of a forest in a scope

@@ -138,7 +138,7 @@ fn metavariable_in(c: &[u8]) -> Content
 }
 
 fn function_in(c: &[u8]) -> Content
-    ensures { λ r. ⌜ ContentDone functionKind (now (c .entry)) r ⌝ }
+    ensures { λ r. ⌜ ContentDone (functionKind 1) (now (c .entry)) r ⌝ }
 {
     if c.len() == 0 {
         return Content::Refused(6);
@@ -152,7 +152,7 @@ fn function_in(c: &[u8]) -> Content
 }
 
 fn hole_in(c: &[u8]) -> Content
-    ensures { λ r. ⌜ ContentDone holeKind (now (c .entry)) r ⌝ }
+    ensures { λ r. ⌜ ContentDone (holeKind 0) (now (c .entry)) r ⌝ }
 {
     if c.len() == 0 {
         Content::Node(Node::Hole)
