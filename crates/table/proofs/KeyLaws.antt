@@ -131,7 +131,7 @@ seen-back (outside w) =
     let b : (4 * w + 2) / 4 ≡ w = omega arith in
     ap₂ decodeSeen a b
 
--- The label of a function of one place: the code does not tell how many it has
+-- A label that can be read back from its code, which does not tell how many places a function has: there is one
 abbrev pub Coded : Viewed → Type 0
 Coded (own o) = Unit {0}
 Coded (slot (metavariable m)) = Unit {0}
