@@ -2,27 +2,40 @@
 use mathlib.Core.Path.{_≡_, refl}
 use Prim.Native.Nat.{ℕ}
 use mathlib.Core.List.{List, [], _∷_, map}
-use Rattle.meaning.specs.Limits.{metavariableCount}
+use lib.ListN.{length}
 use Rattle.meaning.specs.Basics.{All}
 use Rattle.meaning.specs.Term.{nil, one, symbol, variable, application, binder, own, slot, hole, bound, Term}
-use Rattle.meaning.specs.Problem.{forestOf, placesOf, functions, metavariables}
+use Rattle.meaning.specs.Problem.{forestOf}
 use Rattle.meaning.specs.Filling.{plug}
-use Rattle.meaning.specs.Row.{rows, rowBody}
-use Rattle.meaning.specs.Value.{candidate, solves, solutionRows}
-use Rattle.meaning.specs.Text.{entryOf, textOf}
-use Rattle.meaning.specs.Case.{Case, starred, further}
+use Rattle.meaning.specs.Row.{Row, rows}
+use Rattle.meaning.specs.Value.{solutionRows}
+use Rattle.meaning.specs.Read.{got}
+use Rattle.meaning.specs.Accept.{accept}
+use Rattle.meaning.specs.Text.{textOf, encodeText, readText}
+use Rattle.meaning.specs.Case.{Case, further}
+use Rattle.meaning.specs.Starred.{Starred, starred}
+use Rattle.meaning.proofs.Computed.{accepts, texts, reads}
 
--- The texts of the solution rows, in row order, are those of the case
+-- A problem has so many rows, and the texts of its solution rows, in row order, are those of the case
 abbrev pub Holds : Case → Type 0
-Holds c = map (textOf (c .problem)) (solutionRows (c .problem)) ≡ c .texts
+Holds c = (length (rows (c .problem)) ≡ c .rowCount) × (map (textOf (c .problem)) (solutionRows (c .problem)) ≡ c .texts)
 
-pub starred-hold : All Holds starred
-unfolding metavariableCount placesOf functions metavariables rows rowBody candidate solves solutionRows entryOf textOf
-starred-hold = (refl, (refl, (refl, (refl, (refl, (refl, (refl, (refl, (refl, tt)))))))))
+-- ... it is what its bytes are accepted as, and the texts are written as theirs and read back from them
+abbrev pub HoldsInBytes : Starred → Type 0
+HoldsInBytes s =
+    (accept (s .input) ≡ got (s .case .problem))
+    × Holds (s .case)
+    × (map (λ (r : Row). encodeText (textOf (s .case .problem) r)) (solutionRows (s .case .problem)) ≡ s .written)
+    × (map readText (s .written) ≡ map got (s .case .texts))
+
+-- THE STARRED CASES
+pub starred-hold : All HoldsInBytes starred
+unfolding accepts texts reads
+starred-hold = ((refl, (refl, refl), refl, refl), ((refl, (refl, refl), refl, refl), ((refl, (refl, refl), refl, refl), ((refl, (refl, refl), refl, refl), ((refl, (refl, refl), refl, refl), ((refl, (refl, refl), refl, refl), ((refl, (refl, refl), refl, refl), ((refl, (refl, refl), refl, refl), ((refl, (refl, refl), refl, refl), tt)))))))))
 
 pub further-hold : All Holds further
-unfolding metavariableCount placesOf functions metavariables rows rowBody candidate solves solutionRows entryOf textOf
-further-hold = (refl, (refl, (refl, (refl, (refl, (refl, (refl, tt)))))))
+unfolding texts
+further-hold = ((refl, refl), ((refl, refl), ((refl, refl), ((refl, refl), ((refl, refl), ((refl, refl), ((refl, refl), ((refl, refl), ((refl, refl), ((refl, refl), tt))))))))))
 
 -- "No variable of a value, body or argument is ever caught": the body ∀w.w=□ filled with a variable that is bound outside it
 abbrev bound-by : ℕ → Term

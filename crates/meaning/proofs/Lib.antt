@@ -12,14 +12,17 @@ pub mod TermReading
 pub mod ProblemReading
 pub mod TextReading
 -- Choices and rows
+pub mod OrderLaws
 pub mod Ordered
 pub mod ChoiceLaws
+pub mod Determined
 pub mod Lowered
 -- Solutions
 pub mod Punching
 pub mod Apart
 pub mod BodyChoice
 pub mod Lockstep
+pub mod AgreeLaws
 pub mod Constraints
 pub mod Proper
 pub mod Slots
@@ -27,6 +30,11 @@ pub mod Sources
 pub mod Candidate
 pub mod RowBodies
 pub mod Solutions
+-- Filling with names
+pub mod TextualLaws
+pub mod Spelling
+pub mod Uncaught
+pub mod NoCapture
 -- Solution texts
 pub mod Nodes
 pub mod Sums
@@ -34,8 +42,15 @@ pub mod Weights
 pub mod TextLaws
 pub mod TextLength
 pub mod SecondDemand
+pub mod PassLaws
 -- The search
+pub mod PlaceLaws
+pub mod OneCall
 pub mod CallLaws
+pub mod WriteLaws
+pub mod EntryLaws
 -- Examples
+pub mod Computed
 pub mod Examples
 pub mod RefusalExamples
+pub mod EntryExamples

@@ -20,7 +20,7 @@ pub agrees-eq : (o : Own Variable (Unit {0})) (l : Nameless) → T (agrees o l) 
 agrees-eq o (own p) t = ap own (own-eq sameVariable variable-eq o p t)
 agrees-eq o (slot z) t = absurd t
 
-agrees-self : (o : Own Variable (Unit {0})) → T (agrees o (own o))
+pub agrees-self : (o : Own Variable (Unit {0})) → T (agrees o (own o))
 agrees-self o = own-refl sameVariable variable-refl o
 
 module _ (h : Handler) where

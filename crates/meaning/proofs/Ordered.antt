@@ -1,18 +1,18 @@
 -- Lists in order: how the lists of marks and of rows come to be ordered, and what is in them.
 --   fronted   each element of one list put before each list of another, the first list slowest
 --   OneOfEach a list with one element of each list, in their order
-use mathlib.Core.Path.{_≡_, refl, ap, sym, subst}
-use mathlib.Core.Logic.{⊎-elim, _↔_}
+use mathlib.Core.Path.{_≡_, refl, ap, ap₂, sym, _∙_, subst}
+use mathlib.Core.Logic.{_⊎_, inl, inr, ⊎-elim, _↔_}
 use Prim.Native.Nat.{ℕ, zero, suc, _<_}
 use mathlib.Core.Bool.{Bool, true, false}
-use mathlib.Core.List.{List, [], _∷_, _++_, map, List·Memᴰ·head, List·Memᴰ·tail, List·Memᴰ·not-nil, List·Memᴰ·eq-of-singleton, List·Memᴰ·append-cases, Memᴰ·append-left, Memᴰ·append-right}
+use mathlib.Core.List.{List, [], _∷_, _++_, map, List·Memᴰ·head, List·Memᴰ·tail, List·Memᴰ·cases-cons, List·Memᴰ·not-nil, List·Memᴰ·eq-of-singleton, List·Memᴰ·append-cases, Memᴰ·append-left, Memᴰ·append-right}
 use mathlib.Core.Option.{none, some}
-use native.Mathlib.Omega.{arith}
 use lib.ListN.{length}
 use Rattle.meaning.specs.Basics.{choose, keep, each, countFrom, upTo, All, _∈_, Distinct}
 use Rattle.meaning.specs.Choice.{Mark, Marks, Before, Earlier, here, later, Ordered, empty, more, marksOf, allMarks}
 use Rattle.meaning.specs.Row.{Row, product, EarlierRow, first, next}
 use Rattle.meaning.proofs.Lists.{mem-map, map-mem, keep-mem, mem-each, each-mem, countFrom-mem, mem-upTo, upTo-mem}
+use Rattle.meaning.proofs.OrderLaws.{Asymmetric, earlier-asymmetric, row-asymmetric}
 
 module _ {A : Type 0} (R : A → A → Type 0) where
   pub append-ordered : (xs ys : List A) → Ordered R xs → Ordered R ys → ((x y : A) → x ∈ xs → y ∈ ys → R x y) → Ordered R (xs ++ ys)
@@ -33,6 +33,33 @@ module _ {A : Type 0} (R : A → A → Type 0) where
   pub ordered-distinct : ((x : A) → R x x → ⊥) → (xs : List A) → Ordered R xs → Distinct xs
   ordered-distinct h [] o = tt
   ordered-distinct h (x ∷ xs) (more g o) = ((λ m. h x (g x m)), ordered-distinct h xs o)
+
+  -- and a list in order is known from its elements
+  same-first : Asymmetric R → (x y : A) (xs ys : List A) → Ordered R (x ∷ xs) → Ordered R (y ∷ ys) → x ∈ (y ∷ ys) → y ∈ (x ∷ xs) → x ≡ y
+  same-first a x y xs ys (more g o) (more h q) i j = go (List·Memᴰ·cases-cons i) (List·Memᴰ·cases-cons j)
+    where
+      go : (x ≡ y) ⊎ (x ∈ ys) → (y ≡ x) ⊎ (y ∈ xs) → x ≡ y
+      go (inl e) w = e
+      go (inr m) (inl e) = sym e
+      go (inr m) (inr n) = absurd (a x y (g y n) (h x m))
+
+  same-rest : Asymmetric R → (x y : A) (xs ys : List A)
+      → x ≡ y → Ordered R (x ∷ xs) → ((z : A) → z ∈ (x ∷ xs) → z ∈ (y ∷ ys)) → (z : A) → z ∈ xs → z ∈ ys
+  same-rest a x y xs ys e (more g o) f z m =
+      ⊎-elim (λ d. absurd (let r : R x x = subst (R x) (d ∙ sym e) (g z m) in a x x r r)) (λ k. k)
+      (List·Memᴰ·cases-cons (f z (List·Memᴰ·tail m)))
+
+  pub ordered-unique : Asymmetric R → (xs ys : List A) → Ordered R xs → Ordered R ys → ((z : A) → (z ∈ xs) ↔ (z ∈ ys)) → xs ≡ ys
+  ordered-unique a [] [] o q f = refl
+  ordered-unique a [] (y ∷ ys) o q f = absurd (List·Memᴰ·not-nil (f y .1 (List·Memᴰ·head refl)))
+  ordered-unique a (x ∷ xs) [] o q f = absurd (List·Memᴰ·not-nil (f x .0 (List·Memᴰ·head refl)))
+  ordered-unique a (x ∷ xs) (y ∷ ys) o q f =
+      let e = same-first a x y xs ys o q (f x .0 (List·Memᴰ·head refl)) (f y .1 (List·Memᴰ·head refl)) in
+      ap₂ _∷_ e (ordered-unique a xs ys (rest o) (rest q)
+      (λ z. (same-rest a x y xs ys e o (λ w. f w .0) z, same-rest a y x ys xs (sym e) q (λ w. f w .1) z)))
+    where
+      rest : {w : A} {ws : List A} → Ordered R (w ∷ ws) → Ordered R ws
+      rest (more h r) = r
 
 module _ {A B : Type 0} (R : A → A → Type 0) (S : B → B → Type 0) where
   pub map-ordered : (f : A → B) → ((x y : A) → R x y → S (f x) (f y)) → (xs : List A) → Ordered R xs → Ordered S (map f xs)
@@ -128,19 +155,6 @@ product-mem : {A : Type 0} (xss : List (List A)) (ys : List A) → ys ∈ produc
 product-mem [] ys h = rw (List·Memᴰ·eq-of-singleton h) tt
 product-mem (xs ∷ xss) ys h = let (z, zs, i, j, e) = fronted-mem ys xs (product xss) h in rw e (i, product-mem xss zs j)
 
--- Nothing is earlier than itself
-before-strict : (m : Mark) → Before m m → ⊥
-before-strict none h = h
-before-strict (some i) h = omega arith
-
-earlier-other : {ms ms′ : Marks} → Earlier ms ms′ → ms ≡ ms′ → ⊥
-earlier-other (here {m} {m′} h) e = before-strict m (let p : m ≡ m′ = cc in rw (← p) at h)
-earlier-other (later {ms = u} {ms′ = v} h) e = earlier-other h (let p : u ≡ v = cc in p)
-
-earlierRow-other : {r r′ : Row} → EarlierRow r r′ → r ≡ r′ → ⊥
-earlierRow-other (first {c} {c′} h) e = earlier-other h (let p : c ≡ c′ = cc in p)
-earlierRow-other (next {r = u} {r′ = v} h) e = earlierRow-other h (let p : u ≡ v = cc in p)
-
 -- Main theorems: all lists of marks, and products
 pub allMarks-ordered : (n k : ℕ) → Ordered Earlier (allMarks n k)
 allMarks-ordered n zero = more (λ y m. absurd (List·Memᴰ·not-nil m)) empty
@@ -158,8 +172,9 @@ product-ordered (xs ∷ xss) h =
 pub product-are : {A : Type 0} (xss : List (List A)) (ys : List A) → (ys ∈ product xss) ↔ OneOfEach xss ys
 product-are xss ys = (product-mem xss ys, mem-product xss ys)
 
+-- Nothing is earlier than itself
 pub earlier-strict : (ms : Marks) → Earlier ms ms → ⊥
-earlier-strict ms h = earlier-other h refl
+earlier-strict ms h = earlier-asymmetric ms ms h h
 
 pub earlierRow-strict : (r : Row) → EarlierRow r r → ⊥
-earlierRow-strict r h = earlierRow-other h refl
+earlierRow-strict r h = row-asymmetric r r h h

@@ -1,35 +1,26 @@
--- Document 01's first example from its bytes, and worked refusals: bytes with the number that refuses them.
+-- Worked refusals: bytes with the number that refuses them, and bytes at the limits that are accepted.
 --   deep     applications of one child, one inside the other, around a field: at depth n + 1 where they are n
 --   times    the same bytes again and again
+--   wide     an application of so many symbols: one node more than these
 use mathlib.Core.Path.{_≡_, refl}
 use Prim.Native.Nat.{ℕ, zero, suc}
-use mathlib.Core.List.{List, [], _∷_, _++_, map}
-use Rattle.meaning.specs.Limits.{maxInput, maxConstraints, maxDepth, metavariableCount, maxFunctions, maxFaceNodes}
+use mathlib.Core.List.{List, [], _∷_, _++_}
+use Rattle.meaning.specs.Limits.{maxDepth}
 use Rattle.meaning.specs.Basics.{All}
-use Rattle.meaning.specs.Problem.{Problem, placesOf, functions, metavariables}
-use Rattle.meaning.specs.Row.{Row, rows, rowBody}
-use Rattle.meaning.specs.Value.{candidate, solves, solutionRows}
-use Rattle.meaning.specs.Field.{Bytes, word, field, encode}
-use Rattle.meaning.specs.Read.{Answer, refused, got, metavariableIn, functionIn, holeIn, kindOf, partsOf, headOf, contentOf, readExactly, readAll, contextBelow, readTerm, readPair, constraintHead, readConstraints, readProblem}
-use Rattle.meaning.specs.Accept.{bothWays, overlarge, checkProblem, accept}
-use Rattle.meaning.specs.Text.{entryOf, textOf, encodeText}
-use Rattle.meaning.specs.Case.{oneSymbol}
-
--- "(P(X), s), s symbol 5, P 0, X 1. Input 07000D06000500050001010100020005"
-abbrev printedInput : Bytes
-printedInput = 0x07 ∷ 0x00 ∷ 0x0D ∷ 0x06 ∷ 0x00 ∷ 0x05 ∷ 0x00 ∷ 0x05 ∷ 0x00 ∷ 0x01 ∷ 0x01 ∷ 0x01 ∷ 0x00 ∷ 0x02 ∷ 0x00 ∷ 0x05 ∷ []
-
--- "090004000A0000080006010100020005"
-abbrev printedFirst : Bytes
-printedFirst = 0x09 ∷ 0x00 ∷ 0x04 ∷ 0x00 ∷ 0x0A ∷ 0x00 ∷ 0x00 ∷ 0x08 ∷ 0x00 ∷ 0x06 ∷ 0x01 ∷ 0x01 ∷ 0x00 ∷ 0x02 ∷ 0x00 ∷ 0x05 ∷ []
-
--- "0900060001000200050B000101"
-abbrev printedSecond : Bytes
-printedSecond = 0x09 ∷ 0x00 ∷ 0x06 ∷ 0x00 ∷ 0x01 ∷ 0x00 ∷ 0x02 ∷ 0x00 ∷ 0x05 ∷ 0x0B ∷ 0x00 ∷ 0x01 ∷ 0x01 ∷ []
+use Rattle.meaning.specs.Problem.{Problem}
+use Rattle.meaning.specs.Row.{rows}
+use Rattle.meaning.specs.Field.{Bytes, field}
+use Rattle.meaning.specs.Read.{refused, got, inBody, readTerm}
+use Rattle.meaning.specs.Accept.{accept}
+use Rattle.meaning.specs.Text.{Item, readText}
+use Rattle.meaning.proofs.Computed.{accepts, texts, reads}
 
 -- Inputs
 abbrev symbolField : Bytes
 symbolField = field 1 (0 ∷ 5 ∷ [])
+
+abbrev otherSymbol : Bytes
+otherSymbol = field 1 (0 ∷ 6 ∷ [])
 
 abbrev metavariableField : ℕ → Bytes
 metavariableField m = field 5 (m ∷ [])
@@ -40,6 +31,12 @@ functionField f argument = field 6 (f ∷ argument)
 abbrev constraintField : Bytes → Bytes → Bytes
 constraintField pattern expression = field 7 (pattern ++ expression)
 
+abbrev withPattern : Bytes → Bytes
+withPattern pattern = constraintField pattern symbolField
+
+abbrev binderField : Bytes → Bytes
+binderField body = field 4 (0 ∷ 1 ∷ 0 ∷ 4 ∷ body)
+
 abbrev deep : ℕ → Bytes → Bytes
 deep zero s = s
 deep (suc n) s = field 3 (deep n s)
@@ -48,10 +45,17 @@ abbrev times : ℕ → Bytes → Bytes
 times zero s = []
 times (suc n) s = s ++ times n s
 
+abbrev wide : ℕ → Bytes
+wide n = field 3 (times n symbolField)
+
 -- Functions 0 to n - 1, each applied to a symbol
 abbrev functionFields : ℕ → Bytes
 functionFields zero = []
 functionFields (suc n) = functionField n symbolField ++ functionFields n
+
+-- (P(s), 65 nodes)
+abbrev largeFace : Bytes
+largeFace = constraintField (functionField 0 symbolField) (wide 64)
 
 abbrev sixteen : Bytes
 sixteen = times 16 (constraintField symbolField symbolField)
@@ -75,70 +79,144 @@ refusals =
     -- a length past the end of the input, and past the end of the field around it
     ∷ by 3 (7 ∷ 0 ∷ 1 ∷ [])
     ∷ by 3 (field 7 (1 ∷ 0 ∷ 2 ∷ 0 ∷ []) ++ symbolField)
+    -- a hole in a pattern, in an argument, in an expression
+    ∷ by 4 (withPattern (field 10 []))
+    ∷ by 4 (withPattern (functionField 0 (field 10 [])))
+    ∷ by 4 (constraintField symbolField (field 10 []))
+    -- 4,096 bytes that begin with tag 0
+    ∷ by 4 (times 4096 (0 ∷ []))
     -- an unknown tag, also below the deepest term, and a 17th field of another tag
     ∷ by 4 (constraintField symbolField (field 8 []))
     ∷ by 4 (constraintField symbolField (deep 32 (field 8 [])))
     ∷ by 4 (sixteen ++ field 8 [])
-    -- a symbol at depth 33
+    -- a symbol at depth 33, in an expression and in a pattern
     ∷ by 5 (constraintField symbolField (deep 32 symbolField))
-    -- an empty application
-    ∷ by 6 (constraintField (field 3 []) symbolField)
-    -- an empty constraint, and bytes left after its two terms
+    ∷ by 5 (withPattern (deep 32 symbolField))
+    -- a symbol and a variable of 1 byte and of 3; a metavariable of none, and of 2 before its number is looked at
+    ∷ by 6 (withPattern (field 1 (0 ∷ [])))
+    ∷ by 6 (withPattern (field 1 (0 ∷ 5 ∷ 0 ∷ [])))
+    ∷ by 6 (withPattern (field 2 (0 ∷ [])))
+    ∷ by 6 (withPattern (field 2 (0 ∷ 5 ∷ 0 ∷ [])))
+    ∷ by 6 (withPattern (field 5 []))
+    ∷ by 6 (withPattern (field 5 (32 ∷ 0 ∷ [])))
+    -- a binder of 3 bytes, a function without its number, an empty application
+    ∷ by 6 (withPattern (field 4 (0 ∷ 1 ∷ 0 ∷ [])))
+    ∷ by 6 (withPattern (field 6 []))
+    ∷ by 6 (withPattern (field 3 []))
+    -- a binder and a function of no term, and of two
+    ∷ by 7 (withPattern (binderField []))
+    ∷ by 7 (withPattern (binderField (symbolField ++ symbolField)))
+    ∷ by 7 (withPattern (functionField 0 []))
+    ∷ by 7 (withPattern (functionField 0 (symbolField ++ symbolField)))
+    -- an empty constraint, one term only, and bytes left after its two terms
     ∷ by 7 (field 7 [])
+    ∷ by 7 (field 7 symbolField)
     ∷ by 7 (field 7 (symbolField ++ (symbolField ++ (0 ∷ []))))
     -- a metavariable in an expression, also below the deepest term
     ∷ by 8 (constraintField symbolField (metavariableField 1))
     ∷ by 8 (constraintField symbolField (deep 32 (metavariableField 1)))
+    -- a function in an expression
+    ∷ by 8 (constraintField symbolField (functionField 0 symbolField))
     -- P(Q(X))
-    ∷ by 9 (constraintField (functionField 0 (functionField 1 (metavariableField 2))) symbolField)
-    -- metavariable 32, before its missing argument
+    ∷ by 9 (withPattern (functionField 0 (functionField 1 (metavariableField 2))))
+    -- metavariable 32, and function 32 before its missing argument
+    ∷ by 10 (withPattern (metavariableField 32))
     ∷ by 10 (field 7 (0x06 ∷ 0x00 ∷ 0x01 ∷ 0x20 ∷ []))
     -- a 17th constraint
     ∷ by 11 (sixteen ++ constraintField symbolField symbolField)
     -- (P(P), a)
-    ∷ by 12 (constraintField (functionField 0 (metavariableField 0)) symbolField)
+    ∷ by 12 (withPattern (functionField 0 (metavariableField 0)))
     -- nine functions
-    ∷ by 13 (constraintField (field 3 (functionFields 9)) symbolField)
-    -- a face of 65 nodes
-    ∷ by 14 (constraintField (functionField 0 symbolField) (field 3 (times 64 symbolField)))
+    ∷ by 13 (withPattern (field 3 (functionFields 9)))
+    -- a face of 65 nodes, also where (X, a), (X, b) leave no solution
+    ∷ by 14 largeFace
+    ∷ by 14 (largeFace ++ (constraintField (metavariableField 1) symbolField ++ constraintField (metavariableField 1) otherSymbol))
     ∷ []
 
 abbrev pub IsRefused : Refusal → Type 0
 IsRefused r = accept (r .input) ≡ refused (r .number)
 
--- At the limits: depth 32, 16 constraints, 8 functions, a face of 64 nodes
+-- At the limits: metavariable 31, depth 32, 16 constraints, 8 functions, a face of 64 nodes
 abbrev pub atLimits : List Bytes
 atLimits =
-    constraintField symbolField (deep 31 symbolField)
+    withPattern (metavariableField 31)
+    ∷ constraintField symbolField (deep 31 symbolField)
     ∷ sixteen
     ∷ constraintField (field 3 (functionFields 8)) symbolField
-    ∷ constraintField (functionField 0 symbolField) (field 3 (times 63 symbolField))
+    ∷ constraintField (functionField 0 symbolField) (wide 63)
     ∷ []
 
 abbrev pub IsAccepted : Bytes → Type 0
 IsAccepted s = (p : Problem) × (accept s ≡ got p)
 
--- Acceptance with all that it computes with: to unfold this is to unfold that
-computed : Bytes → Answer Problem
-unfolding maxInput maxConstraints maxDepth metavariableCount maxFunctions maxFaceNodes placesOf word field metavariableIn functionIn holeIn kindOf partsOf headOf contentOf readExactly readAll contextBelow readTerm readPair constraintHead readConstraints readProblem functions bothWays overlarge checkProblem accept
-computed s = accept s
+-- Texts that are refused
+abbrev value : ℕ → Bytes → Bytes
+value m term = field 8 (m ∷ term)
 
--- The main theorems. The printed input is accepted as (P(X), s)
-pub printed-accepted : accept printedInput ≡ got (oneSymbol .problem)
-unfolding computed
-printed-accepted = refl
+abbrev pub textRefusals : List Refusal
+textRefusals =
+    -- 8,193 bytes
+    by 19 (times 8193 (0 ∷ []))
+    -- 8,192 bytes; a head cut short, a length past the end, another tag
+    ∷ by 20 (times 8192 (0 ∷ []))
+    ∷ by 20 (11 ∷ 0 ∷ [])
+    ∷ by 20 (11 ∷ 0 ∷ 1 ∷ [])
+    ∷ by 20 (field 10 [])
+    -- a value without a number, without a term, with bytes after its term
+    ∷ by 20 (field 8 [])
+    ∷ by 20 (value 1 [])
+    ∷ by 20 (value 1 (symbolField ++ (0 ∷ [])))
+    -- metavariable 32 with a value and open; an open one with a term
+    ∷ by 20 (value 32 symbolField)
+    ∷ by 20 (field 11 (32 ∷ []))
+    ∷ by 20 (field 11 (1 ∷ symbolField))
+    -- a hole in a value, a metavariable and a function in a body
+    ∷ by 20 (value 1 (field 10 []))
+    ∷ by 20 (field 9 (0 ∷ metavariableField 1))
+    ∷ by 20 (field 9 (0 ∷ functionField 1 symbolField))
+    -- a hole that is not empty
+    ∷ by 20 (field 9 (0 ∷ field 10 (0 ∷ [])))
+    -- a symbol at depth 33
+    ∷ by 20 (value 1 (deep 32 symbolField))
+    ∷ []
 
--- Its solution rows' texts are the bytes printed
-pub printed-texts : map (λ (r : Row). encodeText (textOf (oneSymbol .problem) r)) (solutionRows (oneSymbol .problem)) ≡ printedFirst ∷ printedSecond ∷ []
-unfolding metavariableCount placesOf functions metavariables rows rowBody candidate solves solutionRows entryOf textOf word field encode encodeText
-printed-texts = refl
+abbrev pub IsRefusedText : Refusal → Type 0
+IsRefusedText r = readText (r .input) ≡ refused (r .number)
 
--- Each of the refusals is refused with its number
+abbrev pub IsReadText : Bytes → Type 0
+IsReadText s = (is : List Item) × (readText s ≡ got is)
+
+-- The main theorems. Each of the refusals is refused with its number
 pub refusals-hold : All IsRefused refusals
-unfolding computed
-refusals-hold = (refl, (refl, (refl, (refl, (refl, (refl, (refl, (refl, (refl, (refl, (refl, (refl, (refl, (refl, (refl, (refl, (refl, (refl, (refl, (refl, (refl, tt)))))))))))))))))))))
+unfolding accepts
+refusals-hold = (refl, (refl, (refl, (refl, (refl, (refl, (refl, (refl, (refl, (refl, (refl, (refl, (refl, (refl, (refl, (refl, (refl, (refl, (refl, (refl, (refl, (refl, (refl, (refl, (refl, (refl, (refl, (refl, (refl, (refl, (refl, (refl, (refl, (refl, (refl, (refl, (refl, (refl, (refl, (refl, (refl, (refl, tt))))))))))))))))))))))))))))))))))))))))))
+
+pub text-refusals-hold : All IsRefusedText textRefusals
+unfolding reads
+text-refusals-hold = (refl, (refl, (refl, (refl, (refl, (refl, (refl, (refl, (refl, (refl, (refl, (refl, (refl, (refl, (refl, (refl, tt))))))))))))))))
+
+-- In a body, though of a text every refusal becomes 20: "8 tag 5 or 6 in an expression", and a hole that is not empty
+abbrev bodyRefusals : List Refusal
+bodyRefusals = by 8 (metavariableField 1) ∷ by 8 (functionField 0 symbolField) ∷ by 6 (field 10 (0 ∷ [])) ∷ []
+
+pub body-refusals-hold : All (λ (r : Refusal). readTerm maxDepth inBody (r .input) ≡ refused (r .number)) bodyRefusals
+unfolding reads
+body-refusals-hold = (refl, (refl, (refl, tt)))
 
 -- The limits themselves are kept
 pub limits-accepted : All IsAccepted atLimits
-unfolding computed
-limits-accepted = ((_, refl), ((_, refl), ((_, refl), ((_, refl), tt))))
+unfolding accepts
+limits-accepted = ((_, refl), ((_, refl), ((_, refl), ((_, refl), ((_, refl), tt)))))
+
+-- Metavariable 31, a symbol at depth 32, and a body that is a hole
+abbrev textAtLimits : Bytes
+textAtLimits = value 31 (deep 31 symbolField) ++ field 9 (30 ∷ field 10 [])
+
+pub limits-read : IsReadText textAtLimits
+unfolding reads
+limits-read = (_, refl)
+
+-- "14 a face over 64 nodes", only "if shapes agree": (P(s), 65 nodes), (a, b) is accepted and has no rows
+pub large-disagreeing : (p : Problem) × (accept (largeFace ++ constraintField symbolField otherSymbol) ≡ got p) × (rows p ≡ [])
+unfolding accepts texts
+large-disagreeing = (_, refl, refl)

@@ -279,12 +279,16 @@ alpha-nameless u v (chain {v = w} p q) sc = alpha-nameless u w p sc ∙ alpha-na
 pub nameless-alpha : (u v : Forest Named) (sc : List ℕ) → nameless sc u ≡ nameless sc v → Alpha u v
 nameless-alpha u v sc e = nameless-alpha-within (suc (size u)) u v sc (omega arith) e
 
--- So document 01's equality, by indices, is equality up to bound names
-pub equal-is-alpha : (t u : NamedTerm) → EqualWhole t u ↔ Alpha (one t) (one u)
-equal-is-alpha t u = (
-  λ e. nameless-alpha (one t) (one u) [] (ap (λ (w : Term). one w) e),
-  λ a. one-injective (namelessTerm [] t) (namelessTerm [] u) (alpha-nameless (one t) (one u) a []),
+-- So terms of one scope read the same when they are equal up to bound names
+pub scoped-is-alpha : (sc : List ℕ) (t u : NamedTerm) → (namelessTerm sc t ≡ namelessTerm sc u) ↔ Alpha (one t) (one u)
+scoped-is-alpha sc t u = (
+  λ e. nameless-alpha (one t) (one u) sc (ap (λ (w : Term). one w) e),
+  λ a. one-injective (namelessTerm sc t) (namelessTerm sc u) (alpha-nameless (one t) (one u) a sc),
 )
+
+-- Document 01's equality of whole terms, by indices, is equality up to bound names
+pub equal-is-alpha : (t u : NamedTerm) → EqualWhole t u ↔ Alpha (one t) (one u)
+equal-is-alpha t u = scoped-is-alpha [] t u
 
 -- It is an equivalence, of whole terms and of terms each with its own binders outside
 pub whole-refl : (t : NamedTerm) → EqualWhole t t

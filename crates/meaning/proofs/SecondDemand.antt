@@ -1,6 +1,6 @@
 -- The second demand, as far as it concerns definitions: every written text is read back and passes, and every solution has a row whose
 -- text names it. That a text passes exactly when the filling that it names is a solution is the definition `Passes`.
-use mathlib.Core.Path.{_≡_, _∙_, subst}
+use mathlib.Core.Path.{_≡_, refl, _∙_, subst}
 use Prim.Native.Nat.{ℕ, suc, _≤_}
 use mathlib.Core.Bool.{Bool, true, false}
 use mathlib.Core.List.{List, [], _∷_}
@@ -52,9 +52,12 @@ pub text-read-back : (p : Problem) (r : Row) → Accepted p → r ∈ rows p →
 text-read-back p r a i e = read-text (textOf p r) (text-readable p r a i e) (text-fits p r a e)
 
 -- ... AND PASSES, as the row's one solution
-pub text-passes : (p : Problem) (r : Row) → Accepted p → r ∈ rows p → solves p r ≡ true → Passes p (textOf p r)
-text-passes p r a i e =
-    record { filling = candidate p r; says = text-says p r a e; solution = candidate-solution p r (accepted-proper p a) (rows-are p r .0 i) e }
+pub text-passes : (p : Problem) (r : Row) → Accepted p → r ∈ rows p → solves p r ≡ true
+    → (passes : Passes p (textOf p r)) × (passes .filling ≡ candidate p r)
+text-passes p r a i e = (
+  record { filling = candidate p r; says = text-says p r a e; solution = candidate-solution p r (accepted-proper p a) (rows-are p r .0 i) e },
+  refl,
+)
 
 -- EVERY SOLUTION HAS A ROW WHOSE TEXT NAMES IT
 pub record Written (p : Problem) (σ : Filling) : Type 0 where

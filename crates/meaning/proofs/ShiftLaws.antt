@@ -18,10 +18,10 @@ pub ltb-no : (m n : ℕ) → n ≤ m → ltb m n ≡ false
 ltb-no m n h = not-T (λ t. let g : m < n = ltb→lt m n t in omega arith)
 
 -- One variable
-raise-low : (n k i : ℕ) → i < k → raise n k (bound i) ≡ bound i
+pub raise-low : (n k i : ℕ) → i < k → raise n k (bound i) ≡ bound i
 raise-low n k i h = rw (ltb-yes i k h)
 
-raise-high : (n k i : ℕ) → k ≤ i → raise n k (bound i) ≡ bound (i + n)
+pub raise-high : (n k i : ℕ) → k ≤ i → raise n k (bound i) ≡ bound (i + n)
 raise-high n k i h = rw (ltb-no i k h)
 
 sink-low : (n k i : ℕ) → i < k → sink n k (bound i) ≡ some (bound i)

@@ -1,65 +1,167 @@
 -- What a view says of a term.
 --   closed      no variable of the term is bound outside it: its view then says what its indices say, whatever the binders outside are
+--   in a scope  below binders that are told apart the view says what the indices say, so that equality is renaming of bound names there too
 --   two binders a variable that is bound outside is known by its binder, so views tell (∀x.x) ∧ (∀y.y)'s two variables apart
-use mathlib.Core.Path.{_≡_, refl, ap, sym, _∙_}
+use mathlib.Core.Path.{_≡_, refl, ap, ap₂, sym, _∙_, subst}
 use mathlib.Core.Logic.{_↔_}
-use Prim.Native.Nat.{ℕ, suc, _+_, _-_}
+use Prim.Native.Nat.{ℕ, suc, _+_, _-_, _<_}
 use mathlib.Core.Bool.{Bool, true, false, true≢false}
 use mathlib.Core.List.{List, [], _∷_}
 use mathlib.Core.Option.{Option, none, some}
 use native.Mathlib.Omega.{arith}
+use native.Mathlib.Decide.{decLt}
 use lib.ListN.{length, getElem?}
-use lib.Dec.{eqb, ltb, lt→ltb}
+use lib.Dec.{eqb}
 use Rattle.meaning.specs.Basics.{choose}
 use Rattle.meaning.specs.Term.{Forest, nil, cons, graft, one, relabel, symbol, variable, application, binder, Label, own, slot, Named, Variable, free, bound, Nameless, NamedTerm, Terms, Term, inner}
 use Rattle.meaning.specs.Scope.{resolve, enter, namelessLabel, nameless, namelessTerm}
 use Rattle.meaning.specs.Shift.{withVariable, closedVariable, closedLabel, Closed, ClosedTerm}
 use Rattle.meaning.specs.Equal.{Seen, seenFree, inside, outside, see, View, Equal, EqualWhole}
+use Rattle.meaning.specs.Rename.{Alpha}
 use Rattle.meaning.specs.Choice.{Owner, nodeOfFace, views, sameOwned}
-use Rattle.meaning.proofs.Renaming.{cons-eq, one-injective}
-use Rattle.meaning.proofs.Lists.{T-true, choose-true}
+use Rattle.meaning.proofs.Renaming.{cons-eq, one-injective, scoped-is-alpha}
+use Rattle.meaning.proofs.Lists.{never}
+use Rattle.meaning.proofs.Lowered.{see-low, see-high}
 
--- A term with other variables, label by label
-abbrev withVariables : {X Y : Type 0} → (X → Y) → Forest (Label X (Unit {0})) → Forest (Label Y (Unit {0}))
-withVariables f nil = nil
-withVariables f (cons l c s) = cons (withVariable f l) (withVariables f c) (withVariables f s)
+-- The n innermost binders outside are told apart
+abbrev pub TellsApart : {W : Type 0} → ℕ → (ℕ → W) → Type 0
+TellsApart n who = (i j : ℕ) → i < n → j < n → who i ≡ who j → i ≡ j
 
--- A variable seen from outside when nothing is bound there, and back
-abbrev seeClosed : {W : Type 0} → Variable → Seen W
-seeClosed (free x) = seenFree x
-seeClosed (bound i) = inside i
+-- and, by two ways of naming them, told apart alike
+abbrev ToldAlike : {W : Type 0} → ℕ → (ℕ → W) → (ℕ → W) → Type 0
+ToldAlike n who who′ = (i j : ℕ) → i < n → j < n → (who i ≡ who′ j) ↔ (i ≡ j)
 
-abbrev unsee : {W : Type 0} → Seen W → Variable
-unsee (seenFree x) = free x
-unsee (inside i) = bound i
-unsee (outside w) = bound 0
+-- The variable of a label, or x for a label without one
+abbrev variableOr : {X B : Type 0} → X → Label X B → X
+variableOr x (own (symbol n)) = x
+variableOr x (own (variable v)) = v
+variableOr x (own (application n)) = x
+variableOr x (own (binder b y)) = x
+variableOr x (slot z) = x
 
-see-closed : {W : Type 0} (who : ℕ → W) (k : ℕ) (v : Variable) → closedVariable k v → see who k v ≡ seeClosed v
-see-closed who k (free x) h = refl
-see-closed {W} who k (bound i) h = choose-true {b = ltb i k} (inside i) (outside (who (i - k))) (T-true (lt→ltb i k h))
+variable-with : {X Y B : Type 0} (x : X) (f : X → Y) (l : Label X B) → variableOr (f x) (withVariable f l) ≡ f (variableOr x l)
+variable-with x f (own (symbol n)) = refl
+variable-with x f (own (variable v)) = refl
+variable-with x f (own (application n)) = refl
+variable-with x f (own (binder b y)) = refl
+variable-with x f (slot z) = refl
 
-see-closed-label : {W : Type 0} (who : ℕ → W) (k : ℕ) (l : Nameless) → closedLabel k l → _≡_ {A = Label (Seen W) (Unit {0})} (withVariable (see who k) l) (withVariable seeClosed l)
-see-closed-label who k (own (symbol n)) h = refl
-see-closed-label {W} who k (own (variable v)) h = ap (λ (w : Seen W). own (variable w)) (see-closed who k v h)
-see-closed-label who k (own (application n)) h = refl
-see-closed-label who k (own (binder b x)) h = refl
-see-closed-label who k (slot z) h = refl
+-- A label is what it is with another variable, and its own
+rebuilt : {X Y B : Type 0} (x : X) (f : X → Y) (l : Label X B) → withVariable (λ y. variableOr x l) (withVariable f l) ≡ l
+rebuilt x f (own (symbol n)) = refl
+rebuilt x f (own (variable v)) = refl
+rebuilt x f (own (application n)) = refl
+rebuilt x f (own (binder b y)) = refl
+rebuilt x f (slot z) = refl
 
-view-closed : {W : Type 0} (who : ℕ → W) (k : ℕ) (u : Terms) → Closed k u → _≡_ {A = View W} (relabel inner (λ j. withVariable (see who j)) k u) (withVariables seeClosed u)
-view-closed who k nil h = refl
-view-closed who k (cons l c s) h = cons-eq (see-closed-label who k l (h .0)) (view-closed who (inner l k) c (h .1)) (view-closed who k s (h .2))
+closed-variable : (k : ℕ) (l : Nameless) → closedLabel k l → closedVariable k (variableOr (free 0) l)
+closed-variable k (own (symbol n)) h = tt
+closed-variable k (own (variable v)) h = h
+closed-variable k (own (application n)) h = tt
+closed-variable k (own (binder b y)) h = tt
+closed-variable k (slot z) h = tt
 
-unsee-label : (W : Type 0) (l : Nameless) → withVariable unsee (withVariable (seeClosed {W = W}) l) ≡ l
-unsee-label W (own (symbol n)) = refl
-unsee-label W (own (variable (free x))) = refl
-unsee-label W (own (variable (bound i))) = refl
-unsee-label W (own (application n)) = refl
-unsee-label W (own (binder b x)) = refl
-unsee-label W (slot z) = refl
+inner-plus : {X B : Type 0} (n k : ℕ) (l : Label X B) → inner l (k + n) ≡ inner l k + n
+inner-plus n k (own (symbol m)) = refl
+inner-plus n k (own (variable v)) = refl
+inner-plus n k (own (application m)) = refl
+inner-plus n k (own (binder b y)) = omega arith
+inner-plus n k (slot z) = refl
 
-unsee-all : (W : Type 0) (u : Terms) → withVariables unsee (withVariables (seeClosed {W = W}) u) ≡ u
-unsee-all W nil = refl
-unsee-all W (cons l c s) = cons-eq (unsee-label W l) (unsee-all W c) (unsee-all W s)
+module _ {W : Type 0} (n : ℕ) (who who′ : ℕ → W) (told : ToldAlike n who who′) where
+  -- Variables that are bound among the k binders of the term, or the n outside, are seen alike just when they are the same
+  see-alike : (k : ℕ) (v : Variable) → closedVariable (k + n) v → see who k v ≡ see who′ k v
+  see-alike k (free x) h = refl
+  see-alike k (bound i) h = go (decLt i k)
+    where
+      go : Dec (i < k) → see who k (bound i) ≡ see who′ k (bound i)
+      go (yes g) = see-low who k i g ∙ sym (see-low who′ k i g)
+      go (no g) =
+          see-high who k i (omega arith)
+          ∙ ap outside (told (i - k) (i - k) (omega arith) (omega arith) .1 refl)
+          ∙ sym (see-high who′ k i (omega arith))
+
+  see-injective : (k : ℕ) (v w : Variable) → closedVariable (k + n) v → closedVariable (k + n) w → see who k v ≡ see who′ k w → v ≡ w
+  see-injective k (free x) (free y) h g e = ap free (cc)
+  see-injective k (free x) (bound j) h g e = go (decLt j k)
+    where
+      go : Dec (j < k) → free x ≡ bound j
+      go (yes b) = let d : seenFree x ≡ inside j = e ∙ see-low who′ k j b in never (cc)
+      go (no b) = let d : seenFree x ≡ outside (who′ (j - k)) = e ∙ see-high who′ k j (omega arith) in never (cc)
+  see-injective k (bound i) (free y) h g e = go (decLt i k)
+    where
+      go : Dec (i < k) → bound i ≡ free y
+      go (yes a) = let d : inside i ≡ seenFree y = sym (see-low who k i a) ∙ e in never (cc)
+      go (no a) = let d : outside (who (i - k)) ≡ seenFree y = sym (see-high who k i (omega arith)) ∙ e in never (cc)
+  see-injective k (bound i) (bound j) h g e = go (decLt i k) (decLt j k)
+    where
+      go : Dec (i < k) → Dec (j < k) → bound i ≡ bound j
+      go (yes a) (yes b) = let d : inside i ≡ inside j = sym (see-low who k i a) ∙ e ∙ see-low who′ k j b in ap bound (cc)
+      go (yes a) (no b) =
+          let d : inside i ≡ outside (who′ (j - k)) = sym (see-low who k i a) ∙ e ∙ see-high who′ k j (omega arith) in
+          never (cc)
+      go (no a) (yes b) =
+          let d : outside (who (i - k)) ≡ inside j = sym (see-high who k i (omega arith)) ∙ e ∙ see-low who′ k j b in
+          never (cc)
+      go (no a) (no b) =
+          let d : outside (who (i - k)) ≡ outside (who′ (j - k)) =
+          sym (see-high who k i (omega arith)) ∙ e ∙ see-high who′ k j (omega arith) in
+          let q : who (i - k) ≡ who′ (j - k) = cc in
+          let r : i - k ≡ j - k = told (i - k) (j - k) (omega arith) (omega arith) .0 q in
+          ap bound (omega arith)
+
+  label-alike : (k : ℕ) (l : Nameless) → closedLabel (k + n) l
+      → _≡_ {A = Label (Seen W) (Unit {0})} (withVariable (see who k) l) (withVariable (see who′ k) l)
+  label-alike k (own (symbol m)) h = refl
+  label-alike k (own (variable v)) h = ap (λ (w : Seen W). own (variable w)) (see-alike k v h)
+  label-alike k (own (application m)) h = refl
+  label-alike k (own (binder b x)) h = refl
+  label-alike k (slot z) h = refl
+
+  label-injective : (k : ℕ) (l m : Nameless) → closedLabel (k + n) l → closedLabel (k + n) m
+      → _≡_ {A = Label (Seen W) (Unit {0})} (withVariable (see who k) l) (withVariable (see who′ k) m) → l ≡ m
+  label-injective k l m h g e =
+      let v = variableOr (free 0) l in
+      let w = variableOr (free 0) m in
+      let d : see who k v ≡ see who′ k w =
+      sym (variable-with (free 0) (see who k) l) ∙ ap (variableOr (seenFree 0)) e ∙ variable-with (free 0) (see who′ k) m in
+      let q : v ≡ w = see-injective k v w (closed-variable (k + n) l h) (closed-variable (k + n) m g) d in
+      sym (rebuilt (free 0) (see who k) l)
+      ∙ ap₂ (λ (x : Variable) (z : Label (Seen W) (Unit {0})). withVariable (λ y. x) z) q e
+      ∙ rebuilt (free 0) (see who′ k) m
+
+  abbrev seen : (ℕ → W) → ℕ → Terms → View W
+  seen by k u = relabel inner (λ j. withVariable (see by j)) k u
+
+  view-alike : (k : ℕ) (u : Terms) → Closed (k + n) u → seen who k u ≡ seen who′ k u
+  view-alike k nil h = refl
+  view-alike k (cons l c s) h =
+      cons-eq (label-alike k l (h .0))
+      (view-alike (inner l k) c (subst (λ (j : ℕ). Closed j c) (inner-plus n k l) (h .1)))
+      (view-alike k s (h .2))
+
+  view-injective : (k : ℕ) (u v : Terms) → Closed (k + n) u → Closed (k + n) v → seen who k u ≡ seen who′ k v → u ≡ v
+  view-injective k nil nil h g e = refl
+  view-injective k nil (cons l c s) h g e = never (cc)
+  view-injective k (cons l c s) nil h g e = never (cc)
+  view-injective k (cons l c s) (cons l′ c′ s′) h g e =
+      let p : l ≡ l′ = label-injective k l l′ (h .0) (g .0) (cc) in
+      let a : seen who (inner l k) c ≡ seen who′ (inner l′ k) c′ = cc in
+      let b : seen who (inner l k) c ≡ seen who′ (inner l k) c′ = a ∙ ap (λ (m : Nameless). seen who′ (inner m k) c′) (sym p) in
+      let i : Closed (inner l k + n) c = subst (λ (m : ℕ). Closed m c) (inner-plus n k l) (h .1) in
+      let d : inner l′ (k + n) ≡ inner l k + n = ap (λ (m : Nameless). inner m (k + n)) (sym p) ∙ inner-plus n k l in
+      let j : Closed (inner l k + n) c′ = subst (λ (m : ℕ). Closed m c′) d (g .1) in
+      cons-eq p (view-injective (inner l k) c c′ i j b) (view-injective k s s′ (h .2) (g .2) (cc))
+
+  -- So equality of two terms with n binders outside is that of the nameless terms
+  equal-alike : (t u : Term) → Closed n (one t) → Closed n (one u) → Equal who who′ t u ↔ (t ≡ u)
+  equal-alike t u h g = (
+    λ e. one-injective t u (view-injective 0 (one t) (one u) (top t h) (top u g) e),
+    λ e. view-alike 0 (one t) (top t h) ∙ ap (λ (w : Term). seen who′ 0 (one w)) e,
+  )
+    where
+      top : (w : Term) → Closed n (one w) → Closed (0 + n) (one w)
+      top w = subst (λ (k : ℕ). Closed k (one w)) (omega arith)
 
 -- The indices of a resolved variable stay within its scope
 resolve-closed : (sc : List ℕ) (i k x : ℕ) → k ≡ i + length sc → closedVariable k (resolve sc i x)
@@ -88,26 +190,26 @@ nameless-closed sc (cons l c s) = (label l, below l (λ r. nameless-closed r c),
     below (own (binder b x)) ih = ih (x ∷ sc)
     below (slot z) ih = ih sc
 
--- For closed terms equality is that of the nameless terms, whatever the binders outside are
+-- Main theorems. For closed terms equality is that of the nameless terms, whatever the binders outside are
 pub equal-closed : {W : Type 0} (who who′ : ℕ → W) (t u : Term) → ClosedTerm t → ClosedTerm u → Equal who who′ t u ↔ (t ≡ u)
-equal-closed {W} who who′ t u h g = (there, here)
-  where
-    plain : Terms → View W
-    plain = withVariables seeClosed
-
-    there : Equal who who′ t u → t ≡ u
-    there e =
-        let p : plain (one t) ≡ plain (one u) = sym (view-closed who 0 (one t) h) ∙ e ∙ view-closed who′ 0 (one u) g in
-        one-injective t u (sym (unsee-all W (one t)) ∙ ap (withVariables unsee) p ∙ unsee-all W (one u))
-
-    here : t ≡ u → Equal who who′ t u
-    here e = view-closed who 0 (one t) h ∙ ap (λ (w : Term). plain (one w)) e ∙ sym (view-closed who′ 0 (one u) g)
+equal-closed who who′ t u h g = equal-alike 0 who who′ (λ i j a b. absurd (omega arith)) t u h g
 
 -- So whole terms are equal as the bytes have them when they are equal as terms of any surroundings
 pub equal-whole : {W : Type 0} (who who′ : ℕ → W) (t u : NamedTerm) → EqualWhole t u ↔ Equal who who′ (namelessTerm [] t) (namelessTerm [] u)
 equal-whole who who′ t u =
     let r = equal-closed who who′ (namelessTerm [] t) (namelessTerm [] u) (nameless-closed [] (one t)) (nameless-closed [] (one u)) in
     (r .1, r .0)
+
+-- "those bound outside both terms by their binder": below the binders of a scope, when each is told from the others, equality is
+-- equality up to the names that the terms themselves bind
+pub equal-in-scope : {W : Type 0} (who : ℕ → W) (sc : List ℕ) (t u : NamedTerm) → TellsApart (length sc) who
+    → Equal who who (namelessTerm sc t) (namelessTerm sc u) ↔ Alpha (one t) (one u)
+equal-in-scope who sc t u apart =
+    let told : ToldAlike (length sc) who who = λ i j a b. (apart i j a b, λ e. ap who e) in
+    let r =
+    equal-alike (length sc) who who told (namelessTerm sc t) (namelessTerm sc u) (nameless-closed sc (one t)) (nameless-closed sc (one u)) in
+    let q = scoped-is-alpha sc t u in
+    (λ e. q .0 (r .0 e), λ a. r .1 (q .1 a))
 
 -- (∀x.x) ∧ (∀y.y): node 0 is the application, 1 and 3 are the binders, 2 and 4 their variables
 abbrev all-self : Term

@@ -1,5 +1,5 @@
 -- The starred examples of document 01, and those of source document 001, as problems with what each must give.
---   Case    a problem, by its constraints, and the solutions' texts in order
+--   Case    a problem, by its constraints, with the number of its rows and the texts of its solutions
 -- Notation for terms as they are written in document 01: capitals are metavariables, P and Q functions.
 use Prim.Native.Nat.{ℕ}
 use mathlib.Core.List.{List, [], _∷_}
@@ -11,19 +11,21 @@ use Rattle.meaning.specs.Text.{Item}
 
 pub record Case : Type 0 where
   pub problem : Problem
+  pub rowCount : ℕ
+  -- in row order
   pub texts : List (List Item)
 
 abbrev sym : ℕ → NamedTerm
 sym n = (own (symbol n), nil)
 
-abbrev var : ℕ → NamedTerm
+abbrev pub var : ℕ → NamedTerm
 var x = (own (variable x), nil)
 
 abbrev app : List NamedTerm → NamedTerm
 app ts = (own (application (length ts)), forestOf ts)
 
 -- "∀x.t": binder 1
-abbrev all : ℕ → NamedTerm → NamedTerm
+abbrev pub all : ℕ → NamedTerm → NamedTerm
 all x t = (own (binder 1 x), one t)
 
 abbrev meta : ℕ → NamedTerm
@@ -32,14 +34,14 @@ meta m = (slot (metavariable m), nil)
 abbrev call : ℕ → NamedTerm → NamedTerm
 call f t = (slot (function f 1), one t)
 
-abbrev box : NamedTerm
+abbrev pub box : NamedTerm
 box = (slot (hole 0), nil)
 
 abbrev infixed : ℕ → NamedTerm → NamedTerm → NamedTerm
 infixed op t u = app (sym op ∷ t ∷ u ∷ [])
 
 -- Equations, sums, inequations, conjunctions by the number of their symbol
-abbrev equals : NamedTerm → NamedTerm → NamedTerm
+abbrev pub equals : NamedTerm → NamedTerm → NamedTerm
 equals t u = infixed 10 t u
 
 abbrev plus : NamedTerm → NamedTerm → NamedTerm
@@ -77,23 +79,25 @@ isY t = (2, value t)
 
 -- "no constraint: one solution, empty text"
 abbrev pub noConstraint : Case
-noConstraint = record { problem = []; texts = [] ∷ [] }
+noConstraint = record { problem = []; rowCount = 1; texts = [] ∷ [] }
 
 -- "(P(X), s), s symbol 5, P 0, X 1"
 abbrev pub oneSymbol : Case
 oneSymbol = record {
   problem = con (P X) (sym 5) ∷ [];
+  rowCount = 2;
   texts = (bodyP box ∷ isX (sym 5) ∷ []) ∷ (bodyP (sym 5) ∷ openX ∷ []) ∷ [];
 }
 
 -- "(X, a), (X, b): none"
 abbrev pub twoValues : Case
-twoValues = record { problem = con X (sym 6) ∷ con X (sym 7) ∷ []; texts = [] }
+twoValues = record { problem = con X (sym 6) ∷ con X (sym 7) ∷ []; rowCount = 1; texts = [] }
 
 -- "(P(1), 1+1): □+□, □+1, 1+□, 1+1, in this order"
 abbrev pub onePlusOne : Case
 onePlusOne = record {
   problem = con (P (sym 1)) (plus (sym 1) (sym 1)) ∷ [];
+  rowCount = 6;
   texts = (bodyP (plus box box) ∷ []) ∷ (bodyP (plus box (sym 1)) ∷ []) ∷ (bodyP (plus (sym 1) box) ∷ []) ∷ (bodyP (plus (sym 1) (sym 1)) ∷ []) ∷ [];
 }
 
@@ -101,21 +105,23 @@ onePlusOne = record {
 abbrev pub twoApplications : Case
 twoApplications = record {
   problem = con (and (P (sym 1)) (P (sym 2))) (and (unequal (sym 0) (sym 1)) (unequal (sym 0) (sym 2))) ∷ [];
+  rowCount = 5;
   texts = (bodyP (unequal (sym 0) box) ∷ []) ∷ [];
 }
 
 -- "(∀x.X, ∀y.y): none"
 abbrev pub boundValue : Case
-boundValue = record { problem = con (all 3 X) (all 4 (var 4)) ∷ []; texts = [] }
+boundValue = record { problem = con (all 3 X) (all 4 (var 4)) ∷ []; rowCount = 1; texts = [] }
 
 -- "(∀x.P(x), ∀y.a): only the body a"
 abbrev pub unusedVariable : Case
-unusedVariable = record { problem = con (all 3 (P (var 3))) (all 4 (sym 6)) ∷ []; texts = (bodyP (sym 6) ∷ []) ∷ [] }
+unusedVariable = record { problem = con (all 3 (P (var 3))) (all 4 (sym 6)) ∷ []; rowCount = 2; texts = (bodyP (sym 6) ∷ []) ∷ [] }
 
 -- "(P(X), ∀y.y=z): holes at the root, at =, at z, none"
 abbrev pub underBinder : Case
 underBinder = record {
   problem = con (P X) (all 4 (equals (var 4) (var 5))) ∷ [];
+  rowCount = 4;
   texts =
       (bodyP box ∷ isX (all 4 (equals (var 4) (var 5))) ∷ [])
       ∷ (bodyP (all 4 (app (box ∷ var 4 ∷ var 5 ∷ []))) ∷ isX (sym 10) ∷ [])
@@ -128,15 +134,12 @@ underBinder = record {
 abbrev pub notCaught : Case
 notCaught = record {
   problem = con (P X) (all 4 (equals (var 4) (var 5))) ∷ con (P Y) (all 6 (equals (var 6) (var 4))) ∷ [];
+  rowCount = 4;
   texts =
       (bodyP box ∷ isX (all 4 (equals (var 4) (var 5))) ∷ isY (all 6 (equals (var 6) (var 4))) ∷ [])
       ∷ (bodyP (all 4 (equals (var 4) box)) ∷ isX (var 5) ∷ isY (var 4) ∷ [])
       ∷ [];
 }
-
-abbrev pub starred : List Case
-starred =
-    noConstraint ∷ oneSymbol ∷ twoValues ∷ onePlusOne ∷ twoApplications ∷ boundValue ∷ unusedVariable ∷ underBinder ∷ notCaught ∷ []
 
 -- Source document 001: its wrapper w, and the symbols of its examples
 abbrev wrapped : List NamedTerm → NamedTerm
@@ -170,6 +173,7 @@ isCubeRoot t = equals (cubed t) (sym 24)
 abbrev pub conjunction : Case
 conjunction = record {
   problem = con (and X Y) (and (sym 6) (infixed 14 (sym 7) (sym 8))) ∷ [];
+  rowCount = 1;
   texts = (isX (sym 6) ∷ isY (infixed 14 (sym 7) (sym 8)) ∷ []) ∷ [];
 }
 
@@ -177,6 +181,7 @@ conjunction = record {
 abbrev pub twoDifferences : Case
 twoDifferences = record {
   problem = con (infixed 15 (plus X Y) (infixed 16 X Y)) (infixed 15 (plus (sym 3) (var 1)) (infixed 16 (sym 3) (var 2))) ∷ [];
+  rowCount = 1;
   texts = [];
 }
 
@@ -184,6 +189,7 @@ twoDifferences = record {
 abbrev pub tableFirst : Case
 tableFirst = record {
   problem = con (wrapped (all 3 (P (var 3)) ∷ P X ∷ [])) (wrapped (all 4 (squareAbove (var 4)) ∷ squareAbove (sym 9) ∷ [])) ∷ [];
+  rowCount = 11;
   texts = (bodyP (squareAbove box) ∷ isX (sym 9) ∷ []) ∷ [];
 }
 
@@ -191,6 +197,7 @@ tableFirst = record {
 abbrev pub tableSecond : Case
 tableSecond = record {
   problem = con (wrapped (wrapped (X ∷ P X ∷ []) ∷ all 3 (P (var 3)) ∷ [])) (wrapped (wrapped (var 7 ∷ nextBelow (var 7) ∷ []) ∷ all 4 (nextBelow (var 4)) ∷ [])) ∷ [];
+  rowCount = 8;
   texts = (bodyP (nextBelow box) ∷ isX (var 7) ∷ []) ∷ [];
 }
 
@@ -201,6 +208,7 @@ tableThird = record {
       (wrapped (exists 3 (P (var 3)) ∷ all 4 (implies (P (var 4)) X) ∷ X ∷ []))
       (wrapped (exists 3 (isCubeRoot (var 3)) ∷ all 3 (implies (isCubeRoot (var 3)) (less (var 3) (sym 5))) ∷ less (var 3) (sym 5) ∷ []))
       ∷ [];
+  rowCount = 8;
   texts = [];
 }
 
@@ -211,6 +219,7 @@ self x = all x (var x)
 abbrev pub outsideSpelling : Case
 outsideSpelling = record {
   problem = con (P X) (self 4) ∷ con X (self 5) ∷ [];
+  rowCount = 2;
   texts = (bodyP box ∷ isX (self 5) ∷ []) ∷ (bodyP (self 4) ∷ isX (self 5) ∷ []) ∷ [];
 }
 
@@ -218,6 +227,7 @@ outsideSpelling = record {
 abbrev pub lowestSpelling : Case
 lowestSpelling = record {
   problem = con (P X) (equals (self 4) (self 5)) ∷ [];
+  rowCount = 6;
   texts =
       (bodyP box ∷ isX (equals (self 4) (self 5)) ∷ [])
       ∷ (bodyP (app (box ∷ self 4 ∷ self 5 ∷ [])) ∷ isX (sym 10) ∷ [])
@@ -228,5 +238,33 @@ lowestSpelling = record {
       ∷ [];
 }
 
+-- (∀x.X, ∀y.x): the x on the right is free, so X is x
+abbrev pub freeName : Case
+freeName = record { problem = con (all 3 X) (all 4 (var 3)) ∷ []; rowCount = 1; texts = (isX (var 3) ∷ []) ∷ [] }
+
+-- (∀x.P(x), ∀y.y): the choice without a hole is a row, and no solution, since its body would have a variable bound outside itself
+abbrev pub onlyBound : Case
+onlyBound = record { problem = con (all 3 (P (var 3))) (all 4 (var 4)) ∷ []; rowCount = 2; texts = (bodyP box ∷ []) ∷ [] }
+
+-- (P(X)∧Q(X), a∧b): where P's body has no hole, the value comes from Q's
+abbrev Q : NamedTerm → NamedTerm
+Q t = call 3 t
+
+abbrev bodyQ : NamedTerm → Item
+bodyQ t = (3, body t)
+
+abbrev pub secondApplication : Case
+secondApplication = record {
+  problem = con (and (P X) (Q X)) (and (sym 6) (sym 7)) ∷ [];
+  rowCount = 4;
+  texts =
+      (bodyP box ∷ isX (sym 6) ∷ bodyQ (sym 7) ∷ [])
+      ∷ (bodyP (sym 6) ∷ isX (sym 7) ∷ bodyQ box ∷ [])
+      ∷ (bodyP (sym 6) ∷ openX ∷ bodyQ (sym 7) ∷ [])
+      ∷ [];
+}
+
 abbrev pub further : List Case
-further = outsideSpelling ∷ lowestSpelling ∷ conjunction ∷ twoDifferences ∷ tableFirst ∷ tableSecond ∷ tableThird ∷ []
+further =
+    outsideSpelling ∷ lowestSpelling ∷ conjunction ∷ twoDifferences ∷ tableFirst ∷ tableSecond ∷ tableThird
+    ∷ freeName ∷ onlyBound ∷ secondApplication ∷ []

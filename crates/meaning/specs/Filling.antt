@@ -6,7 +6,7 @@
 -- values and bodies are closed, so that they need no shift.
 use mathlib.Core.Path.{_≡_}
 use Prim.Native.Nat.{ℕ, zero, suc, _<_}
-use Rattle.meaning.specs.Term.{nil, cons, graft, own, slot, Slot, metavariable, function, hole, Nameless, Terms, Term, inner}
+use Rattle.meaning.specs.Term.{Forest, nil, cons, Tree, graft, Label, own, slot, Slot, metavariable, function, hole, Nameless, Terms, Term, inner}
 use Rattle.meaning.specs.Shift.{shiftTerm}
 
 abbrev pub Handler : Type 0
@@ -33,7 +33,7 @@ abbrev pub plug : (ℕ → Term) → Term → Term
 plug arguments b = fillTerm (plugHandler arguments) 0 b
 
 -- Argument i of a function application, by its children
-abbrev pub argument : Terms → ℕ → Term
+abbrev pub argument : {X B : Type 0} → Forest (Label X B) → ℕ → Tree (Label X B)
 argument nil i = (slot (hole i), nil)
 argument (cons l c s) zero = (l, c)
 argument (cons l c s) (suc i) = argument s i
@@ -49,13 +49,13 @@ abbrev pub Filling : Type 0
 Filling = ℕ → Entry Term
 
 -- A metavariable without a value, and a function without a body, stay as they are
-abbrev pub valueOr : ℕ → Entry Term → Term
+abbrev pub valueOr : {X B : Type 0} → ℕ → Entry (Tree (Label X B)) → Tree (Label X B)
 valueOr m absent = (slot (metavariable m), nil)
 valueOr m leftOpen = (slot (metavariable m), nil)
 valueOr m (value t) = t
 valueOr m (body t) = (slot (metavariable m), nil)
 
-abbrev pub bodyOr : ℕ → Entry Term → Term
+abbrev pub bodyOr : {X B : Type 0} → ℕ → Entry (Tree (Label X B)) → Tree (Label X B)
 bodyOr f absent = (slot (function f 0), nil)
 bodyOr f leftOpen = (slot (function f 0), nil)
 bodyOr f (value t) = (slot (function f 0), nil)

@@ -15,15 +15,23 @@ pub mod Readable
 -- Fillings
 pub mod Filling
 pub mod Solution
+pub mod Textual
 -- Faces, choices and rows
 pub mod Face
+pub mod Agree
 pub mod Choice
 pub mod Row
+pub mod Difference
 pub mod Value
 -- Solution texts
 pub mod Text
+pub mod Passing
 -- The search
 pub mod Search
+pub mod PlaceValue
+-- The entry points, and lists of calls
+pub mod Entry
 pub mod Calls
 -- Examples
 pub mod Case
+pub mod Starred

@@ -1,0 +1,25 @@
+-- What examples compute with: to unfold one of these is to unfold all that it rests on.
+--   accepts   acceptance
+--   texts     the texts of a problem's solution rows, as bytes
+--   reads     reading of a text
+use mathlib.Core.List.{List, map}
+use Rattle.meaning.specs.Limits.{maxInput, maxConstraints, maxDepth, metavariableCount, maxFunctions, maxFaceNodes, maxText}
+use Rattle.meaning.specs.Problem.{Problem, placesOf, functions, metavariables}
+use Rattle.meaning.specs.Row.{Row, rows, rowBody}
+use Rattle.meaning.specs.Value.{candidate, solves, solutionRows}
+use Rattle.meaning.specs.Field.{Bytes, word, field, encode}
+use Rattle.meaning.specs.Read.{Answer, metavariableIn, functionIn, holeIn, kindOf, partsOf, headOf, contentOf, readExactly, readAll, contextBelow, readTerm, readPair, constraintHead, readConstraints, readProblem}
+use Rattle.meaning.specs.Accept.{bothWays, overlarge, checkProblem, accept}
+use Rattle.meaning.specs.Text.{Item, entryOf, textOf, encodeText, readNumbered, readOpen, readItem, readItems, readText}
+
+unfoldable pub accepts : Bytes → Answer Problem
+unfolding maxInput maxConstraints maxDepth metavariableCount maxFunctions maxFaceNodes word field metavariableIn functionIn holeIn kindOf partsOf headOf contentOf readExactly readAll contextBelow readTerm readPair constraintHead readConstraints readProblem placesOf functions bothWays overlarge checkProblem accept
+accepts s = accept s
+
+unfoldable pub texts : Problem → List Bytes
+unfolding metavariableCount placesOf functions metavariables rows rowBody candidate solves solutionRows entryOf textOf word field encode encodeText
+texts p = map (λ (r : Row). encodeText (textOf p r)) (solutionRows p)
+
+unfoldable pub reads : Bytes → Answer (List Item)
+unfolding maxText maxDepth metavariableCount word field metavariableIn functionIn holeIn kindOf partsOf headOf contentOf readExactly readAll contextBelow readTerm readNumbered readOpen readItem readItems readText
+reads s = readText s

@@ -1,0 +1,222 @@
+-- The entry points on document 01's first example, (P(X), s), and on (∀x.P(x), ∀y.y), one of whose two rows is no solution row: every kind of
+-- answer, and every refusal from 15 on.
+use mathlib.Core.Path.{_≡_, refl, ap, sym, _∙_, subst}
+use mathlib.Core.Logic.{_⊎_, inl, inr, ⊎-elim}
+use Prim.Native.Nat.{ℕ}
+use mathlib.Core.Bool.{Bool, true, false, true≢false}
+use mathlib.Core.List.{List, [], _∷_, _++_, List·Memᴰ·head, List·Memᴰ·tail, List·Memᴰ·cases-cons, List·Memᴰ·not-nil}
+use mathlib.Core.Option.{none, some}
+use native.Mathlib.Omega.{arith}
+use lib.ListN.{getD, replicate}
+use Rattle.meaning.specs.Limits.{maxFunctions, maxFaceNodes}
+use Rattle.meaning.specs.Basics.{All, _∈_}
+use Rattle.meaning.specs.Problem.{Problem}
+use Rattle.meaning.specs.Row.{Row, rows}
+use Rattle.meaning.specs.Field.{Bytes}
+use Rattle.meaning.specs.Read.{Answer, refused, got}
+use Rattle.meaning.specs.Accept.{accept}
+use Rattle.meaning.specs.Search.{Place, at, past, found, end, refusedCall, finds, ends}
+use Rattle.meaning.specs.PlaceValue.{maskOf, PlaceValue, masksOf, placeValue, Names}
+use Rattle.meaning.specs.Passing.{passes}
+use Rattle.meaning.specs.Entry.{SearchCall, notAccepted, noAllowance, noSuchPlace, searches, WriteCall, noSuchRow, noSolutionRow, tooShort, writes, checkCall}
+use Rattle.meaning.specs.Case.{oneSymbol, onlyBound}
+use Rattle.meaning.specs.Starred.{hex}
+use Rattle.meaning.proofs.ChoiceLaws.{rows-are}
+use Rattle.meaning.proofs.Computed.{accepts, texts, reads}
+
+abbrev one : Bytes
+one = hex 16 0x07000D06000500050001010100020005
+
+abbrev p : Problem
+p = oneSymbol .problem
+
+abbrev two : Bytes
+two = hex 31 0x07001C04000D00010003060006000200020003040009000100040200020004
+
+abbrev q : Problem
+q = onlyBound .problem
+
+one-accepted : accept one ≡ got p
+unfolding accepts
+one-accepted = refl
+
+two-accepted : accept two ≡ got q
+unfolding accepts
+two-accepted = refl
+
+-- Both problems have a face of one node, and so two rows: the node is a hole, or it is none
+abbrev holeRow : Row
+holeRow = (some 0 ∷ []) ∷ []
+
+abbrev bareRow : Row
+bareRow = (none ∷ []) ∷ []
+
+rows-one : rows p ≡ holeRow ∷ bareRow ∷ []
+unfolding texts
+rows-one = refl
+
+rows-two : rows q ≡ holeRow ∷ bareRow ∷ []
+unfolding texts
+rows-two = refl
+
+-- Their values: "node set as a 64-bit mask", node 0 the highest bit
+abbrev valueWith : ℕ → PlaceValue
+valueWith mask = record { masks = mask ∷ 0 ∷ 0 ∷ 0 ∷ 0 ∷ 0 ∷ 0 ∷ 0 ∷ []; isPast = false }
+
+abbrev pastValue : PlaceValue
+pastValue = record { masks = 0 ∷ 0 ∷ 0 ∷ 0 ∷ 0 ∷ 0 ∷ 0 ∷ 0 ∷ []; isPast = true }
+
+hole-value : placeValue (at holeRow) ≡ valueWith 0x8000000000000000
+unfolding placeValue masksOf maskOf maxFunctions maxFaceNodes
+hole-value = refl
+
+bare-value : placeValue (at bareRow) ≡ valueWith 0
+unfolding placeValue masksOf maskOf maxFunctions maxFaceNodes
+bare-value = refl
+
+past-value : placeValue past ≡ pastValue
+unfolding placeValue maxFunctions
+past-value = refl
+
+named-in : (p : Problem) (r : Row) (v : PlaceValue) → r ∈ rows p → placeValue (at r) ≡ v → Names p v (at r)
+named-in p r v m e = record { isPlace = rows-are p r .0 m; isValue = sym e }
+
+hole-named : Names p (valueWith 0x8000000000000000) (at holeRow)
+hole-named = named-in p holeRow _ (subst (λ (l : List Row). holeRow ∈ l) (sym rows-one) (List·Memᴰ·head refl)) hole-value
+
+bare-named : (p : Problem) → rows p ≡ holeRow ∷ bareRow ∷ [] → Names p (valueWith 0) (at bareRow)
+bare-named p e =
+    named-in p bareRow _ (subst (λ (l : List Row). bareRow ∈ l) (sym e) (List·Memᴰ·tail (List·Memᴰ·head refl))) bare-value
+
+-- A mask of a node that the face does not have names nothing
+first-mask : {v w : PlaceValue} → v ≡ w → getD (v .masks) 0 0 ≡ getD (w .masks) 0 0
+first-mask e = ap (λ (v : PlaceValue). getD (v .masks) 0 0) e
+
+nowhere : (place : Place Row) → Names p (valueWith 1) place → ⊥
+nowhere past n = true≢false (sym (ap (λ (v : PlaceValue). v .isPast) (n .isValue ∙ past-value)))
+nowhere (at r) n =
+    go (List·Memᴰ·cases-cons (subst (λ (l : List Row). r ∈ l) rows-one (rows-are p r .1 (n .isPlace))))
+  where
+    other : (s : Row) (mask : ℕ) → r ≡ s → placeValue (at s) ≡ valueWith mask → 1 ≡ mask
+    other s mask e f = first-mask (n .isValue ∙ ap (λ (x : Row). placeValue (at x)) e ∙ f)
+
+    go : (r ≡ holeRow) ⊎ (r ∈ bareRow ∷ []) → ⊥
+    go (inl e) = let z = other holeRow 0x8000000000000000 e hole-value in omega arith
+    go (inr m) =
+        ⊎-elim
+        (λ (e : r ≡ bareRow). let z : _≡_ {A = ℕ} 1 0 = other bareRow 0 e bare-value in omega arith)
+        (λ (x : r ∈ []). List·Memᴰ·not-nil x)
+        (List·Memᴰ·cases-cons m)
+
+-- Searching: "Found: the first solution row at or after the place, and the place after it"
+pub first-found : SearchCall one (valueWith 0x8000000000000000) 1 (found (valueWith 0x8000000000000000) (valueWith 0))
+unfolding texts placeValue masksOf maskOf maxFunctions maxFaceNodes
+first-found =
+    searches p one-accepted (omega arith) (at holeRow) hole-named (holeRow ∷ bareRow ∷ [])
+    (record { before = []; whole = rows-one; begins = refl })
+    (finds [] holeRow (bareRow ∷ []) tt refl (omega arith))
+
+-- "End: none there; the place is past the last"
+pub end-found : SearchCall one pastValue 1 (end pastValue)
+unfolding texts placeValue maxFunctions
+end-found =
+    searches p one-accepted (omega arith) past (record { isPlace = tt; isValue = refl }) []
+    (record { before = holeRow ∷ bareRow ∷ []; whole = rows-one; begins = refl })
+    (ends [] tt (omega arith))
+
+-- ... also where n is one and the one row left is no solution row
+pub last-row : SearchCall two (valueWith 0) 1 (end pastValue)
+unfolding texts placeValue maxFunctions
+last-row =
+    searches q two-accepted (omega arith) (at bareRow) (bare-named q rows-two) (bareRow ∷ [])
+    (record { before = holeRow ∷ []; whole = rows-two; begins = refl })
+    (ends (bareRow ∷ []) (refl, tt) (omega arith))
+
+-- 1 to 14 come first, then "15 n is 0; 16 no such place"
+pub refused-first : SearchCall (7 ∷ []) (valueWith 1) 0 (refusedCall 2)
+unfolding accepts
+refused-first = notAccepted 2 refl
+
+pub fifteen-first : SearchCall one (valueWith 1) 0 (refusedCall 15)
+fifteen-first = noAllowance p one-accepted refl
+
+pub sixteen : SearchCall one (valueWith 1) 1 (refusedCall 16)
+sixteen = noSuchPlace p one-accepted (omega arith) nowhere
+
+-- Writing: 16, "past the last included"; 17; 18; and a text before a byte that stays
+row-flag : (r : Row) → placeValue (at r) .isPast ≡ false
+unfolding placeValue
+row-flag r = refl
+
+pub past-not-written : WriteCall one pastValue (0 ∷ []) (refused 16) (0 ∷ [])
+past-not-written =
+    noSuchRow p one-accepted (λ r n. true≢false (ap (λ (v : PlaceValue). v .isPast) (n .isValue) ∙ row-flag r))
+
+pub seventeen : WriteCall two (valueWith 0) (0 ∷ []) (refused 17) (0 ∷ [])
+unfolding texts
+seventeen = noSolutionRow q two-accepted bareRow (bare-named q rows-two) refl
+
+pub eighteen : WriteCall one (valueWith 0) (replicate 12 0) (refused 18) (replicate 12 0)
+unfolding texts
+eighteen = tooShort p one-accepted bareRow (bare-named p rows-one) refl (omega arith)
+
+pub written : WriteCall one (valueWith 0) (replicate 14 0) (got 13) (hex 13 0x0900060001000200050B000101 ++ (0 ∷ []))
+unfolding texts
+written = writes p one-accepted bareRow (bare-named p rows-one) refl (omega arith)
+
+-- Checking
+pub record Verdict : Type 0 where
+  pub input : Bytes
+  pub text : Bytes
+  pub answer : Answer Bool
+
+abbrev says : Answer Bool → Bytes → Verdict
+says answer text = record { input = one; text = text; answer = answer }
+
+abbrev pub verdicts : List Verdict
+verdicts =
+    -- a yes, in either order of the fields, and whatever the bound names: (X, ∀y.y)
+    says (got true) (hex 16 0x090004000A0000080006010100020005)
+    ∷ says (got true) (hex 13 0x0900060001000200050B000101)
+    ∷ says (got true) (hex 13 0x0B000101090006000100020005)
+    ∷ record {
+      input = hex 19 0x07001005000101040009000100040200020004;
+      text = hex 16 0x08000D01040009000100070200020007;
+      answer = got true;
+    }
+    -- X missing, doubled, and a foreign metavariable
+    ∷ says (got false) (hex 9 0x090006000100020005)
+    ∷ says (got false) (hex 17 0x0900060001000200050B0001010B000101)
+    ∷ says (got false) (hex 17 0x0900060001000200050B0001010B000102)
+    -- a body for X, a value for P
+    ∷ says (got false) (hex 16 0x090004000A0000090006010100020005)
+    ∷ says (got false) (hex 13 0x0800060001000200050B000101)
+    -- a value where none is needed, and none where one is
+    ∷ says (got false) (hex 18 0x090006000100020005080006010100020005)
+    ∷ says (got false) (hex 11 0x090004000A00000B000101)
+    -- another value
+    ∷ says (got false) (hex 16 0x090004000A0000080006010100020006)
+    -- 1 to 14, then 19, then 20
+    ∷ record { input = 7 ∷ []; text = replicate 8193 0; answer = refused 2 }
+    ∷ says (refused 19) (replicate 8193 0)
+    ∷ says (refused 20) (0 ∷ [])
+    ∷ []
+
+abbrev pub IsSaid : Verdict → Type 0
+IsSaid v = checkCall (v .input) (v .text) ≡ v .answer
+
+pub verdicts-hold : All IsSaid verdicts
+unfolding accepts reads passes checkCall
+verdicts-hold = (refl, (refl, (refl, (refl, (refl, (refl, (refl, (refl, (refl, (refl, (refl, (refl, (refl, (refl, (refl, tt)))))))))))))))
+
+-- A problem without rows, (a, b): no masks name a row of it, empty ones neither
+no-row-named : (p : Problem) (mask : ℕ) → rows p ≡ [] → (place : Place Row) → Names p (valueWith mask) place → ⊥
+no-row-named p mask e past n = true≢false (sym (ap (λ (v : PlaceValue). v .isPast) (n .isValue ∙ past-value)))
+no-row-named p mask e (at r) n = List·Memᴰ·not-nil (subst (λ (l : List Row). r ∈ l) e (rows-are p r .1 (n .isPlace)))
+
+abbrev apart : Bytes
+apart = hex 13 0x07000A01000200060100020007
+
+pub no-rows-no-place : (p : Problem) × (accept apart ≡ got p) × (rows p ≡ []) × SearchCall apart (valueWith 0) 1 (refusedCall 16)
+unfolding accepts texts
+no-rows-no-place = (_, refl, refl, noSuchPlace _ refl (omega arith) (no-row-named _ 0 refl))

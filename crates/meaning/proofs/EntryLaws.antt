@@ -1,0 +1,96 @@
+-- The second demand of the entry points: what is written passes, and for every text that passes there is a row whose text names the same
+-- filling.
+use mathlib.Core.Path.{_≡_, refl, ap, sym, _∙_, subst, fun-ext}
+use mathlib.Core.Logic.{_↔_}
+use Prim.Native.Nat.{ℕ}
+use mathlib.Core.Bool.{Bool, true}
+use mathlib.Core.List.{List, _++_}
+use lib.ListN.{length, take}
+use lib.Seq.{take-at}
+use Rattle.meaning.specs.Basics.{All, _∈_}
+use Rattle.meaning.specs.Problem.{Problem}
+use Rattle.meaning.specs.Filling.{Filling}
+use Rattle.meaning.specs.Row.{Row, rows, IsRow}
+use Rattle.meaning.specs.Value.{solves}
+use Rattle.meaning.specs.Field.{Bytes}
+use Rattle.meaning.specs.Read.{Answer, refused, got}
+use Rattle.meaning.specs.Readable.{Accepted}
+use Rattle.meaning.specs.Accept.{accept}
+use Rattle.meaning.specs.Text.{Item, textOf, readText, Says, Passes}
+use Rattle.meaning.specs.Passing.{passes}
+use Rattle.meaning.specs.Search.{at}
+use Rattle.meaning.specs.PlaceValue.{PlaceValue, placeValue, Names}
+use Rattle.meaning.specs.Entry.{rowText, WriteCall, notAccepted, noSuchRow, noSolutionRow, tooShort, writes, checkCall}
+use Rattle.meaning.proofs.ByteLaws.{Byte, got-is, refused-not}
+use Rattle.meaning.proofs.ChoiceLaws.{rows-are}
+use Rattle.meaning.proofs.ProblemReading.{accept-accepted}
+use Rattle.meaning.proofs.SecondDemand.{text-read-back, text-passes, Written, solution-written}
+use Rattle.meaning.proofs.PassLaws.{passes-is-right}
+
+check-read : (s text : Bytes) (p : Problem) (is : List Item) → accept s ≡ got p → readText text ≡ got is → checkCall s text ≡ got (passes p is)
+unfolding checkCall
+check-read s text p is a r = rw (a, r)
+
+-- THE CHECKER SAYS YES exactly to the texts that pass
+pub check-is-right : (s text : Bytes) (p : Problem) (is : List Item) → accept s ≡ got p → readText text ≡ got is
+    → (checkCall s text ≡ got true) ↔ Passes p is
+check-is-right s text p is a r =
+    let e = check-read s text p is a r in
+    (λ h. passes-is-right p is .0 (got-is (sym e ∙ h)), λ h. e ∙ ap got (passes-is-right p is .1 h))
+
+-- WHAT IS WRITTEN PASSES: the text of the row that the place names
+pub record WrittenText (s : Bytes) (v : PlaceValue) (n : ℕ) (after : Bytes) : Type 0 where
+  pub problem : Problem
+  pub row : Row
+  pub accepted : accept s ≡ got problem
+  pub named : Names problem v (at row)
+  pub text : take n after ≡ rowText problem row
+  pub yes : checkCall s (take n after) ≡ got true
+
+row-text-passes : (s : Bytes) (p : Problem) (r : Row) → All Byte s → accept s ≡ got p → IsRow p r → solves p r ≡ true
+    → checkCall s (rowText p r) ≡ got true
+row-text-passes s p r b e i h =
+    let a : Accepted p = accept-accepted s p b e .0 in
+    let m : r ∈ rows p = rows-are p r .1 i in
+    check-is-right s (rowText p r) p (textOf p r) e (text-read-back p r a m h) .1 (text-passes p r a m h .0)
+
+pub written-passes : (s : Bytes) (v : PlaceValue) (buffer after : Bytes) (n : ℕ)
+    → All Byte s → WriteCall s v buffer (got n) after → WrittenText s v n after
+written-passes s v buffer after n b w = go w refl
+  where
+    go : {a : Answer ℕ} {end : Bytes} → WriteCall s v buffer a end → a ≡ got n → WrittenText s v n end
+    go (notAccepted q e) z = absurd (refused-not z)
+    go (noSuchRow p e none) z = absurd (refused-not z)
+    go (noSolutionRow p e q m h) z = absurd (refused-not z)
+    go (tooShort p e q m h l) z = absurd (refused-not z)
+    go (writes p e r m h l) z =
+        let front = take-at (rowText p r) _ n (got-is z) in
+        record {
+          problem = p;
+          row = r;
+          accepted = e;
+          named = m;
+          text = front;
+          yes = ap (checkCall s) front ∙ row-text-passes s p r b e (m .isPlace) h;
+        }
+
+-- FOR EVERY TEXT THAT PASSES there is a row whose text, when it is written, names the same filling
+pub record RowOfText (p : Problem) (is : List Item) : Type 0 where
+  pub row : Row
+  pub value : PlaceValue
+  pub named : Names p value (at row)
+  pub isSolutionRow : solves p row ≡ true
+  pub sameFilling : (σ : Filling) → Says is σ → Says (textOf p row) σ
+
+pub passing-written : (s text : Bytes) (p : Problem) (is : List Item)
+    → All Byte s → accept s ≡ got p → readText text ≡ got is → checkCall s text ≡ got true → RowOfText p is
+passing-written s text p is b e r h =
+    let x : Passes p is = check-is-right s text p is e r .0 h in
+    let w : Written p (x .filling) = solution-written p (x .filling) (accept-accepted s p b e .0) (x .solution) in
+    record {
+      row = w .row;
+      value = placeValue (at (w .row));
+      named = record { isPlace = rows-are p (w .row) .0 (w .isRow); isValue = refl };
+      isSolutionRow = w .isSolutionRow;
+      sameFilling = λ σ y. subst (Says (textOf p (w .row))) (fun-ext (λ m. x .says .names m ∙ sym (y .names m))) (w .says);
+    }
