@@ -5,8 +5,9 @@
 use mathlib.Core.List.{List, map}
 use Rattle.meaning.specs.Limits.{maxInput, maxConstraints, maxDepth, metavariableCount, maxFunctions, maxFaceNodes, maxText}
 use Rattle.meaning.specs.Problem.{Problem, placesOf, functions, metavariables}
-use Rattle.meaning.specs.Row.{Row, rows, rowBody}
-use Rattle.meaning.specs.Value.{candidate, solves, solutionRows}
+use Rattle.meaning.specs.Row.{Row, rowBody}
+use Rattle.meaning.specs.Rows.{rows}
+use Rattle.meaning.specs.Candidate.{candidate, solves, solutionRows}
 use Rattle.meaning.specs.Field.{Bytes, word, field, encode}
 use Rattle.meaning.specs.Read.{Answer, metavariableIn, functionIn, holeIn, kindOf, partsOf, headOf, contentOf, readExactly, readAll, contextBelow, readTerm, readPair, constraintHead, readConstraints, readProblem}
 use Rattle.meaning.specs.Accept.{bothWays, overlarge, checkProblem, accept}

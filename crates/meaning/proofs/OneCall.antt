@@ -9,8 +9,9 @@ use native.Mathlib.Omega.{arith}
 use lib.ListN.{length, length-append}
 use Rattle.meaning.specs.Basics.{All, Distinct, _∈_}
 use Rattle.meaning.specs.Problem.{Problem}
-use Rattle.meaning.specs.Row.{Row, rows}
-use Rattle.meaning.specs.Value.{solves}
+use Rattle.meaning.specs.Row.{Row}
+use Rattle.meaning.specs.Rows.{rows}
+use Rattle.meaning.specs.Candidate.{solves}
 use Rattle.meaning.specs.Field.{Bytes}
 use Rattle.meaning.specs.Read.{Answer, refused, got}
 use Rattle.meaning.specs.Accept.{accept}

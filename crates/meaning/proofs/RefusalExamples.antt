@@ -8,7 +8,7 @@ use mathlib.Core.List.{List, [], _∷_, _++_}
 use Rattle.meaning.specs.Limits.{maxDepth}
 use Rattle.meaning.specs.Basics.{All}
 use Rattle.meaning.specs.Problem.{Problem}
-use Rattle.meaning.specs.Row.{rows}
+use Rattle.meaning.specs.Rows.{rows}
 use Rattle.meaning.specs.Field.{Bytes, field}
 use Rattle.meaning.specs.Read.{refused, got, inBody, readTerm}
 use Rattle.meaning.specs.Accept.{accept}

@@ -9,7 +9,8 @@ use mathlib.Core.Option.{Option, none, some}
 use native.Mathlib.Omega.{arith}
 use Rattle.meaning.specs.Basics.{choose, each, upTo, AllO, _∈_, andThen, orNone}
 use Rattle.meaning.specs.Term.{nil, cons, one, trees, Slot, metavariable, function, hole, Terms, Term, IsExpression}
-use Rattle.meaning.specs.Shift.{shiftTerm, lowerTerm}
+use Rattle.meaning.specs.Shift.{shiftTerm}
+use Rattle.meaning.specs.Lower.{lowerTerm}
 use Rattle.meaning.specs.Problem.{plain}
 use Rattle.meaning.specs.Filling.{Handler, fill, fillTerm, plugHandler, plug, argument, Entry, absent, leftOpen, value, body, Filling, valueOr, bodyOr, fillHandler, IsBody}
 use Rattle.meaning.specs.Solution.{hasHole}

@@ -3,7 +3,7 @@
 --   Agree      the same nodes all the way down, except below a slot of the pattern
 -- "If they disagree anywhere, the problem has no rows."
 use Prim.Native.Nat.{ℕ}
-use Rattle.meaning.specs.Term.{nil, cons, Own, symbol, variable, application, binder, own, slot, Slot, Variable, free, bound, Nameless, Terms}
+use Rattle.meaning.specs.Term.{Nameless, Own, Slot, Terms, Variable, application, binder, bound, cons, free, nil, own, slot, symbol, variable}
 
 -- "Kinds .. must agree"
 pub data SameNode : Own Variable (Unit {0}) → Own Variable (Unit {0}) → Type 0 where

@@ -8,11 +8,11 @@ use mathlib.Core.Bool.{Bool, false}
 use mathlib.Core.List.{List, [], _∷_}
 use mathlib.Core.Option.{Option, none, some}
 use lib.Dec.{eqb}
-use Rattle.meaning.specs.Basics.{choose, join, guard}
-use Rattle.meaning.specs.Term.{nil, cons, size, Own, own, slot, Slot, metavariable, function, hole, Variable, Nameless, Terms, Term, inner}
-use Rattle.meaning.specs.Equal.{sameOwn, sameVariable}
-use Rattle.meaning.specs.Problem.{Problem, patterns, expressions}
+use Rattle.meaning.specs.Basics.{choose, guard, join}
+use Rattle.meaning.specs.Term.{Nameless, Own, Slot, Term, Terms, Variable, cons, function, hole, inner, metavariable, nil, own, size, slot}
+use Rattle.meaning.specs.Problem.{Problem, expressions, patterns}
 use Rattle.meaning.specs.Filling.{Handler, fill}
+use Rattle.meaning.specs.Same.{sameOwn, sameVariable}
 
 pub record Face : Type 0 where
   pub under : ℕ

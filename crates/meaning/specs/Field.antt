@@ -4,7 +4,7 @@ use Prim.Native.Nat.{ℕ, _/_, _%_}
 use mathlib.Core.List.{List, [], _∷_, _++_}
 use lib.ListN.{length}
 use Rattle.meaning.specs.Basics.{each}
-use Rattle.meaning.specs.Term.{Forest, nil, cons, one, symbol, variable, application, binder, own, slot, metavariable, function, hole, Named}
+use Rattle.meaning.specs.Term.{Forest, Named, application, binder, cons, function, hole, metavariable, nil, one, own, slot, symbol, variable}
 use Rattle.meaning.specs.Problem.{Constraint, Problem}
 
 abbrev pub Bytes : Type 0

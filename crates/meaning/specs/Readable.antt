@@ -6,12 +6,12 @@
 use mathlib.Core.Path.{_≡_}
 use Prim.Native.Nat.{ℕ, zero, suc, _<_, _≤_}
 use lib.ListN.{length}
-use Rattle.meaning.specs.Limits.{maxInput, maxConstraints, maxDepth, metavariableCount}
+use Rattle.meaning.specs.Limits.{maxConstraints, maxDepth, maxInput, metavariableCount}
 use Rattle.meaning.specs.Basics.{All}
-use Rattle.meaning.specs.Term.{Forest, nil, cons, one, trees, symbol, variable, application, binder, own, slot, metavariable, function, hole, Named}
+use Rattle.meaning.specs.Term.{Forest, Named, application, binder, cons, function, hole, metavariable, nil, one, own, slot, symbol, trees, variable}
 use Rattle.meaning.specs.Problem.{Constraint, Problem}
 use Rattle.meaning.specs.Field.{encodeProblem}
-use Rattle.meaning.specs.Read.{got, Context, inPattern, inArgument, inExpression, inBody, contextBelow}
+use Rattle.meaning.specs.Read.{Context, contextBelow, got, inArgument, inBody, inExpression, inPattern}
 use Rattle.meaning.specs.Accept.{checkProblem}
 
 -- Where tags 5, 6 and 10 may stand

@@ -10,18 +10,19 @@ use mathlib.Core.Option.{Option, none, some}
 use lib.ListN.{length, drop, getD}
 use lib.Dec.{eqb, ltb}
 use Rattle.meaning.specs.Limits.{maxDepth, maxText, metavariableCount}
-use Rattle.meaning.specs.Basics.{choose, each, orNone, Distinct}
-use Rattle.meaning.specs.Term.{nil, one, nodeAt, slot, hole, NamedTerm, Term}
+use Rattle.meaning.specs.Basics.{Distinct, choose, each, orNone}
+use Rattle.meaning.specs.Term.{NamedTerm, Term, hole, nil, nodeAt, one, slot}
 use Rattle.meaning.specs.Scope.{namelessTerm}
-use Rattle.meaning.specs.Problem.{Problem, namedExpressions, isFunction, functions, metavariables}
-use Rattle.meaning.specs.Filling.{Entry, absent, leftOpen, value, body, Filling}
+use Rattle.meaning.specs.Problem.{Problem, functions, isFunction, metavariables, namedExpressions}
+use Rattle.meaning.specs.Field.{Bytes, encode, field}
+use Rattle.meaning.specs.Read.{Answer, Context, Parts, after, got, inBody, inExpression, partsOf, readTerm, refused}
+use Rattle.meaning.specs.Filling.{Entry, Filling, absent, body, leftOpen, value}
 use Rattle.meaning.specs.Solution.{Solution}
 use Rattle.meaning.specs.Face.{Face, faces, firstFace}
-use Rattle.meaning.specs.Row.{Row, choiceIn, punchTerm}
-use Rattle.meaning.specs.Value.{Source, sources, lookup}
-use Rattle.meaning.specs.Field.{Bytes, field, encode}
+use Rattle.meaning.specs.Choice.{punchTerm}
+use Rattle.meaning.specs.Row.{Row, choiceIn}
+use Rattle.meaning.specs.Value.{Source, lookup, sources}
 use Rattle.meaning.specs.Readable.{Readable}
-use Rattle.meaning.specs.Read.{Answer, refused, got, after, Context, inExpression, inBody, Parts, partsOf, readTerm}
 
 abbrev pub Item : Type 0
 Item = ℕ × Entry NamedTerm
