@@ -13,7 +13,8 @@ use Rattle.meaning.specs.Term.{nil, cons, size, one, Terms, Term}
 use Rattle.meaning.specs.Equal.{View}
 use Rattle.meaning.specs.Problem.{Problem, placesOf, functions}
 use Rattle.meaning.specs.Face.{Face, faces}
-use Rattle.meaning.specs.Choice.{Mark, Marks, Owner, below, viewsFrom, views, usesFace, setSize, Apart, Choice, Earlier, Ordered, empty}
+use Rattle.meaning.specs.Choice.{Mark, Marks, Owner, below, viewsFrom, views, usesFace, setSize, Apart, Choice, Earlier}
+use Rattle.meaning.specs.Difference.{Ordered, empty}
 use Rattle.meaning.specs.Choices.{isPlace, chosen, sameOwned, allSame, fitsPlace, areApart, isChoice, allMarks, choices}
 use Rattle.meaning.specs.Row.{Row, faceOf, ChoiceEach, IsRow, EarlierRow}
 use Rattle.meaning.specs.Rows.{rowsOver, rows}

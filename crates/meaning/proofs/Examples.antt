@@ -12,7 +12,8 @@ use Rattle.meaning.specs.Rows.{rows}
 use Rattle.meaning.specs.Candidate.{solutionRows}
 use Rattle.meaning.specs.Read.{got}
 use Rattle.meaning.specs.Accept.{accept}
-use Rattle.meaning.specs.Text.{textOf, encodeText, readText}
+use Rattle.meaning.specs.Text.{textOf, readText}
+use Rattle.meaning.specs.Encoded.{encodeText}
 use Rattle.meaning.specs.Case.{Case, further}
 use Rattle.meaning.specs.Starred.{Starred, starred}
 use Rattle.meaning.proofs.Computed.{accepts, texts, reads}

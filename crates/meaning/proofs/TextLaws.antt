@@ -23,8 +23,8 @@ use Rattle.meaning.specs.Rows.{rows}
 use Rattle.meaning.specs.Value.{Source, sources, lookup}
 use Rattle.meaning.specs.Candidate.{given, candidate, isClosedEntry, solves}
 use Rattle.meaning.specs.Read.{Context, inExpression, inBody, contextBelow}
-use Rattle.meaning.specs.Readable.{NodeFits, Readable, ReadableConstraint, Accepted}
-use Rattle.meaning.specs.Text.{Item, termOr, termAt, faceNode, writtenBody, writtenValue, entryOf, textOf, meant, said, Says, ReadableEntry, ReadableItem}
+use Rattle.meaning.specs.Readable.{NodeFits, Readable, ReadableConstraint, Accepted, ReadableEntry, ReadableItem}
+use Rattle.meaning.specs.Text.{Item, termOr, termAt, faceNode, writtenBody, writtenValue, entryOf, textOf, meant, said, Says}
 use Rattle.meaning.proofs.Lists.{never, true-T, keep-distinct, eqb-eq, eqb-self, eqb-other, by-test, choose-true, choose-false, keep-mem, isIn-mem, mem-isIn, not-isIn, upTo-mem, all-mem, mem-all, distinct-countFrom}
 use Rattle.meaning.proofs.ShiftLaws.{test-closed}
 use Rattle.meaning.proofs.ChoiceLaws.{rows-are}

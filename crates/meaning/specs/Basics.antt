@@ -95,3 +95,6 @@ guard false w = none
 abbrev pub AllO : {A : Type 0} → (A → Type 0) → Option (List A) → Type 0
 AllO P none = ⊥
 AllO P (some xs) = All P xs
+
+abbrev pub Bytes : Type 0
+Bytes = List ℕ

@@ -10,9 +10,8 @@ use mathlib.Core.Path.{_≡_}
 use Prim.Native.Nat.{ℕ, zero, suc, _+_, _<_}
 use mathlib.Core.List.{List, [], _∷_, _++_, map}
 use lib.ListN.{length, take}
-use Rattle.meaning.specs.Basics.{holds, _∈_}
+use Rattle.meaning.specs.Basics.{Bytes, holds, _∈_}
 use Rattle.meaning.specs.Problem.{Problem}
-use Rattle.meaning.specs.Field.{Bytes}
 use Rattle.meaning.specs.Read.{got}
 use Rattle.meaning.specs.Filling.{Filling}
 use Rattle.meaning.specs.Row.{Row}

@@ -8,7 +8,7 @@ use mathlib.Core.Bool.{Bool, true, false, _||_}
 use mathlib.Core.List.{List, [], _∷_, _++_}
 use mathlib.Core.Option.{Option, none, some}
 use lib.ListN.{length, drop, getElem?}
-use Rattle.meaning.specs.Basics.{holds, ifSome, _∈_}
+use Rattle.meaning.specs.Basics.{holds, ifSome}
 use Rattle.meaning.specs.Term.{Forest, Label, Nameless, Term, Terms, Tree, binderOf, cons, function, hole, metavariable, nil, one, own, size, slot, variableOf}
 use Rattle.meaning.specs.Equal.{Seen, View, inside, outside, seenFree, view}
 
@@ -110,11 +110,6 @@ Before (some i) (some j) = i < j
 pub data Earlier : Marks → Marks → Type 0 where
   here : {m m′ : Mark} {ms ms′ : Marks} → Before m m′ → Earlier (m ∷ ms) (m′ ∷ ms′)
   later : {m : Mark} {ms ms′ : Marks} → Earlier ms ms′ → Earlier (m ∷ ms) (m ∷ ms′)
-
--- A list in order: each element stands in R to all that come after it
-pub data Ordered {A : Type 0} (R : A → A → Type 0) : List A → Type 0 where
-  empty : Ordered R []
-  more : {x : A} {xs : List A} → ((y : A) → y ∈ xs → R x y) → Ordered R xs → Ordered R (x ∷ xs)
 
 -- A tree with these nodes as holes
 abbrev pub punchTop : {X B : Type 0} → Mark → Label X B → Forest (Label X B) → Tree (Label X B)

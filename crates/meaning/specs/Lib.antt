@@ -7,7 +7,6 @@ pub mod Term
 pub mod Scope
 pub mod Equal
 pub mod Problem
-pub mod Field
 pub mod Read
 -- Fillings
 pub mod Shift
@@ -28,6 +27,8 @@ pub mod PlaceValue
 pub mod Entry
 pub mod Calls
 -- Computed forms
+pub mod Field
+pub mod Encoded
 pub mod Same
 pub mod ClosedTest
 pub mod Lower

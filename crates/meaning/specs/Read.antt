@@ -9,10 +9,9 @@ use mathlib.Core.List.{[], _∷_}
 use lib.ListN.{length, take, drop, getD}
 use lib.Dec.{eqb, ltb}
 use Rattle.meaning.specs.Limits.{maxConstraints, maxDepth, maxInput, metavariableCount}
-use Rattle.meaning.specs.Basics.{choose}
+use Rattle.meaning.specs.Basics.{Bytes, choose}
 use Rattle.meaning.specs.Term.{Forest, Named, NamedTerm, application, binder, function, graft, hole, metavariable, nil, own, slot, symbol, trees, variable}
 use Rattle.meaning.specs.Problem.{Constraint, Problem}
-use Rattle.meaning.specs.Field.{Bytes}
 
 pub data Answer (A : Type 0) : Type 0 where
   refused : ℕ → Answer A

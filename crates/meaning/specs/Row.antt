@@ -1,7 +1,7 @@
 -- Rows: one choice for each function.
 --   Row          "one choice for each function, by ascending metavariable number"
 --   IsRow        a row of a problem, in document 01's words
---   rows         all of them, "ordered by the first function that differs"; none where a shape disagrees
+--   EarlierRow   "rows are ordered by the first function that differs"
 --   SolutionRow  "a solution row if some solution has these bodies"
 use mathlib.Core.Path.{_≡_}
 use Prim.Native.Nat.{ℕ}

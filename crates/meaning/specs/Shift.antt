@@ -1,6 +1,5 @@
--- Moving a nameless term under more binders, and back.
+-- Moving a nameless term under more binders.
 --   shift n k   n more binders around a term that has k of its own around it: the indices from k on rise by n
---   lower n k   the inverse, where there is one: an index from k up to k + n belongs to one of the n binders that go
 --   closed k    no index reaches past the k binders around the term: "no variable bound outside themselves" is closed 0
 use Prim.Native.Nat.{ℕ, _+_, _<_}
 use lib.Dec.{ltb}

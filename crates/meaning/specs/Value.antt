@@ -1,8 +1,6 @@
--- Where the values of a row come from, and the full list.
---   Source     a metavariable, and a node of the expressions whose subexpression it stands for
---   candidate  the one filling that a row can be the solution row of
---   solves     whether it is a solution
---   fullList   "its solution rows in row order, each with its one solution"
+-- Where the values of a row come from.
+--   Source    a metavariable, and a node of the expressions whose subexpression it stands for
+--   sources   those of a row, in the order in which they are asked: the first of a metavariable's is the one that its value is copied from
 use Prim.Native.Nat.{ℕ}
 use mathlib.Core.Bool.{Bool, false}
 use mathlib.Core.List.{List, [], _∷_, _++_}
