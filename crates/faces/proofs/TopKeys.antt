@@ -10,7 +10,8 @@ use lib.Dec.{eqb}
 use borrow.Author.Tests.{eq-eqb, ne-eqb}
 use Rattle.meaning.specs.Term.{Forest, size, trees, Own, symbol, variable, application, binder, own, Named, Variable, free, bound}
 use Rattle.meaning.specs.Scope.{resolve, namelessLabel}
-use Rattle.meaning.specs.Equal.{Seen, seenFree, inside, outside, see, sameOwn, sameVariable}
+use Rattle.meaning.specs.Equal.{Seen, seenFree, inside, outside, see}
+use Rattle.meaning.specs.Same.{sameOwn, sameVariable}
 use Rattle.meaning.specs.Face.{agrees}
 use Rattle.meaning.specs.Read.{Context}
 use Rattle.meaning.specs.Readable.{NodeFits}

@@ -12,7 +12,7 @@ use Rattle.meaning.specs.Term.{nil, cons, size, Own, symbol, variable, a
 use Rattle.meaning.specs.Problem.{Problem, patterns, expressions}
 use Rattle.meaning.specs.Face.{Face, agrees, meet, walk, faces}
 use Rattle.meaning.specs.Agree.{SameNode, symbols, freeVariables, boundVariables, applications, binders, Agree, ends, nodes, isMet}
-use Rattle.meaning.specs.Row.{rowsOver, rows}
+use Rattle.meaning.specs.Rows.{rowsOver, rows}
 use Rattle.meaning.proofs.Lockstep.{agrees-eq, agrees-self}
 
 -- Answers: both, or a guarded one

@@ -6,9 +6,11 @@ use mathlib.Core.Path.{_≡_, refl, ap, ap₂, subst}
 use mathlib.Core.Logic.{_↔_}
 use mathlib.Core.Bool.{Bool, true, _&&_}
 use lib.Dec.{eqb, eqb→eq, eqb-refl, T}
-use Rattle.meaning.specs.Term.{Forest, nil, cons, alike, symbol, variable, application, binder, metavariable, function, hole, own, slot, free, bound, Terms}
-use Rattle.meaning.specs.Equal.{seenFree, inside, outside, View, sameSlot, sameOwn, sameLabel, sameVariable, sameSeen, sameTerms}
-use Rattle.meaning.specs.Choice.{Owner, nodeOfFace, aboveFace, sameOwner, sameOwned}
+use Rattle.meaning.specs.Term.{Forest, nil, cons, symbol, variable, application, binder, metavariable, function, hole, own, slot, free, bound, Terms}
+use Rattle.meaning.specs.Same.{alike, sameSlot, sameOwn, sameLabel, sameVariable, sameSeen, sameTerms}
+use Rattle.meaning.specs.Equal.{seenFree, inside, outside, View}
+use Rattle.meaning.specs.Choice.{Owner, nodeOfFace, aboveFace}
+use Rattle.meaning.specs.Choices.{sameOwner, sameOwned}
 use Rattle.meaning.proofs.Lists.{T-true, true-T, and-T, T-and}
 
 abbrev pub Sound : {A : Type 0} → (A → A → Bool) → Type 0

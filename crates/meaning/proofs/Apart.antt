@@ -11,7 +11,8 @@ use lib.Dec.{eqb, eqb→eq, T}
 use Rattle.meaning.specs.Term.{nil, cons, one, size, Nameless, Terms, Term, inner}
 use Rattle.meaning.specs.Shift.{withVariable}
 use Rattle.meaning.specs.Equal.{View, see, view}
-use Rattle.meaning.specs.Choice.{Marks, Owner, ownerOf, below, viewsFrom, views, setSize, Apart, Choice, areApart}
+use Rattle.meaning.specs.Choice.{Marks, Owner, ownerOf, below, viewsFrom, views, setSize, Apart, Choice}
+use Rattle.meaning.specs.Choices.{areApart}
 use Rattle.meaning.proofs.Lists.{never, true-T, and-T, T-and, at-append}
 use Rattle.meaning.proofs.ShiftLaws.{relabel-size}
 use Rattle.meaning.proofs.ChoiceLaws.{length-views, test-apart, apart-test}

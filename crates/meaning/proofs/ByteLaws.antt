@@ -10,8 +10,8 @@ use lib.ListN.{length, take, drop, getD, length-append, take-append-drop}
 use lib.Seq.{length-take-le, take-at, drop-at, drop-drop}
 use lib.Dec.{eqb, ltb}
 use borrow.Author.Tests.{ltb-false, le-ltb, ne-eqb}
-use Rattle.meaning.specs.Basics.{choose, All}
-use Rattle.meaning.specs.Field.{Bytes, word, field}
+use Rattle.meaning.specs.Basics.{choose, All, Bytes}
+use Rattle.meaning.specs.Field.{word, field}
 use Rattle.meaning.specs.Read.{Answer, refused, got, after, wordAt, Parts, partsOf}
 use Rattle.meaning.proofs.Lists.{never, append-all, all-append}
 

@@ -9,12 +9,12 @@ use mathlib.Core.List.{List, [], _∷_, _++_, map, map-map, append-assoc, append
 use native.Mathlib.Omega.{arith}
 use lib.ListN.{length, take, length-append}
 use lib.Seq.{append-snoc, take-nil}
-use Rattle.meaning.specs.Basics.{keep, All, _∈_}
+use Rattle.meaning.specs.Basics.{keep, All, _∈_, Bytes}
 use Rattle.meaning.specs.Problem.{Problem}
 use Rattle.meaning.specs.Filling.{Filling}
-use Rattle.meaning.specs.Row.{Row, rows}
-use Rattle.meaning.specs.Value.{candidate, solves, solutionRows, fullList}
-use Rattle.meaning.specs.Field.{Bytes}
+use Rattle.meaning.specs.Row.{Row}
+use Rattle.meaning.specs.Rows.{rows}
+use Rattle.meaning.specs.Candidate.{candidate, solves, solutionRows, fullList}
 use Rattle.meaning.specs.Read.{got}
 use Rattle.meaning.specs.Accept.{accept}
 use Rattle.meaning.specs.Search.{Place, at, past, placeOf, start, Reply, found, end, paused, refusedCall, Keeps, finds, ends, pauses, From}

@@ -16,7 +16,8 @@ use Rattle.meaning.specs.Filling.{fill, argument, Entry, absent, value, 
 use Rattle.meaning.specs.Solution.{hasHole, needs, Idle, Solution}
 use Rattle.meaning.specs.Face.{Face}
 use Rattle.meaning.specs.Row.{Row, rowBody, HasBodies}
-use Rattle.meaning.specs.Value.{Source, sourceOf, fromApplication, sourcesIn, sources, lookup, given, candidate}
+use Rattle.meaning.specs.Value.{Source, sourceOf, fromApplication, sourcesIn, sources, lookup}
+use Rattle.meaning.specs.Candidate.{given, candidate}
 use Rattle.meaning.proofs.Lists.{never, by-test, choose-true, choose-false, eqb-eq, eqb-self, mem-each, each-mem, isIn-mem, mem-isIn, not-isIn}
 use Rattle.meaning.proofs.Proper.{IsArgument, Proper, applied-functions}
 use Rattle.meaning.proofs.Slots.{slots, standingAt, slot-face, slot-standing, standing-slot, in-arguments, arguments-in, faced-slot, faced-expression, faced-shape, faced-applied}

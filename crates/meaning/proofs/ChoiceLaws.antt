@@ -13,8 +13,11 @@ use Rattle.meaning.specs.Term.{nil, cons, size, one, Terms, Term}
 use Rattle.meaning.specs.Equal.{View}
 use Rattle.meaning.specs.Problem.{Problem, placesOf, functions}
 use Rattle.meaning.specs.Face.{Face, faces}
-use Rattle.meaning.specs.Choice.{Mark, Marks, Owner, below, viewsFrom, views, usesFace, setSize, Apart, Choice, isPlace, chosen, sameOwned, allSame, fitsPlace, areApart, isChoice, Earlier, Ordered, empty, allMarks, choices}
-use Rattle.meaning.specs.Row.{Row, faceOf, rowsOver, rows, ChoiceEach, IsRow, EarlierRow}
+use Rattle.meaning.specs.Choice.{Mark, Marks, Owner, below, viewsFrom, views, usesFace, setSize, Apart, Choice, Earlier}
+use Rattle.meaning.specs.Difference.{Ordered, empty}
+use Rattle.meaning.specs.Choices.{isPlace, chosen, sameOwned, allSame, fitsPlace, areApart, isChoice, allMarks, choices}
+use Rattle.meaning.specs.Row.{Row, faceOf, ChoiceEach, IsRow, EarlierRow}
+use Rattle.meaning.specs.Rows.{rowsOver, rows}
 use Rattle.meaning.proofs.Lists.{never, T-true, true-T, and-T, T-and, eqb-self, eqb-eq, mem-keep, keep-mem, mem-upTo, all-mem, mem-all, every-all, all-every, at-mem, mem-at}
 use Rattle.meaning.proofs.Alike.{sameOwned-eq, sameOwned-refl}
 use Rattle.meaning.proofs.Ordered.{keep-ordered, ordered-distinct, Placed, allMarks-ordered, allMarks-are, OneOfEach, product-ordered, product-are, earlier-strict, earlierRow-strict}

@@ -5,12 +5,15 @@
 use mathlib.Core.List.{List, map}
 use Rattle.meaning.specs.Limits.{maxInput, maxConstraints, maxDepth, metavariableCount, maxFunctions, maxFaceNodes, maxText}
 use Rattle.meaning.specs.Problem.{Problem, placesOf, functions, metavariables}
-use Rattle.meaning.specs.Row.{Row, rows, rowBody}
-use Rattle.meaning.specs.Value.{candidate, solves, solutionRows}
-use Rattle.meaning.specs.Field.{Bytes, word, field, encode}
+use Rattle.meaning.specs.Row.{Row, rowBody}
+use Rattle.meaning.specs.Rows.{rows}
+use Rattle.meaning.specs.Candidate.{candidate, solves, solutionRows}
+use Rattle.meaning.specs.Basics.{Bytes}
+use Rattle.meaning.specs.Field.{word, field, encode}
 use Rattle.meaning.specs.Read.{Answer, metavariableIn, functionIn, holeIn, kindOf, partsOf, headOf, contentOf, readExactly, readAll, contextBelow, readTerm, readPair, constraintHead, readConstraints, readProblem}
 use Rattle.meaning.specs.Accept.{bothWays, overlarge, checkProblem, accept}
-use Rattle.meaning.specs.Text.{Item, entryOf, textOf, encodeText, readNumbered, readOpen, readItem, readItems, readText}
+use Rattle.meaning.specs.Text.{Item, entryOf, textOf, readNumbered, readOpen, readItem, readItems, readText}
+use Rattle.meaning.specs.Encoded.{encodeText}
 
 unfoldable pub accepts : Bytes → Answer Problem
 unfolding maxInput maxConstraints maxDepth metavariableCount maxFunctions maxFaceNodes word field metavariableIn functionIn holeIn kindOf partsOf headOf contentOf readExactly readAll contextBelow readTerm readPair constraintHead readConstraints readProblem placesOf functions bothWays overlarge checkProblem accept

@@ -10,9 +10,11 @@ use lib.ListN.{getElem?}
 use Rattle.meaning.specs.Basics.{_∈_}
 use Rattle.meaning.specs.Term.{Term}
 use Rattle.meaning.specs.Problem.{Problem}
-use Rattle.meaning.specs.Choice.{Mark, Marks, Choice, Before, Earlier, Ordered, choices}
-use Rattle.meaning.specs.Row.{Row, rows, IsRow, EarlierRow}
-use Rattle.meaning.specs.Difference.{FirstDifference, ByFirst, HasNode, Compared}
+use Rattle.meaning.specs.Choice.{Mark, Marks, Choice, Before, Earlier}
+use Rattle.meaning.specs.Difference.{Ordered, FirstDifference, ByFirst, HasNode, Compared}
+use Rattle.meaning.specs.Choices.{choices}
+use Rattle.meaning.specs.Row.{Row, IsRow, EarlierRow}
+use Rattle.meaning.specs.Rows.{rows}
 use Rattle.meaning.proofs.OrderLaws.{earlier-words, earlier-asymmetric, earlier-compared, row-asymmetric}
 use Rattle.meaning.proofs.Ordered.{ordered-unique}
 use Rattle.meaning.proofs.ChoiceLaws.{at-other, choices-are, choices-ordered, rows-are, rows-ordered}

@@ -9,10 +9,10 @@ use mathlib.Core.Option.{none, some}
 use native.Mathlib.Omega.{arith}
 use lib.ListN.{getD, replicate}
 use Rattle.meaning.specs.Limits.{maxFunctions, maxFaceNodes}
-use Rattle.meaning.specs.Basics.{All, _∈_}
+use Rattle.meaning.specs.Basics.{All, _∈_, Bytes}
 use Rattle.meaning.specs.Problem.{Problem}
-use Rattle.meaning.specs.Row.{Row, rows}
-use Rattle.meaning.specs.Field.{Bytes}
+use Rattle.meaning.specs.Row.{Row}
+use Rattle.meaning.specs.Rows.{rows}
 use Rattle.meaning.specs.Read.{Answer, refused, got}
 use Rattle.meaning.specs.Accept.{accept}
 use Rattle.meaning.specs.Search.{Place, at, past, found, end, refusedCall, finds, ends}

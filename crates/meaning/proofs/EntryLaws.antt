@@ -7,12 +7,12 @@ use mathlib.Core.Bool.{Bool, true}
 use mathlib.Core.List.{List, _++_}
 use lib.ListN.{length, take}
 use lib.Seq.{take-at}
-use Rattle.meaning.specs.Basics.{All, _∈_}
+use Rattle.meaning.specs.Basics.{All, _∈_, Bytes}
 use Rattle.meaning.specs.Problem.{Problem}
 use Rattle.meaning.specs.Filling.{Filling}
-use Rattle.meaning.specs.Row.{Row, rows, IsRow}
-use Rattle.meaning.specs.Value.{solves}
-use Rattle.meaning.specs.Field.{Bytes}
+use Rattle.meaning.specs.Row.{Row, IsRow}
+use Rattle.meaning.specs.Rows.{rows}
+use Rattle.meaning.specs.Candidate.{solves}
 use Rattle.meaning.specs.Read.{Answer, refused, got}
 use Rattle.meaning.specs.Readable.{Accepted}
 use Rattle.meaning.specs.Accept.{accept}

@@ -7,11 +7,13 @@ use Rattle.meaning.specs.Basics.{All}
 use Rattle.meaning.specs.Term.{nil, one, symbol, variable, application, binder, own, slot, hole, bound, Term}
 use Rattle.meaning.specs.Problem.{forestOf}
 use Rattle.meaning.specs.Filling.{plug}
-use Rattle.meaning.specs.Row.{Row, rows}
-use Rattle.meaning.specs.Value.{solutionRows}
+use Rattle.meaning.specs.Row.{Row}
+use Rattle.meaning.specs.Rows.{rows}
+use Rattle.meaning.specs.Candidate.{solutionRows}
 use Rattle.meaning.specs.Read.{got}
 use Rattle.meaning.specs.Accept.{accept}
-use Rattle.meaning.specs.Text.{textOf, encodeText, readText}
+use Rattle.meaning.specs.Text.{textOf, readText}
+use Rattle.meaning.specs.Encoded.{encodeText}
 use Rattle.meaning.specs.Case.{Case, further}
 use Rattle.meaning.specs.Starred.{Starred, starred}
 use Rattle.meaning.proofs.Computed.{accepts, texts, reads}

@@ -8,9 +8,10 @@ use mathlib.Core.Option.{Option}
 use lib.Dec.{T}
 use Rattle.meaning.specs.Basics.{AllO}
 use Rattle.meaning.specs.Term.{nil, cons, Own, own, slot, Variable, Nameless, Terms, Term, size, inner}
-use Rattle.meaning.specs.Equal.{sameVariable}
+use Rattle.meaning.specs.Same.{sameVariable}
 use Rattle.meaning.specs.Filling.{Handler, fillLabel, fill}
-use Rattle.meaning.specs.Face.{Face, agrees, meet, walk, Satisfied}
+use Rattle.meaning.specs.Face.{Face, agrees, meet, walk}
+use Rattle.meaning.specs.Agree.{Satisfied}
 use Rattle.meaning.proofs.Lists.{never, join-in, join-out, guard-in, guard-out}
 use Rattle.meaning.proofs.Alike.{variable-eq, variable-refl, own-eq, own-refl}
 use Rattle.meaning.proofs.ShiftLaws.{pair-eq}

@@ -10,9 +10,9 @@ use lib.ListN.{length, getD, length-append}
 use lib.Dec.{eqb, ltb}
 use borrow.Author.Tests.{ltb-true, ltb-false, lt-ltb, le-ltb, eqb-true, eqb-false, ne-eqb}
 use Rattle.meaning.specs.Limits.{metavariableCount}
-use Rattle.meaning.specs.Basics.{All}
+use Rattle.meaning.specs.Basics.{All, Bytes}
 use Rattle.meaning.specs.Term.{Forest, nil, cons, graft, one, trees, symbol, variable, application, binder, own, slot, metavariable, function, hole, Named, NamedTerm}
-use Rattle.meaning.specs.Field.{Bytes, word, field, tagOf, fixedPart, encode}
+use Rattle.meaning.specs.Field.{word, field, tagOf, fixedPart, encode}
 use Rattle.meaning.specs.Read.{got, Context, inPattern, inArgument, inExpression, inBody, Kind, symbolKind, variableKind, applicationKind, binderKind, metavariableKind, functionKind, holeKind, metavariableIn, functionIn, holeIn, kindOf, partsOf, Head, headOf, Content, leaf, over, many, contentOf}
 use Rattle.meaning.specs.Readable.{MetavariableAt, FunctionAt, HoleAt, NodeFits}
 use Rattle.meaning.proofs.Lists.{all-append}

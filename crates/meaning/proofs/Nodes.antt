@@ -17,11 +17,12 @@ use lib.Dec.{eqb, T}
 use Rattle.meaning.specs.Basics.{choose, each, upTo, andThen, orNone, join, guard, _∈_}
 use Rattle.meaning.specs.Term.{Forest, nil, cons, Tree, graft, one, size, nodeAt, relabel, Own, symbol, variable, application, binder, own, slot, Variable, free, bound, Slot, metavariable, function, hole, Named, Nameless, NamedTerm, Terms, Term, inner}
 use Rattle.meaning.specs.Scope.{resolve, enter, namelessLabel, nameless, namelessTerm}
-use Rattle.meaning.specs.Shift.{shiftLabel, shift, lowerTerm, closedVariable, closedLabel, Closed, ClosedTerm}
+use Rattle.meaning.specs.Shift.{shiftLabel, shift, closedVariable, closedLabel, Closed, ClosedTerm}
+use Rattle.meaning.specs.Lower.{lowerTerm}
 use Rattle.meaning.specs.Problem.{Problem, patterns, expressions}
 use Rattle.meaning.specs.Filling.{argument}
-use Rattle.meaning.specs.Choice.{Marks, punch}
-use Rattle.meaning.specs.Row.{Row, punchTerm, rowBody}
+use Rattle.meaning.specs.Choice.{Marks, punch, punchTerm}
+use Rattle.meaning.specs.Row.{Row, rowBody}
 use Rattle.meaning.specs.Face.{Face, agrees, walk, faces}
 use Rattle.meaning.specs.Value.{Source, sourceAt, sourceOf, lowestHole, fromHole, fromApplication, sourcesIn, sources}
 use Rattle.meaning.proofs.Lists.{never, choose-true, choose-false, true-T, each-mem}

@@ -9,8 +9,11 @@ use mathlib.Core.List.{List, [], _∷_, _++_, map, List·Memᴰ·head, List·Mem
 use mathlib.Core.Option.{none, some}
 use lib.ListN.{length}
 use Rattle.meaning.specs.Basics.{choose, keep, each, countFrom, upTo, All, _∈_, Distinct}
-use Rattle.meaning.specs.Choice.{Mark, Marks, Before, Earlier, here, later, Ordered, empty, more, marksOf, allMarks}
-use Rattle.meaning.specs.Row.{Row, product, EarlierRow, first, next}
+use Rattle.meaning.specs.Choice.{Mark, Marks, Before, Earlier, here, later}
+use Rattle.meaning.specs.Difference.{Ordered, empty, more}
+use Rattle.meaning.specs.Choices.{marksOf, allMarks}
+use Rattle.meaning.specs.Row.{Row, EarlierRow, first, next}
+use Rattle.meaning.specs.Rows.{product}
 use Rattle.meaning.proofs.Lists.{mem-map, map-mem, keep-mem, mem-each, each-mem, countFrom-mem, mem-upTo, upTo-mem}
 use Rattle.meaning.proofs.OrderLaws.{Asymmetric, earlier-asymmetric, row-asymmetric}
 

@@ -9,8 +9,9 @@ use borrow.Author.Tests.{ltb-true, lt-ltb, not-false}
 use native.Mathlib.Omega.{arith}
 use Rattle.meaning.specs.Basics.{choose, every, isIn, _∈_, Distinct}
 use Rattle.meaning.specs.Term.{nil, cons, one, own, slot, metavariable, function, hole, NamedTerm, Nameless, Terms, Term, IsExpression}
-use Rattle.meaning.specs.Shift.{ClosedTerm, isClosed}
-use Rattle.meaning.specs.Equal.{sameTerms}
+use Rattle.meaning.specs.Shift.{ClosedTerm}
+use Rattle.meaning.specs.ClosedTest.{isClosed}
+use Rattle.meaning.specs.Same.{sameTerms}
 use Rattle.meaning.specs.Problem.{Problem, patterns, expressions, plain, applied, placesOf, isFunction, isPlain, Where, Standing, standings}
 use Rattle.meaning.specs.Filling.{Entry, absent, leftOpen, value, body, Filling, filled, bodyLabel, IsBody}
 use Rattle.meaning.specs.Solution.{needs, Idle, Solution}

@@ -18,7 +18,8 @@ use Rattle.meaning.specs.Term.{one, size}
 use Rattle.meaning.specs.Problem.{Problem, placesOf, functions}
 use Rattle.meaning.specs.Face.{faces}
 use Rattle.meaning.specs.Choice.{Mark, Marks, Choice}
-use Rattle.meaning.specs.Row.{Row, rows, faceOf, IsRow, ChoiceEach}
+use Rattle.meaning.specs.Row.{Row, faceOf, IsRow, ChoiceEach}
+use Rattle.meaning.specs.Rows.{rows}
 use Rattle.meaning.specs.Accept.{bothWays, overlarge, checkProblem}
 use Rattle.meaning.specs.Readable.{Accepted}
 use Rattle.meaning.specs.Search.{Place, at, past, placeOf, From}

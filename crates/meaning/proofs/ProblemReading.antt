@@ -10,10 +10,10 @@ use lib.ListN.{length, length-append}
 use lib.Dec.{eqb, ltb}
 use borrow.Author.Tests.{ltb-false, le-ltb, eqb-true, ne-eqb}
 use Rattle.meaning.specs.Limits.{maxInput, maxConstraints, maxDepth, maxFunctions}
-use Rattle.meaning.specs.Basics.{All}
+use Rattle.meaning.specs.Basics.{All, Bytes}
 use Rattle.meaning.specs.Term.{one}
 use Rattle.meaning.specs.Problem.{Constraint, Problem, functions}
-use Rattle.meaning.specs.Field.{Bytes, field, encode, encodeConstraint, encodeProblem}
+use Rattle.meaning.specs.Field.{field, encode, encodeConstraint, encodeProblem}
 use Rattle.meaning.specs.Read.{got, inPattern, inExpression, Parts, partsOf, readTerm, readPair, constraintHead, readConstraints, readProblem}
 use Rattle.meaning.specs.Accept.{bothWays, overlarge, checkProblem, accept}
 use Rattle.meaning.specs.Readable.{ReadableConstraint, WithinLimits, Accepted}

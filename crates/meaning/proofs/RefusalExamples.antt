@@ -6,10 +6,10 @@ use mathlib.Core.Path.{_≡_, refl}
 use Prim.Native.Nat.{ℕ, zero, suc}
 use mathlib.Core.List.{List, [], _∷_, _++_}
 use Rattle.meaning.specs.Limits.{maxDepth}
-use Rattle.meaning.specs.Basics.{All}
+use Rattle.meaning.specs.Basics.{All, Bytes}
 use Rattle.meaning.specs.Problem.{Problem}
-use Rattle.meaning.specs.Row.{rows}
-use Rattle.meaning.specs.Field.{Bytes, field}
+use Rattle.meaning.specs.Rows.{rows}
+use Rattle.meaning.specs.Field.{field}
 use Rattle.meaning.specs.Read.{refused, got, inBody, readTerm}
 use Rattle.meaning.specs.Accept.{accept}
 use Rattle.meaning.specs.Text.{Item, readText}

@@ -15,7 +15,8 @@ use Rattle.meaning.specs.Basics.{choose}
 use Rattle.meaning.specs.Term.{Forest, nil, cons, Tree, one, size, symbol, variable, application, binder, own, slot, Named, Variable, free, bound, Nameless, NamedTerm, Term}
 use Rattle.meaning.specs.Scope.{resolve, enter, namelessLabel, nameless, namelessTerm}
 use Rattle.meaning.specs.Shift.{withVariable}
-use Rattle.meaning.specs.Equal.{Equal, EqualWhole, sameVariable}
+use Rattle.meaning.specs.Equal.{Equal, EqualWhole}
+use Rattle.meaning.specs.Same.{sameVariable}
 use Rattle.meaning.specs.Rename.{occursLabel, occurs, binds, newName, rename, Alpha, step, node, same, back, chain}
 use Rattle.meaning.proofs.Lists.{never, or-false, eqb-self, eqb-eq, eqb-other, by-test, choose-true, choose-false}
 

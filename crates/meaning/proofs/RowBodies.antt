@@ -14,9 +14,11 @@ use Rattle.meaning.specs.Term.{Tree, nil, cons, one, size, Label, own, s
 use Rattle.meaning.specs.Problem.{Problem, patterns, expressions, applied, placesOf, isFunction, functions}
 use Rattle.meaning.specs.Filling.{plug, Entry, body, Filling, bodyOr, fillHandler, IsBody}
 use Rattle.meaning.specs.Solution.{Solution}
-use Rattle.meaning.specs.Face.{Face, faces, isApplication, firstFace, Satisfied}
-use Rattle.meaning.specs.Choice.{Mark, Marks, mark, rest, punch, punchNode, Choice}
-use Rattle.meaning.specs.Row.{Row, faceTerm, faceOf, rows, ChoiceEach, IsRow, choiceIn, punchTop, punchTerm, rowBody, HasBodies}
+use Rattle.meaning.specs.Face.{Face, faces, isApplication, firstFace}
+use Rattle.meaning.specs.Agree.{Satisfied}
+use Rattle.meaning.specs.Choice.{Mark, Marks, mark, rest, punch, punchNode, Choice, punchTop, punchTerm}
+use Rattle.meaning.specs.Row.{Row, faceTerm, faceOf, ChoiceEach, IsRow, choiceIn, rowBody, HasBodies}
+use Rattle.meaning.specs.Rows.{rows}
 use Rattle.meaning.proofs.Lists.{never, by-test, choose-true, choose-false, eqb-eq, eqb-self}
 use Rattle.meaning.proofs.Lists.{at-mem, keep-distinct, distinct-countFrom}
 use Rattle.meaning.proofs.Renaming.{one-injective}

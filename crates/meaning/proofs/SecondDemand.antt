@@ -11,9 +11,11 @@ use Rattle.meaning.specs.Basics.{choose, keep, upTo, _∈_}
 use Rattle.meaning.specs.Problem.{Problem, metavariables}
 use Rattle.meaning.specs.Filling.{Filling}
 use Rattle.meaning.specs.Solution.{Solution}
-use Rattle.meaning.specs.Row.{Row, rows}
-use Rattle.meaning.specs.Value.{candidate, solves}
-use Rattle.meaning.specs.Text.{encodeText, textOf, readText, Says, Passes}
+use Rattle.meaning.specs.Row.{Row}
+use Rattle.meaning.specs.Rows.{rows}
+use Rattle.meaning.specs.Candidate.{candidate, solves}
+use Rattle.meaning.specs.Encoded.{encodeText}
+use Rattle.meaning.specs.Text.{textOf, readText, Says, Passes}
 use Rattle.meaning.specs.Field.{encodeProblem}
 use Rattle.meaning.specs.Read.{got}
 use Rattle.meaning.specs.Readable.{Accepted}

@@ -10,14 +10,16 @@ use lib.ListN.{drop}
 use Rattle.meaning.specs.Basics.{keep, every, _∈_, Distinct}
 use Rattle.meaning.specs.Term.{nil, cons, one, size, own, slot, Terms, Term, IsExpression}
 use Rattle.meaning.specs.Shift.{ClosedTerm}
-use Rattle.meaning.specs.Equal.{sameTerms}
+use Rattle.meaning.specs.Same.{sameTerms}
 use Rattle.meaning.specs.Problem.{Where, standings, Problem, patterns, expressions, plain, applied, placesOf, isFunction, isPlain, functions, metavariables}
 use Rattle.meaning.specs.Filling.{leftOpen, value, body, Filling, filled, IsBody}
 use Rattle.meaning.specs.Solution.{Idle, Solution}
 use Rattle.meaning.specs.Face.{faces}
 use Rattle.meaning.specs.Choice.{Marks, punch, Choice}
-use Rattle.meaning.specs.Row.{Row, faceOf, rows, IsRow, choiceIn, rowBody, HasBodies, SolutionRow}
-use Rattle.meaning.specs.Value.{Source, sources, lookup, given, candidate, isClosedEntry, solves, solutionRows, fullList}
+use Rattle.meaning.specs.Row.{Row, faceOf, IsRow, choiceIn, rowBody, HasBodies, SolutionRow}
+use Rattle.meaning.specs.Rows.{rows}
+use Rattle.meaning.specs.Value.{Source, sources, lookup}
+use Rattle.meaning.specs.Candidate.{given, candidate, isClosedEntry, solves, solutionRows, fullList}
 use Rattle.meaning.specs.Readable.{Accepted}
 use Rattle.meaning.proofs.Lists.{never, T-true, true-T, and-T, T-and, by-test, mem-map, map-mem, mem-keep, keep-mem, isIn-mem, mem-isIn, all-mem, mem-all, every-all, all-every}
 use Rattle.meaning.proofs.ShiftLaws.{test-closed, closed-test}

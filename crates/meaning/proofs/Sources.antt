@@ -9,11 +9,13 @@ use mathlib.Core.Option.{Option, none, some}
 use native.Mathlib.Omega.{arith}
 use Rattle.meaning.specs.Basics.{choose, each, upTo, AllO, _∈_, andThen, orNone}
 use Rattle.meaning.specs.Term.{nil, cons, one, trees, Slot, metavariable, function, hole, Terms, Term, IsExpression}
-use Rattle.meaning.specs.Shift.{shiftTerm, lowerTerm}
+use Rattle.meaning.specs.Shift.{shiftTerm}
+use Rattle.meaning.specs.Lower.{lowerTerm}
 use Rattle.meaning.specs.Problem.{plain}
 use Rattle.meaning.specs.Filling.{Handler, fill, fillTerm, plugHandler, plug, argument, Entry, absent, leftOpen, value, body, Filling, valueOr, bodyOr, fillHandler, IsBody}
 use Rattle.meaning.specs.Solution.{hasHole}
-use Rattle.meaning.specs.Face.{Face, walk, Satisfied}
+use Rattle.meaning.specs.Face.{Face, walk}
+use Rattle.meaning.specs.Agree.{Satisfied}
 use Rattle.meaning.specs.Value.{Source, sourceAt, sourceOf, isHole, lowestHole, fromHole}
 use Rattle.meaning.proofs.Lists.{never, eqb-eq, eqb-self, mem-each, each-mem, mem-upTo, upTo-mem, all-mem}
 use Rattle.meaning.proofs.ShiftLaws.{lower-shift-term, lower-expression}

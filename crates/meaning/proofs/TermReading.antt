@@ -10,9 +10,9 @@ use native.Mathlib.Omega.{arith}
 use lib.ListN.{length, length-append}
 use lib.Dec.{eqb}
 use borrow.Author.Tests.{eqb-true, ne-eqb}
-use Rattle.meaning.specs.Basics.{All}
+use Rattle.meaning.specs.Basics.{All, Bytes}
 use Rattle.meaning.specs.Term.{Forest, nil, cons, graft, one, trees, symbol, variable, application, binder, own, slot, metavariable, function, hole, Named, NamedTerm}
-use Rattle.meaning.specs.Field.{Bytes, field, tagOf, fixedPart, encode}
+use Rattle.meaning.specs.Field.{field, tagOf, fixedPart, encode}
 use Rattle.meaning.specs.Read.{got, Context, inArgument, headOf, Content, leaf, over, many, contentOf, Reader, readExactly, readAll, contextBelow, readContent, readTerm}
 use Rattle.meaning.specs.Readable.{NodeFits, Readable}
 use Rattle.meaning.proofs.Lists.{append-all, all-append}

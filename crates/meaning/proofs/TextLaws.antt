@@ -17,12 +17,14 @@ use Rattle.meaning.specs.Shift.{ClosedTerm}
 use Rattle.meaning.specs.Problem.{Constraint, Problem, namedExpressions, patterns, expressions, plain, applied, placesOf, isFunction, isPlain, functions, metavariables}
 use Rattle.meaning.specs.Filling.{Entry, absent, value, body, fillHandler, IsBody}
 use Rattle.meaning.specs.Face.{Face, faces, isApplication, firstFace}
-use Rattle.meaning.specs.Choice.{Mark, Marks, mark, rest, punch, punchNode}
-use Rattle.meaning.specs.Row.{Row, rows, faceTerm, faceOf, choiceIn, punchTerm, rowBody}
-use Rattle.meaning.specs.Value.{Source, sources, lookup, given, candidate, isClosedEntry, solves}
+use Rattle.meaning.specs.Choice.{Mark, Marks, mark, rest, punch, punchNode, punchTerm}
+use Rattle.meaning.specs.Row.{Row, faceTerm, faceOf, choiceIn, rowBody}
+use Rattle.meaning.specs.Rows.{rows}
+use Rattle.meaning.specs.Value.{Source, sources, lookup}
+use Rattle.meaning.specs.Candidate.{given, candidate, isClosedEntry, solves}
 use Rattle.meaning.specs.Read.{Context, inExpression, inBody, contextBelow}
-use Rattle.meaning.specs.Readable.{NodeFits, Readable, ReadableConstraint, Accepted}
-use Rattle.meaning.specs.Text.{Item, termOr, termAt, faceNode, writtenBody, writtenValue, entryOf, textOf, meant, said, Says, ReadableEntry, ReadableItem}
+use Rattle.meaning.specs.Readable.{NodeFits, Readable, ReadableConstraint, Accepted, ReadableEntry, ReadableItem}
+use Rattle.meaning.specs.Text.{Item, termOr, termAt, faceNode, writtenBody, writtenValue, entryOf, textOf, meant, said, Says}
 use Rattle.meaning.proofs.Lists.{never, true-T, keep-distinct, eqb-eq, eqb-self, eqb-other, by-test, choose-true, choose-false, keep-mem, isIn-mem, mem-isIn, not-isIn, upTo-mem, all-mem, mem-all, distinct-countFrom}
 use Rattle.meaning.proofs.ShiftLaws.{test-closed}
 use Rattle.meaning.proofs.ChoiceLaws.{rows-are}

@@ -15,16 +15,19 @@ use native.Mathlib.Omega.{arith}
 use lib.ListN.{length, drop}
 use Rattle.meaning.specs.Basics.{each, upTo, _∈_, andThen, orNone}
 use Rattle.meaning.specs.Term.{nil, cons, one, size, trees, own, slot, Slot, metavariable, function, hole, Variable, NamedTerm, Terms, Term, IsExpression}
-use Rattle.meaning.specs.Shift.{lowerTerm}
+use Rattle.meaning.specs.Lower.{lowerTerm}
 use Rattle.meaning.specs.Problem.{Problem, namedPatterns, namedExpressions, patterns, expressions, plain, applied, functions, metavariables}
 use Rattle.meaning.specs.Filling.{plugHandler, argument, Entry, absent, leftOpen, value, body, fillHandler}
-use Rattle.meaning.specs.Face.{Face, walk, Satisfied}
+use Rattle.meaning.specs.Face.{Face, walk}
+use Rattle.meaning.specs.Agree.{Satisfied}
 use Rattle.meaning.specs.Choice.{Marks, punch}
 use Rattle.meaning.specs.Row.{Row, faceOf, choiceIn, rowBody}
-use Rattle.meaning.specs.Value.{Source, sourceAt, sourceOf, lowestHole, fromHole, fromApplication, sourcesIn, sources, lookup, given, candidate, solves}
+use Rattle.meaning.specs.Value.{Source, sourceAt, sourceOf, lowestHole, fromHole, fromApplication, sourcesIn, sources, lookup}
+use Rattle.meaning.specs.Candidate.{given, candidate, solves}
 use Rattle.meaning.specs.Field.{encode, encodeProblem}
 use Rattle.meaning.specs.Readable.{Accepted}
-use Rattle.meaning.specs.Text.{Item, encodeEntry, encodeText, entryOf, textOf, meant}
+use Rattle.meaning.specs.Text.{Item, entryOf, textOf, meant}
+use Rattle.meaning.specs.Encoded.{encodeEntry, encodeText}
 use Rattle.meaning.proofs.Lists.{mem-map, mem-each, each-mem, distinct-countFrom}
 use Rattle.meaning.proofs.ByteLaws.{field-length}
 use Rattle.meaning.proofs.Proper.{Proper, accepted-proper}

@@ -18,7 +18,8 @@ use Rattle.meaning.specs.Scope.{resolve, enter, namelessLabel, nameless,
 use Rattle.meaning.specs.Shift.{withVariable, closedVariable, closedLabel, Closed, ClosedTerm}
 use Rattle.meaning.specs.Equal.{Seen, seenFree, inside, outside, see, View, Equal, EqualWhole}
 use Rattle.meaning.specs.Rename.{Alpha}
-use Rattle.meaning.specs.Choice.{Owner, nodeOfFace, views, sameOwned}
+use Rattle.meaning.specs.Choice.{Owner, nodeOfFace, views}
+use Rattle.meaning.specs.Choices.{sameOwned}
 use Rattle.meaning.proofs.Renaming.{cons-eq, one-injective, scoped-is-alpha}
 use Rattle.meaning.proofs.Lists.{never}
 use Rattle.meaning.proofs.Lowered.{see-low, see-high}

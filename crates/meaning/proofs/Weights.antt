@@ -11,7 +11,8 @@ use lib.ListN.{length, length-append}
 use lib.Dec.{T}
 use Rattle.meaning.specs.Term.{Forest, nil, cons, one, size, trees, relabel, Own, symbol, variable, application, binder, Label, own, slot, metavariable, function, hole, Named, Variable, Nameless, Terms, Term, inner}
 use Rattle.meaning.specs.Scope.{enter, namelessLabel, nameless}
-use Rattle.meaning.specs.Shift.{shiftLabel, lowerTerm}
+use Rattle.meaning.specs.Shift.{shiftLabel}
+use Rattle.meaning.specs.Lower.{lowerTerm}
 use Rattle.meaning.specs.Problem.{Problem, namedPatterns, namedExpressions}
 use Rattle.meaning.specs.Face.{Face, agrees, walk}
 use Rattle.meaning.specs.Field.{word, tagOf, fixedPart, field, encode, encodeConstraint, encodeProblem}

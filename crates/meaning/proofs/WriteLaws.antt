@@ -8,11 +8,10 @@ use native.Mathlib.Omega.{arith}
 use lib.Dec.{ltb}
 use borrow.Author.Tests.{lt-ltb, le-ltb, ltb-true, ltb-false}
 use lib.ListN.{length, drop, length-append, length-drop}
-use Rattle.meaning.specs.Basics.{All, choose}
+use Rattle.meaning.specs.Basics.{All, choose, Bytes}
 use Rattle.meaning.specs.Problem.{Problem}
 use Rattle.meaning.specs.Row.{Row}
-use Rattle.meaning.specs.Value.{solves}
-use Rattle.meaning.specs.Field.{Bytes}
+use Rattle.meaning.specs.Candidate.{solves}
 use Rattle.meaning.specs.Read.{Answer, refused, got}
 use Rattle.meaning.specs.Readable.{Accepted}
 use Rattle.meaning.specs.Accept.{accept}

@@ -2,14 +2,13 @@
 use mathlib.Core.Bool.{Bool, _&&_, not}
 use lib.ListN.{length}
 use lib.Dec.{ltb}
-use Rattle.meaning.specs.Limits.{metavariableCount, maxFunctions, maxFaceNodes}
-use Rattle.meaning.specs.Basics.{choose, every, upTo, isSome}
+use Rattle.meaning.specs.Limits.{maxFaceNodes, maxFunctions, metavariableCount}
+use Rattle.meaning.specs.Basics.{Bytes, choose, every, isSome, upTo}
 use Rattle.meaning.specs.Term.{one, size}
-use Rattle.meaning.specs.Problem.{Problem, isFunction, isPlain, functions}
+use Rattle.meaning.specs.Problem.{Problem, functions, isFunction, isPlain}
+use Rattle.meaning.specs.Read.{Answer, after, got, readProblem, refused}
 use Rattle.meaning.specs.Face.{faces}
 use Rattle.meaning.specs.Row.{faceOf}
-use Rattle.meaning.specs.Field.{Bytes}
-use Rattle.meaning.specs.Read.{Answer, refused, got, after, readProblem}
 
 -- "12 a metavariable both as function and not"
 unfoldable pub bothWays : Problem → Bool

@@ -3,7 +3,10 @@
 --   Agree      the same nodes all the way down, except below a slot of the pattern
 -- "If they disagree anywhere, the problem has no rows."
 use Prim.Native.Nat.{ℕ}
-use Rattle.meaning.specs.Term.{nil, cons, Own, symbol, variable, application, binder, own, slot, Slot, Variable, free, bound, Nameless, Terms}
+use mathlib.Core.Path.{_≡_}
+use Rattle.meaning.specs.Term.{Nameless, Own, Slot, Terms, Variable, application, binder, bound, cons, free, nil, own, slot, symbol, variable}
+use Rattle.meaning.specs.Filling.{Handler, fill}
+use Rattle.meaning.specs.Face.{Face}
 
 -- "Kinds .. must agree"
 pub data SameNode : Own Variable (Unit {0}) → Own Variable (Unit {0}) → Type 0 where
@@ -26,3 +29,7 @@ pub data Agree : Terms → Terms → Type 0 where
       → SameNode o o′ → Agree c c′ → Agree s s′ → Agree (cons (own o) c s) (cons (own o′) c′ s′)
   -- "until a metavariable or function application is met": whatever it faces, and whatever stands below either
   isMet : {z : Slot} {l : Nameless} {c c′ s s′ : Terms} → Agree s s′ → Agree (cons (slot z) c s) (cons l c′ s′)
+
+-- A slot under so many binders, with its children filled, is what it faces
+abbrev pub Satisfied : Handler → Face → Type 0
+Satisfied h x = h (x .under) (x .what) (fill h (x .under) (x .children)) ≡ x .term

@@ -64,6 +64,23 @@ abbrev pub isSome : {A : Type 0} → Option A → Bool
 isSome none = false
 isSome (some a) = true
 
+-- A change by the value that is there, if one is; the first of two that is there; a test of it; a condition on it
+abbrev pub ifSome : {A B : Type 0} → Option A → (A → B → B) → B → B
+ifSome none f b = b
+ifSome (some a) f b = f a b
+
+abbrev pub orElse : {A : Type 0} → Option A → Option A → Option A
+orElse none o = o
+orElse (some a) o = some a
+
+abbrev pub holds : {A : Type 0} → (A → Bool) → Option A → Bool
+holds p none = false
+holds p (some a) = p a
+
+abbrev pub AllOf : {A : Type 0} → (A → Type 0) → Option A → Type 0
+AllOf P none = Unit {0}
+AllOf P (some a) = P a
+
 -- Two answers that are lists: both must be there
 abbrev pub join : {A : Type 0} → Option (List A) → Option (List A) → Option (List A)
 join none y = none
@@ -78,3 +95,6 @@ guard false w = none
 abbrev pub AllO : {A : Type 0} → (A → Type 0) → Option (List A) → Type 0
 AllO P none = ⊥
 AllO P (some xs) = All P xs
+
+abbrev pub Bytes : Type 0
+Bytes = List ℕ

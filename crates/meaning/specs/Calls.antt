@@ -10,17 +10,17 @@ use mathlib.Core.Path.{_≡_}
 use Prim.Native.Nat.{ℕ, zero, suc, _+_, _<_}
 use mathlib.Core.List.{List, [], _∷_, _++_, map}
 use lib.ListN.{length, take}
-use Rattle.meaning.specs.Basics.{_∈_}
+use Rattle.meaning.specs.Basics.{Bytes, holds, _∈_}
 use Rattle.meaning.specs.Problem.{Problem}
-use Rattle.meaning.specs.Filling.{Filling}
-use Rattle.meaning.specs.Row.{Row, rows}
-use Rattle.meaning.specs.Value.{fullList}
-use Rattle.meaning.specs.Field.{Bytes}
 use Rattle.meaning.specs.Read.{got}
+use Rattle.meaning.specs.Filling.{Filling}
+use Rattle.meaning.specs.Row.{Row}
 use Rattle.meaning.specs.Accept.{accept}
-use Rattle.meaning.specs.Search.{at, start, Reply, found, end, paused, refusedCall}
+use Rattle.meaning.specs.Search.{Reply, at, end, found, paused, refusedCall, start}
 use Rattle.meaning.specs.PlaceValue.{PlaceValue, placeValue}
 use Rattle.meaning.specs.Entry.{SearchCall}
+use Rattle.meaning.specs.Rows.{rows}
+use Rattle.meaning.specs.Candidate.{fullList}
 
 pub record Call (R P : Type 0) : Type 0 where
   pub allowance : ℕ

@@ -4,9 +4,9 @@
 use Prim.Native.Nat.{ℕ}
 use mathlib.Core.List.{List, [], _∷_}
 use lib.ListN.{length}
-use Rattle.meaning.specs.Term.{nil, one, symbol, variable, application, binder, own, slot, metavariable, function, hole, NamedTerm}
+use Rattle.meaning.specs.Term.{NamedTerm, application, binder, function, hole, metavariable, nil, one, own, slot, symbol, variable}
 use Rattle.meaning.specs.Problem.{Constraint, Problem, forestOf}
-use Rattle.meaning.specs.Filling.{leftOpen, value, body}
+use Rattle.meaning.specs.Filling.{body, leftOpen, value}
 use Rattle.meaning.specs.Text.{Item}
 
 pub record Case : Type 0 where

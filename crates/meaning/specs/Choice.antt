@@ -3,15 +3,14 @@
 --   Owner     a binder outside a node, seen from the face: a node of the face, or a binder above the face (0 the innermost)
 --   punch     "the face with these nodes as holes"
 use mathlib.Core.Path.{_≡_}
-use Prim.Native.Nat.{ℕ, zero, suc, _+_, _-_, _<_, _≤_}
-use mathlib.Core.Bool.{Bool, true, false, _&&_, _||_, not}
-use mathlib.Core.List.{List, [], _∷_, _++_, map}
+use Prim.Native.Nat.{ℕ, zero, suc, _+_, _<_, _≤_}
+use mathlib.Core.Bool.{Bool, true, false, _||_}
+use mathlib.Core.List.{List, [], _∷_, _++_}
 use mathlib.Core.Option.{Option, none, some}
-use lib.ListN.{length, take, drop, getElem?}
-use lib.Dec.{eqb}
-use Rattle.meaning.specs.Basics.{choose, keep, each, upTo, every, _∈_}
-use Rattle.meaning.specs.Term.{Forest, nil, cons, one, size, symbol, variable, application, binder, Label, own, slot, hole, Nameless, Terms, Term, metavariable, function}
-use Rattle.meaning.specs.Equal.{Seen, seenFree, inside, outside, View, view, sameView}
+use lib.ListN.{length, drop, getElem?}
+use Rattle.meaning.specs.Basics.{holds, ifSome}
+use Rattle.meaning.specs.Term.{Forest, Label, Nameless, Term, Terms, Tree, binderOf, cons, function, hole, metavariable, nil, one, own, size, slot, variableOf}
+use Rattle.meaning.specs.Equal.{Seen, View, inside, outside, seenFree, view}
 
 abbrev pub Mark : Type 0
 Mark = Option ℕ
@@ -59,19 +58,9 @@ ownerOf [] i = aboveFace i
 ownerOf (b ∷ bs) zero = nodeOfFace b
 ownerOf (b ∷ bs) (suc i) = ownerOf bs i
 
-abbrev pub sameOwner : Owner → Owner → Bool
-sameOwner (nodeOfFace m) (nodeOfFace n) = eqb m n
-sameOwner (nodeOfFace m) (aboveFace n) = false
-sameOwner (aboveFace m) (nodeOfFace n) = false
-sameOwner (aboveFace m) (aboveFace n) = eqb m n
-
 -- The binders above the children of node n
 abbrev pub below : ℕ → Nameless → List ℕ → List ℕ
-below n (own (symbol m)) bs = bs
-below n (own (variable v)) bs = bs
-below n (own (application m)) bs = bs
-below n (own (binder b x)) bs = n ∷ bs
-below n (slot z) bs = bs
+below n l bs = ifSome (binderOf l) (λ x ns. n ∷ ns) bs
 
 -- Each node's subexpression as it is seen from outside it, in preorder; n is the number of the first
 abbrev pub viewsFrom : List ℕ → ℕ → Terms → List (View Owner)
@@ -90,11 +79,7 @@ ofFace (outside (nodeOfFace n)) = true
 ofFace (outside (aboveFace j)) = false
 
 abbrev pub usesLabel : Label (Seen Owner) (Unit {0}) → Bool
-usesLabel (own (symbol n)) = false
-usesLabel (own (variable v)) = ofFace v
-usesLabel (own (application n)) = false
-usesLabel (own (binder b x)) = false
-usesLabel (slot z) = false
+usesLabel l = holds ofFace (variableOf l)
 
 abbrev pub usesFace : View Owner → Bool
 usesFace nil = false
@@ -115,36 +100,6 @@ pub record Choice (n : ℕ) (face : Term) (ms : Marks) : Type 0 where
   pub unbound : (k i : ℕ) (u : View Owner) → getElem? ms k ≡ some (some i) → getElem? (views face) k ≡ some u → usesFace u ≡ false
   pub apart : Apart ms (views face)
 
--- The same as a test. The views of the nodes that become hole i
-abbrev pub isPlace : ℕ → Mark → Bool
-isPlace i none = false
-isPlace i (some j) = eqb i j
-
-abbrev pub chosen : ℕ → Marks → List (View Owner) → List (View Owner)
-chosen i [] us = []
-chosen i (m ∷ ms) [] = []
-chosen i (m ∷ ms) (u ∷ us) = choose (isPlace i m) (u ∷ chosen i ms us) (chosen i ms us)
-
-abbrev pub sameOwned : View Owner → View Owner → Bool
-sameOwned u v = sameView sameOwner u v
-
-abbrev pub allSame : List (View Owner) → Bool
-allSame [] = true
-allSame (u ∷ us) = every (sameOwned u) us
-
-abbrev pub fitsPlace : List (View Owner) → Marks → ℕ → Bool
-fitsPlace us ms i = allSame (chosen i ms us) && every (λ u. not (usesFace u)) (chosen i ms us)
-
--- Of the nodes that follow a marked one, those below it are not marked
-abbrev pub areApart : Marks → List (View Owner) → Bool
-areApart [] us = true
-areApart (m ∷ ms) [] = true
-areApart (none ∷ ms) (u ∷ us) = areApart ms us
-areApart (some i ∷ ms) (u ∷ us) = eqb (setSize (take (size u - 1) ms)) 0 && areApart ms us
-
-abbrev pub isChoice : ℕ → Term → Marks → Bool
-isChoice n face ms = every (fitsPlace (views face) ms) (upTo n) && areApart ms (views face)
-
 -- "Of two choices the earlier is the one that has the lowest node in which they differ": a hole comes before none, and the hole of an
 -- earlier place before that of a later one
 abbrev pub Before : Mark → Mark → Type 0
@@ -156,19 +111,10 @@ pub data Earlier : Marks → Marks → Type 0 where
   here : {m m′ : Mark} {ms ms′ : Marks} → Before m m′ → Earlier (m ∷ ms) (m′ ∷ ms′)
   later : {m : Mark} {ms ms′ : Marks} → Earlier ms ms′ → Earlier (m ∷ ms) (m ∷ ms′)
 
--- A list in order: each element stands in R to all that come after it
-pub data Ordered {A : Type 0} (R : A → A → Type 0) : List A → Type 0 where
-  empty : Ordered R []
-  more : {x : A} {xs : List A} → ((y : A) → y ∈ xs → R x y) → Ordered R xs → Ordered R (x ∷ xs)
+-- A tree with these nodes as holes
+abbrev pub punchTop : {X B : Type 0} → Mark → Label X B → Forest (Label X B) → Tree (Label X B)
+punchTop none l c = (l, c)
+punchTop (some i) l c = (slot (hole i), nil)
 
--- All ways to mark so many nodes, in that order
-abbrev pub marksOf : ℕ → List Mark
-marksOf n = map some (upTo n) ++ (none ∷ [])
-
-abbrev pub allMarks : ℕ → ℕ → List Marks
-allMarks n zero = [] ∷ []
-allMarks n (suc size) = each (λ (m : Mark). map (λ (ms : Marks). m ∷ ms) (allMarks n size)) (marksOf n)
-
--- The choices of a face in order
-abbrev pub choices : ℕ → Term → List Marks
-choices n face = keep (isChoice n face) (allMarks n (size (one face)))
+abbrev pub punchTerm : {X B : Type 0} → Marks → Tree (Label X B) → Tree (Label X B)
+punchTerm ms t = punchTop (mark ms) (t .0) (punch (rest ms) (t .1))

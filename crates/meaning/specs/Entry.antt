@@ -8,16 +8,18 @@ use Prim.Native.Nat.{ℕ, _<_, _≤_}
 use mathlib.Core.Bool.{Bool, true, false}
 use mathlib.Core.List.{List, _++_}
 use lib.ListN.{length, drop}
+use Rattle.meaning.specs.Basics.{Bytes}
 use Rattle.meaning.specs.Problem.{Problem}
-use Rattle.meaning.specs.Row.{Row, rows}
-use Rattle.meaning.specs.Value.{solves}
-use Rattle.meaning.specs.Field.{Bytes}
-use Rattle.meaning.specs.Read.{Answer, refused, got, after}
+use Rattle.meaning.specs.Read.{Answer, after, got, refused}
+use Rattle.meaning.specs.Row.{Row}
 use Rattle.meaning.specs.Accept.{accept}
-use Rattle.meaning.specs.Text.{encodeText, textOf, readText}
+use Rattle.meaning.specs.Text.{readText, textOf}
+use Rattle.meaning.specs.Search.{From, Keeps, Place, Reply, at, end, found, paused, refusedCall}
+use Rattle.meaning.specs.PlaceValue.{Names, PlaceValue, placeValue}
+use Rattle.meaning.specs.Encoded.{encodeText}
+use Rattle.meaning.specs.Rows.{rows}
+use Rattle.meaning.specs.Candidate.{solves}
 use Rattle.meaning.specs.Passing.{passes}
-use Rattle.meaning.specs.Search.{Place, at, Reply, found, end, paused, refusedCall, Keeps, From}
-use Rattle.meaning.specs.PlaceValue.{PlaceValue, placeValue, Names}
 
 -- A reply as a host sees it: the row found is a place that names a row
 abbrev pub HostReply : Type 0

@@ -2,17 +2,15 @@
 --   walk     pattern and expression "walked together from the top": none where they disagree
 --   Face     what a slot of the pattern faces: the number of binders above, the slot with its children, the node, the subexpression there
 --   Satisfied  a face whose slot is filled to just what it faces
-use mathlib.Core.Path.{_≡_}
 use Prim.Native.Nat.{ℕ, suc, _+_}
 use mathlib.Core.Bool.{Bool, false}
 use mathlib.Core.List.{List, [], _∷_}
 use mathlib.Core.Option.{Option, none, some}
 use lib.Dec.{eqb}
-use Rattle.meaning.specs.Basics.{choose, join, guard}
-use Rattle.meaning.specs.Term.{nil, cons, size, Own, own, slot, Slot, metavariable, function, hole, Variable, Nameless, Terms, Term, inner}
-use Rattle.meaning.specs.Equal.{sameOwn, sameVariable}
-use Rattle.meaning.specs.Problem.{Problem, patterns, expressions}
-use Rattle.meaning.specs.Filling.{Handler, fill}
+use Rattle.meaning.specs.Basics.{choose, guard, join}
+use Rattle.meaning.specs.Term.{Nameless, Own, Slot, Term, Terms, Variable, cons, function, hole, inner, metavariable, nil, own, size, slot}
+use Rattle.meaning.specs.Problem.{Problem, expressions, patterns}
+use Rattle.meaning.specs.Same.{sameOwn, sameVariable}
 
 pub record Face : Type 0 where
   pub under : ℕ
@@ -53,7 +51,3 @@ isApplication f (hole i) = false
 abbrev pub firstFace : ℕ → List Face → Option Face
 firstFace f [] = none
 firstFace f (x ∷ xs) = choose (isApplication f (x .what)) (some x) (firstFace f xs)
-
--- A slot under so many binders, with its children filled, is what it faces
-abbrev pub Satisfied : Handler → Face → Type 0
-Satisfied h x = h (x .under) (x .what) (fill h (x .under) (x .children)) ≡ x .term

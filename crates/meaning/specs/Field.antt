@@ -1,14 +1,12 @@
--- Fields: "a one-byte tag, a two-byte length, then that many content bytes. Numbers are unsigned, high byte first."
+-- Fields: "a one-byte tag, a two-byte length, then that many content bytes. Numbers are unsigned, high byte first." Encoding is the inverse of
+-- reading (`encode-read`, `read-encode`): the bytes of a problem are the only ones that are read as it, so that nobody has to believe it.
 --   encode   the bytes of terms; of a constraint, of a problem
 use Prim.Native.Nat.{ℕ, _/_, _%_}
-use mathlib.Core.List.{List, [], _∷_, _++_}
+use mathlib.Core.List.{[], _∷_, _++_}
 use lib.ListN.{length}
-use Rattle.meaning.specs.Basics.{each}
-use Rattle.meaning.specs.Term.{Forest, nil, cons, one, symbol, variable, application, binder, own, slot, metavariable, function, hole, Named}
+use Rattle.meaning.specs.Basics.{Bytes, each}
+use Rattle.meaning.specs.Term.{Forest, Named, application, binder, cons, function, hole, metavariable, nil, one, own, slot, symbol, variable}
 use Rattle.meaning.specs.Problem.{Constraint, Problem}
-
-abbrev pub Bytes : Type 0
-Bytes = List ℕ
 
 unfoldable pub word : ℕ → Bytes
 word n = n / 256 ∷ n % 256 ∷ []

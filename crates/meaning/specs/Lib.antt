@@ -1,37 +1,47 @@
--- Document 01 as definitions, in its order.
+-- Document 01 as definitions, in its order. Those of the second part compute what the first part says, or say it in other words; the heading
+-- of each names the theorem that makes it safe to skip.
 pub mod Limits
 pub mod Basics
 -- Fields of a problem
 pub mod Term
 pub mod Scope
-pub mod Shift
 pub mod Equal
-pub mod Rename
 pub mod Problem
-pub mod Field
 pub mod Read
-pub mod Accept
-pub mod Readable
 -- Fillings
+pub mod Shift
 pub mod Filling
 pub mod Solution
-pub mod Textual
 -- Faces, choices and rows
 pub mod Face
-pub mod Agree
 pub mod Choice
 pub mod Row
-pub mod Difference
-pub mod Value
+pub mod Accept
 -- Solution texts
+pub mod Value
 pub mod Text
-pub mod Passing
 -- The search
 pub mod Search
 pub mod PlaceValue
 -- The entry points, and lists of calls
 pub mod Entry
 pub mod Calls
+-- Computed forms
+pub mod Field
+pub mod Encoded
+pub mod Same
+pub mod ClosedTest
+pub mod Lower
+pub mod Choices
+pub mod Rows
+pub mod Candidate
+pub mod Passing
+pub mod Readable
+-- The same in other words
+pub mod Rename
+pub mod Textual
+pub mod Agree
+pub mod Difference
 -- Examples
 pub mod Case
 pub mod Starred

@@ -9,14 +9,14 @@ use Prim.Native.Nat.{ℕ}
 use mathlib.Core.Bool.{Bool, true, false, _&&_, _||_, not}
 use mathlib.Core.List.{List, [], _∷_, map}
 use lib.Dec.{eqb, ltb}
-use Rattle.meaning.specs.Basics.{choose, every, isIn}
-use Rattle.meaning.specs.Term.{nil, cons, one, Label, own, slot, metavariable, function, hole, Nameless, Terms, Term}
-use Rattle.meaning.specs.Shift.{isClosed}
-use Rattle.meaning.specs.Equal.{sameTerms}
-use Rattle.meaning.specs.Problem.{Problem, patterns, expressions, plain, applied, placesOf, isFunction, isPlain, Standing, standings}
-use Rattle.meaning.specs.Filling.{Entry, absent, leftOpen, value, body, Filling, filled}
+use Rattle.meaning.specs.Basics.{every, isIn}
+use Rattle.meaning.specs.Term.{Nameless, Term, Terms, cons, function, hole, metavariable, nil, one, own, slot}
+use Rattle.meaning.specs.Problem.{Problem, Standing, applied, expressions, isFunction, isPlain, patterns, placesOf, plain, standings}
+use Rattle.meaning.specs.Filling.{Entry, Filling, absent, body, filled, leftOpen, value}
 use Rattle.meaning.specs.Solution.{needs}
 use Rattle.meaning.specs.Text.{Item, said}
+use Rattle.meaning.specs.Same.{sameTerms}
+use Rattle.meaning.specs.ClosedTest.{isClosed}
 
 abbrev pub isOnce : List ℕ → Bool
 isOnce [] = true

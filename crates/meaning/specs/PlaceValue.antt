@@ -8,10 +8,10 @@ use mathlib.Core.Bool.{Bool, true, false}
 use mathlib.Core.List.{List, [], _∷_, _++_, map}
 use mathlib.Core.Option.{none, some}
 use lib.ListN.{length, replicate}
-use Rattle.meaning.specs.Limits.{maxFunctions, maxFaceNodes}
+use Rattle.meaning.specs.Limits.{maxFaceNodes, maxFunctions}
 use Rattle.meaning.specs.Problem.{Problem}
 use Rattle.meaning.specs.Choice.{Mark, Marks}
-use Rattle.meaning.specs.Row.{Row, IsRow}
+use Rattle.meaning.specs.Row.{IsRow, Row}
 use Rattle.meaning.specs.Search.{Place, at, past}
 
 -- Node k of a face is the bit of weight 2 ^ (width - 1 - k)

@@ -8,8 +8,8 @@ use mathlib.Core.Bool.{Bool, _||_}
 use mathlib.Core.List.{List, [], _∷_, _++_, map}
 use lib.Dec.{eqb}
 use Rattle.meaning.specs.Limits.{metavariableCount}
-use Rattle.meaning.specs.Basics.{choose, keep, upTo, isIn}
-use Rattle.meaning.specs.Term.{Forest, nil, cons, Tree, graft, one, own, slot, metavariable, function, hole, Named, NamedTerm, Terms}
+use Rattle.meaning.specs.Basics.{choose, isIn, keep, upTo}
+use Rattle.meaning.specs.Term.{Forest, Named, NamedTerm, Terms, Tree, cons, function, graft, hole, metavariable, nil, one, own, slot}
 use Rattle.meaning.specs.Scope.{nameless}
 
 -- "the pattern term, the expression term"

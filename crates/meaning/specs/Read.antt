@@ -8,11 +8,10 @@ use Prim.Native.Nat.{ℕ, zero, suc, _+_, _-_, _*_}
 use mathlib.Core.List.{[], _∷_}
 use lib.ListN.{length, take, drop, getD}
 use lib.Dec.{eqb, ltb}
-use Rattle.meaning.specs.Limits.{maxInput, maxConstraints, maxDepth, metavariableCount}
-use Rattle.meaning.specs.Basics.{choose}
-use Rattle.meaning.specs.Term.{Forest, nil, graft, trees, symbol, variable, application, binder, own, slot, metavariable, function, hole, Named, NamedTerm}
+use Rattle.meaning.specs.Limits.{maxConstraints, maxDepth, maxInput, metavariableCount}
+use Rattle.meaning.specs.Basics.{Bytes, choose}
+use Rattle.meaning.specs.Term.{Forest, Named, NamedTerm, application, binder, function, graft, hole, metavariable, nil, own, slot, symbol, trees, variable}
 use Rattle.meaning.specs.Problem.{Constraint, Problem}
-use Rattle.meaning.specs.Field.{Bytes}
 
 pub data Answer (A : Type 0) : Type 0 where
   refused : ℕ → Answer A

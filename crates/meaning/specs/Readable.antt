@@ -1,4 +1,5 @@
--- Which problems have bytes: the limits and content rules of "Fields of a problem" as conditions on terms.
+-- Which problems have bytes: the limits and content rules of "Fields of a problem" as conditions on terms. They hold exactly of what can be
+-- read (`read-within`, `read-encode`), and of what is accepted (`accept-accepted`, `accepted-accept`), so that nobody has to believe them.
 --   NodeFits      what the table of tags says of one node: where it may stand, its numbers, how many inner terms it has
 --   Readable      every node fits, and no term is deeper than the levels that are left
 --   WithinLimits  a problem that can be read
@@ -6,13 +7,15 @@
 use mathlib.Core.Path.{_≡_}
 use Prim.Native.Nat.{ℕ, zero, suc, _<_, _≤_}
 use lib.ListN.{length}
-use Rattle.meaning.specs.Limits.{maxInput, maxConstraints, maxDepth, metavariableCount}
+use Rattle.meaning.specs.Limits.{maxConstraints, maxDepth, maxInput, metavariableCount}
 use Rattle.meaning.specs.Basics.{All}
-use Rattle.meaning.specs.Term.{Forest, nil, cons, one, trees, symbol, variable, application, binder, own, slot, metavariable, function, hole, Named}
+use Rattle.meaning.specs.Term.{Forest, Named, NamedTerm, application, binder, cons, function, hole, metavariable, nil, one, own, slot, symbol, trees, variable}
 use Rattle.meaning.specs.Problem.{Constraint, Problem}
-use Rattle.meaning.specs.Field.{encodeProblem}
-use Rattle.meaning.specs.Read.{got, Context, inPattern, inArgument, inExpression, inBody, contextBelow}
+use Rattle.meaning.specs.Read.{Context, contextBelow, got, inArgument, inBody, inExpression, inPattern}
+use Rattle.meaning.specs.Filling.{Entry, absent, body, leftOpen, value}
 use Rattle.meaning.specs.Accept.{checkProblem}
+use Rattle.meaning.specs.Text.{Item}
+use Rattle.meaning.specs.Field.{encodeProblem}
 
 -- Where tags 5, 6 and 10 may stand
 abbrev pub MetavariableAt : Context → Type 0
@@ -62,3 +65,13 @@ pub record WithinLimits (p : Problem) : Type 0 where
 pub record Accepted (p : Problem) : Type 0 where
   pub within : WithinLimits p
   pub checked : checkProblem p ≡ got p
+
+-- Which items have bytes
+abbrev pub ReadableEntry : Entry NamedTerm → Type 0
+ReadableEntry absent = ⊥
+ReadableEntry leftOpen = Unit {0}
+ReadableEntry (value t) = Readable maxDepth inExpression (one t)
+ReadableEntry (body t) = Readable maxDepth inBody (one t)
+
+abbrev pub ReadableItem : Item → Type 0
+ReadableItem i = (i .0 < metavariableCount) × ReadableEntry (i .1)

@@ -9,28 +9,20 @@ use mathlib.Core.Path.{_≡_}
 use Prim.Native.Nat.{ℕ}
 use mathlib.Core.Bool.{Bool, false, _||_}
 use lib.Dec.{eqb}
-use Rattle.meaning.specs.Basics.{choose}
-use Rattle.meaning.specs.Term.{Forest, nil, cons, symbol, variable, application, binder, own, slot, Named}
+use Rattle.meaning.specs.Basics.{choose, holds, orElse}
+use Rattle.meaning.specs.Term.{Forest, Named, binder, binderOf, cons, nil, own, variableOf}
 use Rattle.meaning.specs.Shift.{withVariable}
 
+-- Whether a node binds x: below it x is not free
+abbrev pub binds : ℕ → Named → Bool
+binds x l = holds (eqb x) (binderOf l)
+
 abbrev pub occursLabel : ℕ → Named → Bool
-occursLabel x (own (symbol n)) = false
-occursLabel x (own (variable y)) = eqb x y
-occursLabel x (own (application n)) = false
-occursLabel x (own (binder b y)) = eqb x y
-occursLabel x (slot z) = false
+occursLabel x l = holds (eqb x) (orElse (variableOf l) (binderOf l))
 
 abbrev pub occurs : ℕ → Forest Named → Bool
 occurs x nil = false
 occurs x (cons l c s) = occursLabel x l || (occurs x c || occurs x s)
-
--- Whether a node binds x: below it x is not free
-abbrev pub binds : ℕ → Named → Bool
-binds x (own (symbol n)) = false
-binds x (own (variable y)) = false
-binds x (own (application n)) = false
-binds x (own (binder b y)) = eqb x y
-binds x (slot z) = false
 
 abbrev pub newName : ℕ → ℕ → ℕ → ℕ
 newName x y z = choose (eqb x z) y z

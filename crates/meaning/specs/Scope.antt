@@ -4,8 +4,8 @@
 use Prim.Native.Nat.{ℕ, suc}
 use mathlib.Core.List.{List, [], _∷_}
 use lib.Dec.{eqb}
-use Rattle.meaning.specs.Basics.{choose}
-use Rattle.meaning.specs.Term.{Forest, relabel, symbol, variable, application, binder, own, slot, Named, Variable, free, bound, Nameless, NamedTerm, Terms, Term}
+use Rattle.meaning.specs.Basics.{choose, ifSome}
+use Rattle.meaning.specs.Term.{Forest, Named, NamedTerm, Nameless, Term, Terms, Variable, application, binder, binderOf, bound, free, own, relabel, slot, symbol, variable}
 
 -- The variable x, when i binders lie between it and the scope that is left to search
 abbrev pub resolve : List ℕ → ℕ → ℕ → Variable
@@ -13,11 +13,7 @@ resolve [] i x = free x
 resolve (y ∷ ys) i x = choose (eqb x y) (bound i) (resolve ys (suc i) x)
 
 abbrev pub enter : Named → List ℕ → List ℕ
-enter (own (symbol n)) sc = sc
-enter (own (variable x)) sc = sc
-enter (own (application n)) sc = sc
-enter (own (binder b x)) sc = x ∷ sc
-enter (slot z) sc = sc
+enter l sc = ifSome (binderOf l) (λ x ys. x ∷ ys) sc
 
 abbrev pub namelessLabel : List ℕ → Named → Nameless
 namelessLabel sc (own (symbol n)) = own (symbol n)

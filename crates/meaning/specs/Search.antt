@@ -10,7 +10,8 @@ use mathlib.Core.List.{List, [], _∷_, _++_}
 use lib.ListN.{length}
 use Rattle.meaning.specs.Basics.{All}
 use Rattle.meaning.specs.Problem.{Problem}
-use Rattle.meaning.specs.Row.{Row, rows}
+use Rattle.meaning.specs.Row.{Row}
+use Rattle.meaning.specs.Rows.{rows}
 
 -- Over any list of rows, R what a row is
 pub data Place (R : Type 0) : Type 0 where

@@ -7,10 +7,10 @@ use mathlib.Core.Bool.{Bool, true, false, _||_}
 use mathlib.Core.Logic.{_⊎_}
 use lib.Dec.{eqb}
 use Rattle.meaning.specs.Basics.{_∈_}
-use Rattle.meaning.specs.Term.{nil, cons, one, own, slot, metavariable, function, hole, Terms, Term, IsExpression}
+use Rattle.meaning.specs.Term.{IsExpression, Term, Terms, cons, function, hole, metavariable, nil, one, own, slot}
+use Rattle.meaning.specs.Problem.{Problem, Where, alone, applied, argumentOf, expressions, patterns, placesOf, plain, standings}
 use Rattle.meaning.specs.Shift.{ClosedTerm}
-use Rattle.meaning.specs.Problem.{Problem, patterns, expressions, plain, applied, placesOf, Where, alone, argumentOf, standings}
-use Rattle.meaning.specs.Filling.{absent, leftOpen, value, body, Filling, bodyOr, filled, IsBody}
+use Rattle.meaning.specs.Filling.{Filling, IsBody, absent, body, bodyOr, filled, leftOpen, value}
 
 -- Whether a body has a hole for argument i
 abbrev pub hasHole : ℕ → Terms → Bool

@@ -3,8 +3,8 @@
 --   Starred   a case with the bytes of its problem and of its solutions' texts
 use Prim.Native.Nat.{ℕ, zero, suc, _/_, _%_, _^_}
 use mathlib.Core.List.{List, [], _∷_, _++_}
-use Rattle.meaning.specs.Field.{Bytes}
-use Rattle.meaning.specs.Case.{Case, noConstraint, oneSymbol, twoValues, onePlusOne, twoApplications, boundValue, unusedVariable, underBinder, notCaught}
+use Rattle.meaning.specs.Basics.{Bytes}
+use Rattle.meaning.specs.Case.{Case, boundValue, noConstraint, notCaught, onePlusOne, oneSymbol, twoApplications, twoValues, underBinder, unusedVariable}
 
 abbrev pub hex : ℕ → ℕ → Bytes
 hex zero digits = []

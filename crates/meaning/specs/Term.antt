@@ -6,10 +6,9 @@
 --   Named       labels as the bytes have them: a variable is its number, a binder has the number of its bound variable
 --   Nameless    labels as they are meant: a variable is free, or bound by the binder that its de Bruijn index counts to
 use Prim.Native.Nat.{ℕ, zero, suc, _+_, _-_}
-use mathlib.Core.Bool.{Bool, true, false, _&&_}
 use mathlib.Core.Option.{Option, none, some}
 use lib.Dec.{ltb}
-use Rattle.meaning.specs.Basics.{choose}
+use Rattle.meaning.specs.Basics.{choose, ifSome}
 
 pub data Forest (L : Type 0) : Type 0 where
   nil : Forest L
@@ -44,13 +43,6 @@ nodeAt (suc n) (cons l c s) = choose (ltb n (size c)) (nodeAt n c) (nodeAt (n - 
 abbrev pub relabel : {E L M : Type 0} → (L → E → E) → (E → L → M) → E → Forest L → Forest M
 relabel into f e nil = nil
 relabel into f e (cons l c s) = cons (f e l) (relabel into f (into l e) c) (relabel into f e s)
-
--- Two forests alike in shape and in each label, by a test of labels
-abbrev pub alike : {L : Type 0} → (L → L → Bool) → Forest L → Forest L → Bool
-alike same nil nil = true
-alike same nil (cons l c s) = false
-alike same (cons l c s) nil = false
-alike same (cons l c s) (cons l′ c′ s′) = same l l′ && (alike same c c′ && alike same s s′)
 
 -- A node of an expression: X is what stands for a variable, B what a binder says of its bound variable
 pub data Own (X B : Type 0) : Type 0 where
@@ -92,13 +84,24 @@ Terms = Forest Nameless
 abbrev pub Term : Type 0
 Term = Tree Nameless
 
+-- The variable that a node is, if it is one, and what a binder says of its bound variable
+abbrev pub variableOf : {X B : Type 0} → Label X B → Option X
+variableOf (own (symbol n)) = none
+variableOf (own (variable v)) = some v
+variableOf (own (application n)) = none
+variableOf (own (binder b x)) = none
+variableOf (slot z) = none
+
+abbrev pub binderOf : {X B : Type 0} → Label X B → Option B
+binderOf (own (symbol n)) = none
+binderOf (own (variable v)) = none
+binderOf (own (application n)) = none
+binderOf (own (binder b x)) = some x
+binderOf (slot z) = none
+
 -- The number of binders around the children of a node that has k around it
 abbrev pub inner : {X B : Type 0} → Label X B → ℕ → ℕ
-inner (own (symbol n)) k = k
-inner (own (variable v)) k = k
-inner (own (application n)) k = k
-inner (own (binder b x)) k = suc k
-inner (slot z) k = k
+inner l k = ifSome (binderOf l) (λ x. suc) k
 
 -- An expression has no slot
 abbrev pub ownLabel : {X B : Type 0} → Label X B → Type 0

@@ -4,24 +4,23 @@
 --   Says      the filling that a text names
 --   Passes    the checker says yes
 use mathlib.Core.Path.{_≡_}
-use Prim.Native.Nat.{ℕ, zero, suc, _<_}
+use Prim.Native.Nat.{ℕ, zero, suc}
 use mathlib.Core.List.{List, [], _∷_, map}
 use mathlib.Core.Option.{Option, none, some}
 use lib.ListN.{length, drop, getD}
 use lib.Dec.{eqb, ltb}
 use Rattle.meaning.specs.Limits.{maxDepth, maxText, metavariableCount}
-use Rattle.meaning.specs.Basics.{choose, each, orNone, Distinct}
-use Rattle.meaning.specs.Term.{nil, one, nodeAt, slot, hole, NamedTerm, Term}
+use Rattle.meaning.specs.Basics.{Bytes, Distinct, choose, orNone}
+use Rattle.meaning.specs.Term.{NamedTerm, Term, hole, nil, nodeAt, slot}
 use Rattle.meaning.specs.Scope.{namelessTerm}
-use Rattle.meaning.specs.Problem.{Problem, namedExpressions, isFunction, functions, metavariables}
-use Rattle.meaning.specs.Filling.{Entry, absent, leftOpen, value, body, Filling}
+use Rattle.meaning.specs.Problem.{Problem, functions, isFunction, metavariables, namedExpressions}
+use Rattle.meaning.specs.Read.{Answer, Context, Parts, after, got, inBody, inExpression, partsOf, readTerm, refused}
+use Rattle.meaning.specs.Filling.{Entry, Filling, absent, body, leftOpen, value}
 use Rattle.meaning.specs.Solution.{Solution}
 use Rattle.meaning.specs.Face.{Face, faces, firstFace}
-use Rattle.meaning.specs.Row.{Row, choiceIn, punchTerm}
-use Rattle.meaning.specs.Value.{Source, sources, lookup}
-use Rattle.meaning.specs.Field.{Bytes, field, encode}
-use Rattle.meaning.specs.Readable.{Readable}
-use Rattle.meaning.specs.Read.{Answer, refused, got, after, Context, inExpression, inBody, Parts, partsOf, readTerm}
+use Rattle.meaning.specs.Choice.{punchTerm}
+use Rattle.meaning.specs.Row.{Row, choiceIn}
+use Rattle.meaning.specs.Value.{Source, lookup, sources}
 
 abbrev pub Item : Type 0
 Item = ℕ × Entry NamedTerm
@@ -50,25 +49,6 @@ entryOf p r m = choose (isFunction p m) (writtenBody p r m) (writtenValue p (loo
 
 unfoldable pub textOf : Problem → Row → List Item
 textOf p r = map (λ m. (m, entryOf p r m)) (metavariables p)
-
-abbrev pub encodeEntry : ℕ → Entry NamedTerm → Bytes
-encodeEntry m absent = []
-encodeEntry m leftOpen = field 11 (m ∷ [])
-encodeEntry m (value t) = field 8 (m ∷ encode (one t))
-encodeEntry m (body t) = field 9 (m ∷ encode (one t))
-
-unfoldable pub encodeText : List Item → Bytes
-encodeText is = each (λ (i : Item). encodeEntry (i .0) (i .1)) is
-
--- Which items have bytes
-abbrev pub ReadableEntry : Entry NamedTerm → Type 0
-ReadableEntry absent = ⊥
-ReadableEntry leftOpen = Unit {0}
-ReadableEntry (value t) = Readable maxDepth inExpression (one t)
-ReadableEntry (body t) = Readable maxDepth inBody (one t)
-
-abbrev pub ReadableItem : Item → Type 0
-ReadableItem i = (i .0 < metavariableCount) × ReadableEntry (i .1)
 
 -- Reading a text: 19, then 20 for whatever is not as above
 abbrev pub orTwenty : {A : Type 0} → Answer A → Answer A

@@ -11,21 +11,17 @@ use Prim.Native.Nat.{ℕ}
 use mathlib.Core.Bool.{Bool, false, _||_}
 use mathlib.Core.List.{List, []}
 use lib.Dec.{eqb}
-use Rattle.meaning.specs.Basics.{choose, All}
-use Rattle.meaning.specs.Term.{Forest, nil, cons, graft, one, symbol, variable, application, binder, own, slot, Slot, metavariable, function, hole, Named, NamedTerm, Terms, Term}
+use Rattle.meaning.specs.Basics.{All, choose, holds}
+use Rattle.meaning.specs.Term.{Forest, Named, NamedTerm, Slot, Term, Terms, cons, function, graft, hole, metavariable, nil, one, own, slot, variableOf}
 use Rattle.meaning.specs.Scope.{enter, nameless}
 use Rattle.meaning.specs.Shift.{ClosedTerm}
-use Rattle.meaning.specs.Rename.{binds, Alpha}
-use Rattle.meaning.specs.Filling.{argument, Entry, absent, leftOpen, value, body, Filling, valueOr, bodyOr}
+use Rattle.meaning.specs.Filling.{Entry, Filling, absent, argument, body, bodyOr, leftOpen, value, valueOr}
 use Rattle.meaning.specs.Text.{meant}
+use Rattle.meaning.specs.Rename.{Alpha, binds}
 
 -- Free names
 abbrev pub isVariable : ℕ → Named → Bool
-isVariable x (own (symbol n)) = false
-isVariable x (own (variable y)) = eqb x y
-isVariable x (own (application n)) = false
-isVariable x (own (binder b y)) = false
-isVariable x (slot z) = false
+isVariable x l = holds (eqb x) (variableOf l)
 
 abbrev pub isFree : ℕ → Forest Named → Bool
 isFree x nil = false

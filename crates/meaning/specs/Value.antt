@@ -1,21 +1,18 @@
--- Where the values of a row come from, and the full list.
---   Source     a metavariable, and a node of the expressions whose subexpression it stands for
---   candidate  the one filling that a row can be the solution row of
---   solves     whether it is a solution
---   fullList   "its solution rows in row order, each with its one solution"
+-- Where the values of a row come from.
+--   Source    a metavariable, and a node of the expressions whose subexpression it stands for
+--   sources   those of a row, in the order in which they are asked: the first of a metavariable's is the one that its value is copied from
 use Prim.Native.Nat.{ℕ}
-use mathlib.Core.Bool.{Bool, true, false, _&&_}
-use mathlib.Core.List.{List, [], _∷_, _++_, map}
+use mathlib.Core.Bool.{Bool, false}
+use mathlib.Core.List.{List, [], _∷_, _++_}
 use mathlib.Core.Option.{Option, none, some}
 use lib.Dec.{eqb}
-use Rattle.meaning.specs.Basics.{choose, keep, each, every, upTo, andThen, orNone}
-use Rattle.meaning.specs.Term.{one, Slot, metavariable, function, hole, Term}
-use Rattle.meaning.specs.Shift.{lowerTerm, isClosed}
-use Rattle.meaning.specs.Equal.{sameTerms}
-use Rattle.meaning.specs.Problem.{Problem, patterns, expressions, isFunction, isPlain, metavariables}
-use Rattle.meaning.specs.Filling.{argument, Entry, absent, leftOpen, value, body, Filling, filled}
-use Rattle.meaning.specs.Face.{Face, walk, faces}
-use Rattle.meaning.specs.Row.{Row, rows, rowBody}
+use Rattle.meaning.specs.Basics.{andThen, choose, each, orNone, upTo}
+use Rattle.meaning.specs.Term.{Slot, Term, function, hole, metavariable, one}
+use Rattle.meaning.specs.Problem.{Problem}
+use Rattle.meaning.specs.Filling.{argument}
+use Rattle.meaning.specs.Face.{Face, faces, walk}
+use Rattle.meaning.specs.Row.{Row, rowBody}
+use Rattle.meaning.specs.Lower.{lowerTerm}
 
 pub record Source : Type 0 where
   pub number : ℕ
@@ -65,27 +62,3 @@ sources p r = sourcesIn (rowBody p r) (orNone (faces p))
 abbrev pub lookup : ℕ → List Source → Option Source
 lookup m [] = none
 lookup m (x ∷ xs) = choose (eqb m (x .number)) (some x) (lookup m xs)
-
-abbrev pub given : Option Source → Entry Term
-given none = leftOpen
-given (some x) = value (x .term)
-
-unfoldable pub candidate : Problem → Row → Filling
-candidate p r m = choose (isFunction p m) (body (rowBody p r m)) (choose (isPlain p m) (given (lookup m (sources p r))) absent)
-
--- "Values and bodies have no variable bound outside themselves"
-abbrev pub isClosedEntry : Entry Term → Bool
-isClosedEntry absent = true
-isClosedEntry leftOpen = true
-isClosedEntry (value t) = isClosed 0 (one t)
-isClosedEntry (body b) = isClosed 0 (one b)
-
-unfoldable pub solves : Problem → Row → Bool
-solves p r =
-    sameTerms (filled (candidate p r) (patterns p)) (expressions p) && every (λ m. isClosedEntry (candidate p r m)) (metavariables p)
-
-unfoldable pub solutionRows : Problem → List Row
-solutionRows p = keep (solves p) (rows p)
-
-unfoldable pub fullList : Problem → List (Row × Filling)
-fullList p = map (λ r. (r, candidate p r)) (solutionRows p)

@@ -16,9 +16,10 @@ use Rattle.meaning.specs.Basics.{choose, All, _∈_}
 use Rattle.meaning.specs.Basics as basics
 use Rattle.meaning.specs.Term.{one, size, Term}
 use Rattle.meaning.specs.Equal.{View}
-use Rattle.meaning.specs.Choice.{Mark, Marks, Owner, views, usesFace, Choice, isChoice, allMarks}
+use Rattle.meaning.specs.Choice.{Mark, Marks, Owner, views, usesFace, Choice}
+use Rattle.meaning.specs.Choices.{isChoice, allMarks}
 use Rattle.meaning.specs.Choice as meant
-use Rattle.meaning.specs.Search.{maskOf}
+use Rattle.meaning.specs.PlaceValue.{maskOf}
 use Rattle.meaning.proofs.Lists.{T-true, true-T, mem-keep, keep-mem}
 use Rattle.meaning.proofs.Alike.{sameOwned-eq, sameOwned-refl}
 use Rattle.meaning.proofs.Ordered.{Placed, allMarks-are}

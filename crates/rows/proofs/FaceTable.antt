@@ -12,7 +12,8 @@ use lib.Dec.{leb, ltb}
 use borrow.Author.Tests.{lt-ltb, le-ltb, not-true}
 use Rattle.meaning.specs.Term.{one, size, Term}
 use Rattle.meaning.specs.Scope.{enter, namelessLabel, namelessTerm}
-use Rattle.meaning.specs.Shift.{lowerTerm, Closed}
+use Rattle.meaning.specs.Lower.{lowerTerm}
+use Rattle.meaning.specs.Shift.{Closed}
 use Rattle.meaning.specs.Equal.{View, view, Equal}
 use Rattle.meaning.specs.Choice.{Owner, ownerOf, views, usesFace}
 use Rattle.meaning.proofs.ShiftLaws.{relabel-size}

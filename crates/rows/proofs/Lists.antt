@@ -4,7 +4,7 @@ use mathlib.Core.List.{List, [], _∷_, _++_, map, map-append, map-map, List·Me
 use Prim.Native.Nat.{ℕ, zero, suc}
 use lib.ListN.{replicate}
 use Rattle.meaning.specs.Basics.{each, _∈_, Distinct}
-use Rattle.meaning.specs.Row.{product}
+use Rattle.meaning.specs.Rows.{product}
 
 -- ---- maps
 

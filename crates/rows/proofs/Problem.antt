@@ -16,9 +16,12 @@ use Rattle.meaning.specs.Basics.{countFrom, upTo, every, _∈_, isSome}
 use Rattle.meaning.specs.Term.{one, size}
 use Rattle.meaning.specs.Problem.{Problem, placesOf, functions}
 use Rattle.meaning.specs.Face.{Face, faces}
-use Rattle.meaning.specs.Choice.{Marks, choices}
-use Rattle.meaning.specs.Row.{Row, product, faceOf, rowsOver, rows, ChoiceEach}
-use Rattle.meaning.specs.Search.{at, placeOf, start, maskOf, PlaceValue, masksOf, placeValue}
+use Rattle.meaning.specs.Choice.{Marks}
+use Rattle.meaning.specs.Choices.{choices}
+use Rattle.meaning.specs.Row.{Row, faceOf, ChoiceEach}
+use Rattle.meaning.specs.Rows.{product, rowsOver, rows}
+use Rattle.meaning.specs.Search.{at, placeOf, start}
+use Rattle.meaning.specs.PlaceValue.{maskOf, PlaceValue, masksOf, placeValue}
 use Rattle.meaning.specs.Accept.{bothWays, overlarge, checkProblem}
 use Rattle.meaning.specs.Readable.{Accepted}
 use Rattle.meaning.proofs.Lists.{true-T, mem-map, map-mem, at-mem, all-mem, every-all}

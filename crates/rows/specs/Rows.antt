@@ -12,7 +12,7 @@ use Prim.Native.Nat.{ℕ, _*_, _^_, _<_}
 use lib.ListN.{length, take, drop, replicate}
 use Rattle.meaning.specs.Limits.{maxFunctions}
 use Rattle.meaning.specs.Basics.{upTo}
-use Rattle.meaning.specs.Row.{product}
+use Rattle.meaning.specs.Rows.{product}
 use Rattle.meaning.specs.Search.{Place, at, past, placeOf}
 use Rattle.masks.specs.Mask.{width}
 use Rattle.masks.specs.Order.{below}

@@ -12,7 +12,8 @@ use lib.ListN.{length, getD, getElem?}
 use Rattle.meaning.specs.Term.{one, size, Term}
 use Rattle.meaning.specs.Equal.{View}
 use Rattle.meaning.specs.Problem.{Problem, functions}
-use Rattle.meaning.specs.Choice.{Owner, views, usesFace, sameOwned}
+use Rattle.meaning.specs.Choice.{Owner, views, usesFace}
+use Rattle.meaning.specs.Choices.{sameOwned}
 use Rattle.meaning.specs.Row.{faceOf}
 use Rattle.masks.specs.Mask.{width}
 use Rattle.masks.specs.Face.{Classes}

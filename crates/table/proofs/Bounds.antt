@@ -9,7 +9,7 @@ use lib.Dec.{eqb, ltb}
 use borrow.Author.Tests.{ltb-false}
 use Rattle.meaning.specs.Limits.{metavariableCount}
 use Rattle.meaning.specs.Term.{Forest, nil, graft, one, size, trees, application, own, Named, NamedTerm}
-use Rattle.meaning.specs.Field.{Bytes}
+use Rattle.meaning.specs.Basics.{Bytes}
 use Rattle.meaning.specs.Read.{Answer, refused, got, after, Context, Kind, symbolKind, variableKind, applicationKind, binderKind, metavariableKind, functionKind, holeKind, Parts, Head, wordAt, partsOf, kindOf, headWith, headOf, Content, leaf, over, many, contentOf, Reader, contextBelow, readExactly, readAll, readContent, readTerm, constraintHead}
 use Rattle.meaning.proofs.ByteLaws.{got-is, refused-not, by-choice}
 use Rattle.table.specs.Heads.{readFields}

@@ -11,7 +11,7 @@ use lib.ListN.{length, take, drop, getD, length-drop}
 use lib.Seq.{drop-drop}
 use borrow.Author.Tests.{ne-eqb, eq-eqb, lt-ltb, le-ltb}
 use Rattle.meaning.specs.Term.{Forest, nil, Named, NamedTerm, trees}
-use Rattle.meaning.specs.Field.{Bytes}
+use Rattle.meaning.specs.Basics.{Bytes}
 use Rattle.meaning.specs.Read.{Answer, refused, got, after, Context, inArgument, Head, wordAt, partsOf, kindOf, headOf, contentOf, Reader, contextBelow, readExactly, readContent, readTerm}
 use Rattle.table.specs.Heads.{labelOf, fixedOf, dueOf, contentWith, readFields, kindFrom, PartsDone, HeadDone, DueFits, ContentDone, openRead, OpenDone}
 use Rattle.table.specs.declared.field.Kind as code

@@ -22,7 +22,9 @@ use borrow.Author.Tests.{lt-ltb, le-ltb, le-leb, lt-leb}
 use Rattle.meaning.specs.Basics.{choose, andThen, isSome}
 use Rattle.meaning.specs.Term.{Forest, nil, cons, one, size, trees, relabel, symbol, variable, application, binder, Label, own, slot, metavariable, function, hole, Named, Variable, free, bound, Nameless, NamedTerm, Terms, Term, inner}
 use Rattle.meaning.specs.Scope.{resolve, enter, namelessLabel, nameless, namelessTerm}
-use Rattle.meaning.specs.Shift.{withVariable, sink, lowerLabel, lower, lowerTerm, ClosedTerm, isClosedVariable, isClosedLabel, isClosed}
+use Rattle.meaning.specs.Shift.{withVariable, ClosedTerm}
+use Rattle.meaning.specs.Lower.{sink, lowerLabel, lower, lowerTerm}
+use Rattle.meaning.specs.ClosedTest.{isClosedVariable, isClosedLabel, isClosed}
 use Rattle.meaning.specs.Equal.{Seen, seenFree, inside, outside, see, View, view, Equal}
 use Rattle.meaning.specs.Field.{tagOf}
 use Rattle.meaning.specs.Read.{Context, contextBelow}

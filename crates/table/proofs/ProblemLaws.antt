@@ -11,11 +11,10 @@ use native.Mathlib.Numerals.{add-one}
 use lib.ListN.{length, take, drop, length-append}
 use lib.Dec.{eqb}
 use borrow.Author.Tests.{ne-eqb, eq-eqb, eqb-true, eqb-false, lt-ltb, le-ltb}
-use Rattle.meaning.specs.Basics.{choose}
+use Rattle.meaning.specs.Basics.{choose, Bytes}
 use Rattle.meaning.specs.Limits.{maxInput, maxConstraints, maxDepth}
 use Rattle.meaning.specs.Term.{one, NamedTerm}
 use Rattle.meaning.specs.Problem.{Constraint, Problem, namedPatterns, namedExpressions}
-use Rattle.meaning.specs.Field.{Bytes}
 use Rattle.meaning.specs.Read.{Answer, refused, got, after, Parts, inPattern, inExpression, readTerm, readPair, constraintHead, readConstraints, readProblem}
 use Rattle.table.specs.Token.{tokens, patternTokens, expressionTokens}
 use Rattle.table.specs.Heads.{PartsDone}

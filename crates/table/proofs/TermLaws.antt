@@ -12,10 +12,9 @@ use lib.ListN.{length, take, drop, length-drop, length-append}
 use lib.Seq.{drop-drop}
 use lib.Dec.{eqb}
 use borrow.Author.Tests.{eqb-true, eqb-false, ne-eqb, eq-eqb}
-use Rattle.meaning.specs.Basics.{choose}
+use Rattle.meaning.specs.Basics.{choose, Bytes}
 use Rattle.meaning.specs.Term.{Forest, nil, cons, graft, one, size, trees, Named, NamedTerm}
 use Rattle.meaning.specs.Scope.{enter}
-use Rattle.meaning.specs.Field.{Bytes}
 use Rattle.meaning.specs.Read.{Answer, refused, got, after, Context, Reader, contextBelow, readExactly, readAll, readTerm}
 use Rattle.table.specs.Token.{tokens}
 use Rattle.table.specs.Heads.{labelOf, fixedOf, dueOf, readFields, openRead, OpenFits, OpenDone}

@@ -10,9 +10,9 @@ use Prim.Native.Nat.{ℕ, _+_, _-_, _*_, _≤_, _<_}
 use mathlib.Core.List.{List, _++_}
 use lib.ListN.{length, drop, set}
 use lib.Dec.{eqb}
-use Rattle.meaning.specs.Basics.{choose}
+use Rattle.meaning.specs.Basics.{choose, Bytes}
 use Rattle.meaning.specs.Term.{Forest, Named, NamedTerm, one, trees}
-use Rattle.meaning.specs.Field.{Bytes, tagOf}
+use Rattle.meaning.specs.Field.{tagOf}
 use Rattle.meaning.specs.Read.{Answer, refused, got}
 use Rattle.table.specs.Token.{tokenOf, payloadOf, tokens}
 use Rattle.table.specs.Heads.{labelOf}

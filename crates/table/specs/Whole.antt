@@ -9,10 +9,9 @@ use Prim.Native.Nat.{ℕ, _+_, _≤_, _<_}
 use mathlib.Core.List.{List, []}
 use lib.ListN.{length, take, drop}
 use lib.Dec.{eqb}
-use Rattle.meaning.specs.Basics.{choose}
+use Rattle.meaning.specs.Basics.{choose, Bytes}
 use Rattle.meaning.specs.Term.{one}
 use Rattle.meaning.specs.Problem.{Constraint, Problem}
-use Rattle.meaning.specs.Field.{Bytes}
 use Rattle.meaning.specs.Read.{Answer, refused, got, Parts, constraintHead}
 use Rattle.table.specs.Token.{tokens, patternTokens, expressionTokens}
 use Rattle.table.specs.Reading.{Space, Written}
