@@ -9,15 +9,15 @@ use lib.Dec.{eqb, T}
 use Rattle.meaning.specs.Basics.{choose, All, _∈_}
 use Rattle.meaning.specs.Term.{one, Term}
 use Rattle.meaning.specs.Shift.{ClosedTerm}
-use Rattle.meaning.specs.Equal.{sameTerms}
 use Rattle.meaning.specs.Filling.{value, Filling}
 use Rattle.meaning.specs.Value.{Source, lookup}
+use Rattle.meaning.specs.Same.{sameTerms}
 use Rattle.meaning.proofs.Lists.{never, T-true, true-T, and-T, T-and, choose-true, eqb-self, eqb-eq, all-mem}
 use Rattle.meaning.proofs.ShiftLaws.{test-closed, closed-test}
 use Rattle.meaning.proofs.Alike.{sameTerms-eq, sameTerms-refl}
 use Rattle.meaning.proofs.Renaming.{one-injective}
 use Rattle.meaning.proofs.Candidate.{lookup-is, lookup-none, lookup-cases}
-use Rattle.demands.specs.Agree.{Agreeing, agreesWith, agreeAfter}
+use Rattle.demands.specs.Agreeing.{Agreeing, agreesWith, agreeAfter}
 use Rattle.demands.proofs.Holding.{Holds}
 
 -- DEMANDS THAT HOLD of one filling agree, if they are closed

@@ -5,12 +5,12 @@ use mathlib.Core.List.{List, _++_}
 use mathlib.Core.Option.{Option, none, some}
 use Rattle.meaning.specs.Basics.{each, upTo, andThen, orNone}
 use Rattle.meaning.specs.Term.{one, Slot, metavariable, function, hole, Term}
-use Rattle.meaning.specs.Shift.{lowerTerm}
 use Rattle.meaning.specs.Problem.{Problem}
 use Rattle.meaning.specs.Filling.{argument}
 use Rattle.meaning.specs.Face.{Face, walk, faces}
 use Rattle.meaning.specs.Row.{Row, rowBody}
 use Rattle.meaning.specs.Value.{Source, sourceOf, lowestHole, fromHole, fromApplication, sourcesIn, sources}
+use Rattle.meaning.specs.Lower.{lowerTerm}
 use Rattle.demands.specs.Demand.{eachSome, sourcesMet, holeDemands, lowestDemand, placeDemands, slotLowest, lowestIn, lowestDemands}
 use Rattle.demands.proofs.Answers.{then-some, joined, each-some-is}
 

@@ -7,8 +7,9 @@ use Rattle.meaning.specs.Basics.{each, All, AllO, _∈_}
 use Rattle.meaning.specs.Term.{nil, cons, one, own, slot, Slot, metavariable, function, hole, Terms, Term}
 use Rattle.meaning.specs.Problem.{Problem, patterns, expressions, applications, applied}
 use Rattle.meaning.specs.Filling.{fill, plug, Entry, body, Filling, bodyOr, fillHandler, filled, IsBody}
-use Rattle.meaning.specs.Face.{Face, faces, Satisfied}
+use Rattle.meaning.specs.Face.{Face, faces}
 use Rattle.meaning.specs.Value.{sourceAt, sourceOf}
+use Rattle.meaning.specs.Agree.{Satisfied}
 use Rattle.meaning.proofs.Lists.{all-mem, mem-all, all-append, join-in, join-out}
 use Rattle.meaning.proofs.Lockstep.{walk-in, walk-out}
 use Rattle.meaning.proofs.Proper.{IsPattern, Proper}

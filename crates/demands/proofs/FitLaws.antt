@@ -7,12 +7,14 @@ use mathlib.Core.List.{List}
 use mathlib.Core.Option.{Option, none, some}
 use Rattle.meaning.specs.Basics.{All, AllO, _∈_, andThen, orNone}
 use Rattle.meaning.specs.Term.{one, function, Term}
-use Rattle.meaning.specs.Shift.{ClosedTerm}
 use Rattle.meaning.specs.Problem.{Problem, patterns, expressions, plain, applications, applied, functions}
+use Rattle.meaning.specs.Shift.{ClosedTerm}
 use Rattle.meaning.specs.Filling.{value, fillHandler, filled, IsBody}
 use Rattle.meaning.specs.Face.{Face, faces, isApplication}
-use Rattle.meaning.specs.Row.{Row, rows, IsRow, rowBody}
-use Rattle.meaning.specs.Value.{Source, sourcesIn, sources, lookup, given, candidate, isClosedEntry, solves}
+use Rattle.meaning.specs.Row.{Row, IsRow, rowBody}
+use Rattle.meaning.specs.Value.{Source, sourcesIn, sources, lookup}
+use Rattle.meaning.specs.Rows.{rows}
+use Rattle.meaning.specs.Candidate.{given, candidate, isClosedEntry, solves}
 use Rattle.meaning.specs.Readable.{Accepted}
 use Rattle.meaning.proofs.Lists.{T-true, true-T, mem-map, map-mem, mem-keep, keep-mem, eqb-self, mem-all, all-mem}
 use Rattle.meaning.proofs.ShiftLaws.{test-closed, closed-test}

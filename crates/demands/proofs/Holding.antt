@@ -6,10 +6,12 @@ use mathlib.Core.List.{List}
 use mathlib.Core.Option.{Option, none, some}
 use Rattle.meaning.specs.Basics.{each, upTo, All, AllO, _∈_, andThen}
 use Rattle.meaning.specs.Term.{nil, cons, one, trees, own, slot, Slot, metavariable, function, hole, Terms, Term, IsExpression}
-use Rattle.meaning.specs.Shift.{shiftTerm, lowerTerm}
+use Rattle.meaning.specs.Shift.{shiftTerm}
 use Rattle.meaning.specs.Filling.{fill, fillTerm, plugHandler, plug, argument, value, Filling, valueOr, fillHandler, IsBody}
-use Rattle.meaning.specs.Face.{Face, walk, Satisfied}
+use Rattle.meaning.specs.Face.{Face, walk}
 use Rattle.meaning.specs.Value.{Source, sourceAt, sourceOf, lowestHole}
+use Rattle.meaning.specs.Lower.{lowerTerm}
+use Rattle.meaning.specs.Agree.{Satisfied}
 use Rattle.meaning.proofs.Lists.{upTo-mem, mem-upTo, all-mem, mem-all, all-append}
 use Rattle.meaning.proofs.ShiftLaws.{lower-shift-term, shift-lower-term, lower-expression}
 use Rattle.meaning.proofs.Renaming.{one-injective}

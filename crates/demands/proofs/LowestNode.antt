@@ -13,8 +13,7 @@ use lib.Dec.{eqb, T}
 use Rattle.meaning.specs.Basics.{choose}
 use Rattle.meaning.specs.Term.{nil, cons, one, size, nodeAt, own, slot, hole, Own, Variable, Nameless, Terms, Term, inner, IsExpression}
 use Rattle.meaning.specs.Face.{Face, agrees, walk}
-use Rattle.meaning.specs.Choice.{Marks, punch}
-use Rattle.meaning.specs.Row.{punchTerm}
+use Rattle.meaning.specs.Choice.{Marks, punch, punchTerm}
 use Rattle.meaning.specs.Value.{isHole, lowestHole}
 use Rattle.meaning.proofs.Lists.{never, choose-true, choose-false, eqb-self}
 use Rattle.meaning.proofs.ShiftLaws.{ltb-yes, ltb-no}

@@ -7,11 +7,11 @@ use mathlib.Core.Option.{Option, none, some}
 use native.Mathlib.Omega.{arith}
 use Rattle.meaning.specs.Basics.{each, upTo, _∈_, andThen, orNone}
 use Rattle.meaning.specs.Term.{nil, cons, one, trees, own, slot, Slot, metavariable, function, hole, Nameless, Terms, Term}
-use Rattle.meaning.specs.Shift.{lowerTerm}
 use Rattle.meaning.specs.Problem.{Problem, patterns, expressions, plain}
 use Rattle.meaning.specs.Filling.{argument}
 use Rattle.meaning.specs.Face.{Face, walk, faces}
 use Rattle.meaning.specs.Value.{Source, sourceOf, lowestHole, fromHole, fromApplication, sourcesIn}
+use Rattle.meaning.specs.Lower.{lowerTerm}
 use Rattle.meaning.proofs.Lists.{mem-each, each-mem, each-append, upTo-mem}
 use Rattle.meaning.proofs.Proper.{Proper}
 use Rattle.meaning.proofs.Slots.{slots, face-slot, slot-plain, faced-slot, faced-shape}

@@ -7,12 +7,12 @@ use mathlib.Core.List.{List, [], _∷_}
 use mathlib.Core.Option.{Option, none, some}
 use Rattle.meaning.specs.Basics.{each, upTo, andThen, join}
 use Rattle.meaning.specs.Term.{one, Slot, metavariable, function, hole, Term}
-use Rattle.meaning.specs.Shift.{lowerTerm}
 use Rattle.meaning.specs.Problem.{Problem}
 use Rattle.meaning.specs.Filling.{argument}
 use Rattle.meaning.specs.Face.{Face, walk, faces}
 use Rattle.meaning.specs.Row.{Row, rowBody}
 use Rattle.meaning.specs.Value.{Source, sourceOf, lowestHole}
+use Rattle.meaning.specs.Lower.{lowerTerm}
 
 -- A list for each element, joined in order; none if one of them has none
 abbrev pub eachSome : {A B : Type 0} → (A → Option (List B)) → List A → Option (List B)

@@ -8,15 +8,15 @@ use mathlib.Core.List.{List, map}
 use mathlib.Core.Option.{some}
 use Rattle.meaning.specs.Basics.{keep, _∈_, orNone}
 use Rattle.meaning.specs.Term.{Term}
-use Rattle.meaning.specs.Shift.{ClosedTerm}
 use Rattle.meaning.specs.Problem.{Problem, functions}
+use Rattle.meaning.specs.Shift.{ClosedTerm}
 use Rattle.meaning.specs.Filling.{plug}
 use Rattle.meaning.specs.Face.{Face, faces, isApplication}
-use Rattle.meaning.specs.Choice.{Marks}
-use Rattle.meaning.specs.Row.{Row, faceOf, choiceIn, punchTerm}
+use Rattle.meaning.specs.Choice.{Marks, punchTerm}
+use Rattle.meaning.specs.Row.{Row, faceOf, choiceIn}
 use Rattle.meaning.specs.Value.{Source}
 use Rattle.demands.specs.Demand.{lowestDemands}
-use Rattle.demands.specs.Agree.{Agreeing}
+use Rattle.demands.specs.Agreeing.{Agreeing}
 
 -- "Filling m(t) puts the filled t in each hole of m's body": all holes of a place hold one argument
 abbrev pub Suits : Term → Term → Type 0

@@ -1,5 +1,5 @@
 -- The test of a row, as code makes it: by walks alone, with no pattern filled.
 pub mod Demand
-pub mod Agree
+pub mod Agreeing
 pub mod Fit
 pub mod LowestMark

@@ -8,9 +8,10 @@ use mathlib.Core.List.{List, [], _∷_, _++_}
 use mathlib.Core.Option.{Option, none, some}
 use Rattle.meaning.specs.Basics.{_∈_}
 use Rattle.meaning.specs.Term.{one}
-use Rattle.meaning.specs.Shift.{ClosedTerm, isClosed}
-use Rattle.meaning.specs.Equal.{sameTerms}
+use Rattle.meaning.specs.Shift.{ClosedTerm}
 use Rattle.meaning.specs.Value.{Source, lookup}
+use Rattle.meaning.specs.Same.{sameTerms}
+use Rattle.meaning.specs.ClosedTest.{isClosed}
 
 pub record Agreeing (ds : List Source) : Type 0 where
   pub same : (d : Source) → d ∈ ds → (s : Source) × (lookup (d .number) ds ≡ some s) × (s .term ≡ d .term)
