@@ -10,8 +10,7 @@ use Rattle.meaning.specs.Filling.{argument}
 use Rattle.meaning.specs.Face.{Face, walk, faces}
 use Rattle.meaning.specs.Row.{Row, rowBody}
 use Rattle.meaning.specs.Value.{Source, sourceOf, lowestHole, fromHole, fromApplication, sourcesIn, sources}
-use Rattle.meaning.specs.Lower.{lowerTerm}
-use Rattle.demands.specs.Demand.{eachSome, sourcesMet, holeDemands, lowestDemand, placeDemands, slotLowest, lowestIn, lowestDemands}
+use Rattle.demands.specs.Demand.{eachSome, sourcesMet, lowered, holeDemands, lowestDemand, placeDemands, slotLowest, lowestIn, lowestDemands}
 use Rattle.demands.proofs.Answers.{then-some, joined, each-some-is}
 
 met-sources : (o : Option (List Face)) (ds : List Source) → sourcesMet o ≡ some ds → ds ≡ each sourceOf (orNone o)
@@ -20,7 +19,7 @@ met-sources (some ys) ds e = cc
 
 hole-sources : (k : ℕ) (t : Term) (h : Face) (ds : List Source) → holeDemands k t h ≡ some ds → ds ≡ fromHole k t (some h)
 hole-sources k t h ds e =
-    let (u, l, w) = then-some (lowerTerm (h .under) (h .term)) (λ u. sourcesMet (walk k (h .node) (one t) (one u))) ds e in
+    let (u, l, w) = then-some (lowered h) (λ u. sourcesMet (walk k (h .node) (one t) (one u))) ds e in
     met-sources (walk k (h .node) (one t) (one u)) ds w
     ∙ ap (λ (o : Option Term). each sourceOf (orNone (andThen o (λ v. walk k (h .node) (one t) (one v))))) (sym l)
 

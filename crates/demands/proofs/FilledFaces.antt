@@ -4,33 +4,21 @@ use Prim.Native.Nat.{ℕ}
 use mathlib.Core.List.{List}
 use mathlib.Core.Option.{some}
 use Rattle.meaning.specs.Basics.{each, All, AllO, _∈_}
-use Rattle.meaning.specs.Term.{nil, cons, one, own, slot, Slot, metavariable, function, hole, Terms, Term}
+use Rattle.meaning.specs.Term.{one, Slot, metavariable, function, hole, Term}
 use Rattle.meaning.specs.Problem.{Problem, patterns, expressions, applications, applied}
 use Rattle.meaning.specs.Filling.{fill, plug, Entry, body, Filling, bodyOr, fillHandler, filled, IsBody}
 use Rattle.meaning.specs.Face.{Face, faces}
 use Rattle.meaning.specs.Value.{sourceAt, sourceOf}
 use Rattle.meaning.specs.Agree.{Satisfied}
-use Rattle.meaning.proofs.Lists.{all-mem, mem-all, all-append, join-in, join-out}
+use Rattle.meaning.proofs.Lists.{all-mem, mem-all, join-in, join-out}
 use Rattle.meaning.proofs.Lockstep.{walk-in, walk-out}
-use Rattle.meaning.proofs.Proper.{IsPattern, Proper}
-use Rattle.meaning.proofs.Slots.{slots, slot-application, faced-slot, faced-expression, faced-shape, faced-applied}
+use Rattle.meaning.proofs.Proper.{Proper}
+use Rattle.meaning.proofs.Slots.{slot-application, faced-slot, faced-expression, faced-shape, faced-applied}
 use Rattle.demands.specs.Demand.{eachSome, slotLowest, lowestIn}
 use Rattle.demands.specs.Fit.{Suits}
+use Rattle.demands.proofs.SlotKinds.{NoHole, pattern-face}
 use Rattle.demands.proofs.Answers.{each-some-in, each-some-out, all-each, each-all}
-use Rattle.demands.proofs.Holding.{face-has, Holds, slot-holds, holds-slot, filledArguments, application-in, application-out}
-
--- A pattern has no hole
-abbrev NoHole : Slot → Type 0
-NoHole (metavariable m) = Unit {0}
-NoHole (function f n) = Unit {0}
-NoHole (hole i) = ⊥
-
-pattern-slots : (u : Terms) → IsPattern u → All (λ y. NoHole (y .0)) (slots u)
-pattern-slots nil h = tt
-pattern-slots (cons (own o) c s) h = all-append (λ y. NoHole (y .0)) (slots c) (slots s) (pattern-slots c (h .1)) (pattern-slots s (h .2))
-pattern-slots (cons (slot (metavariable m)) c s) h = (tt, pattern-slots s (h .2))
-pattern-slots (cons (slot (function f n)) c s) h = (tt, pattern-slots s (h .2))
-pattern-slots (cons (slot (hole i)) c s) h = absurd (h .0)
+use Rattle.demands.proofs.Holding.{Holds, slot-holds, holds-slot, filledArguments, application-in, application-out}
 
 module _ (p : Problem) (c : Proper p) (xs : List Face) (defined : faces p ≡ some xs) (σ : Filling) (b : ℕ → Term)
     (agree : (f : ℕ) → f ∈ applied (patterns p) → σ f ≡ body (b f)) where
@@ -91,6 +79,6 @@ module _ (p : Problem) (c : Proper p) (xs : List Face) (defined : faces p ≡ so
         (subst (AllO (Satisfied (fillHandler σ))) (sym defined)
         (mem-all (Satisfied (fillHandler σ)) xs
         (λ x q. slot-out x q (x .what) refl
-        (face-has NoHole 0 0 (patterns p) (expressions p) xs defined (pattern-slots (patterns p) (c .pattern)) x q)
+        (pattern-face 0 0 (patterns p) (expressions p) xs defined x q (c .pattern))
         (each-all (Holds σ) sourceOf xs plain x q)
         (each-some-out (Holds σ) (λ x. slotLowest b x (x .what)) xs applying x q))))

@@ -91,7 +91,7 @@ module _ (p : Problem) (accepted : Accepted p) (r : Row) (isRow : IsRow p r) whe
         (meets-demands p proper (w .found) (w .defined) (candidate p r) (rowBody p r) (candidate-function p r) (passes-meets p r e)) in
         (ds, ap (λ (o : Option (List Face)). andThen o (lowestIn (rowBody p r))) (w .defined) ∙ d, h)
 
-    pub solves-fits : FitsTogether p r
+    solves-fits : FitsTogether p r
     unfolding rowBody
     solves-fits = record {
       alone = λ f q. record { suits = body-suits f; closed = body-closed f q };
@@ -150,7 +150,7 @@ module _ (p : Problem) (accepted : Accepted p) (r : Row) (isRow : IsRow p r) whe
     plain-closed m q (inl n) = ap isClosedEntry (plain-value m q ∙ ap given n)
     plain-closed m q (inr (s, l)) = ap isClosedEntry (plain-value m q ∙ ap given l) ∙ closed-value (s .term) (x .agreeing .closed m s l)
 
-    pub fits-solves : solves p r ≡ true
+    fits-solves : solves p r ≡ true
     fits-solves =
         passes-from p r fits-meets
         (λ m q. by-kind p m q (function-closed m) (λ a b. plain-closed m b (lookup-cases m (x .list))))

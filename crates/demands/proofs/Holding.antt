@@ -1,63 +1,29 @@
--- Demands that hold of a filling: an argument, a hole and an application are filled to what they face exactly when their demands hold.
+-- Demands that hold of a filling: an argument and a hole are filled to what they face exactly when their demands hold, and so is an
+-- application whose body suits it.
 --   Holds   a metavariable is given the term that a demand asks for
 use mathlib.Core.Path.{_≡_, refl, ap, sym, _∙_, subst}
 use Prim.Native.Nat.{ℕ, _<_}
 use mathlib.Core.List.{List}
 use mathlib.Core.Option.{Option, none, some}
 use Rattle.meaning.specs.Basics.{each, upTo, All, AllO, _∈_, andThen}
-use Rattle.meaning.specs.Term.{nil, cons, one, trees, own, slot, Slot, metavariable, function, hole, Terms, Term, IsExpression}
+use Rattle.meaning.specs.Term.{one, trees, Slot, metavariable, function, hole, Terms, Term, IsExpression}
 use Rattle.meaning.specs.Shift.{shiftTerm}
 use Rattle.meaning.specs.Filling.{fill, fillTerm, plugHandler, plug, argument, value, Filling, valueOr, fillHandler, IsBody}
 use Rattle.meaning.specs.Face.{Face, walk}
 use Rattle.meaning.specs.Value.{Source, sourceAt, sourceOf, lowestHole}
-use Rattle.meaning.specs.Lower.{lowerTerm}
 use Rattle.meaning.specs.Agree.{Satisfied}
-use Rattle.meaning.proofs.Lists.{upTo-mem, mem-upTo, all-mem, mem-all, all-append}
-use Rattle.meaning.proofs.ShiftLaws.{lower-shift-term, shift-lower-term, lower-expression}
+use Rattle.meaning.proofs.Lists.{upTo-mem, mem-upTo, mem-all}
+use Rattle.meaning.proofs.ShiftLaws.{lower-expression}
 use Rattle.meaning.proofs.Renaming.{one-injective}
 use Rattle.meaning.proofs.Lockstep.{walk-out}
 use Rattle.meaning.proofs.Proper.{IsArgument}
-use Rattle.meaning.proofs.Slots.{slots, face-slot, faces-expression}
+use Rattle.meaning.proofs.Slots.{faces-expression}
 use Rattle.meaning.proofs.Sources.{value-is, Walked, walked, lowest-is, lowest-there, argument-filled, argument-of}
-use Rattle.demands.specs.Demand.{eachSome, sourcesMet, holeDemands, lowestDemand, placeDemands, applicationLowest}
+use Rattle.demands.specs.Demand.{eachSome, sourcesMet, lowered, holeDemands, lowestDemand, placeDemands, applicationLowest}
 use Rattle.demands.specs.Fit.{Suits}
+use Rattle.demands.proofs.SlotKinds.{IsMetavariable, argument-face}
+use Rattle.demands.proofs.Suiting.{Gets, shift-lowered, fill-body}
 use Rattle.demands.proofs.Answers.{each-some-in, each-some-out, then-in, then-out, all-each, each-all}
-
--- The slots of arguments and of bodies
-abbrev IsMetavariable : Slot → Type 0
-IsMetavariable z = (m : ℕ) × (z ≡ metavariable m)
-
-argument-slots : (u : Terms) → IsArgument u → All (λ y. IsMetavariable (y .0)) (slots u)
-argument-slots nil h = tt
-argument-slots (cons (own o) c s) h =
-    all-append (λ y. IsMetavariable (y .0)) (slots c) (slots s) (argument-slots c (h .1)) (argument-slots s (h .2))
-argument-slots (cons (slot (metavariable m)) c s) h = ((m, refl), argument-slots s (h .2))
-argument-slots (cons (slot (function f n)) c s) h = absurd (h .0)
-argument-slots (cons (slot (hole i)) c s) h = absurd (h .0)
-
-abbrev IsHoleOf : ℕ → Slot → Type 0
-IsHoleOf n z = (i : ℕ) × (z ≡ hole i) × (i < n)
-
-body-slots : (n : ℕ) (u : Terms) → IsBody n u → All (λ y. IsHoleOf n (y .0)) (slots u)
-body-slots n nil h = tt
-body-slots n (cons (own o) c s) h =
-    all-append (λ y. IsHoleOf n (y .0)) (slots c) (slots s) (body-slots n c (h .1)) (body-slots n s (h .2))
-body-slots n (cons (slot (metavariable m)) c s) h = absurd (h .0)
-body-slots n (cons (slot (function f a)) c s) h = absurd (h .0)
-body-slots n (cons (slot (hole i)) c s) h = ((i, refl, h .0 .0), body-slots n s (h .2))
-
--- What holds of every slot of a pattern holds of every face of its walk
-pub face-has : (P : Slot → Type 0) (k n : ℕ) (p e : Terms) (xs : List Face) → walk k n p e ≡ some xs → All (λ y. P (y .0)) (slots p)
-    → (x : Face) → x ∈ xs → P (x .what)
-face-has P k n p e xs d a x q =
-    all-mem (λ (y : Slot × Terms). P (y .0)) (x .what, x .children) (slots p) a (face-slot k n p e xs x d q)
-
--- A hole gets the argument of its place, moved under the binders above it
-abbrev Gets : (ℕ → Term) → Face → Slot → Type 0
-Gets a h z = plugHandler a (h .under) z (fill (plugHandler a) (h .under) (h .children)) ≡ h .term
-
-shift-injective : (k : ℕ) (t u : Term) → shiftTerm k t ≡ shiftTerm k u → t ≡ u
-shift-injective k t u e = let q : some t ≡ some u = sym (lower-shift-term k t) ∙ ap (lowerTerm k) e ∙ lower-shift-term k u in cc
 
 abbrev pub Holds : Filling → Source → Type 0
 Holds σ d = σ (d .number) ≡ value (d .term)
@@ -89,7 +55,7 @@ module _ (σ : Filling) where
       walk-out (fillHandler σ) k n t u
       (subst (AllO (Satisfied (fillHandler σ))) (sym d)
       (mem-all (Satisfied (fillHandler σ)) ys
-      (λ y q. at y (face-has IsMetavariable k n t u ys d (argument-slots t v) y q) (each-all (Holds σ) sourceOf ys h y q))))
+      (λ y q. at y (argument-face k n t u ys d y q v) (each-all (Holds σ) sourceOf ys h y q))))
     where
       at : (y : Face) → IsMetavariable (y .what) → All (Holds σ) (sourceOf y) → Satisfied (fillHandler σ) y
       at y (m, e) h =
@@ -102,17 +68,15 @@ module _ (σ : Filling) where
       → AllO (Holds σ) (holeDemands k t h)
   hole-in k t h x e =
       let a : Term = fillTerm (fillHandler σ) k t in
-      let l : lowerTerm (h .under) (h .term) ≡ some a =
-      subst (λ (y : Term). lowerTerm (h .under) y ≡ some a) e (lower-shift-term (h .under) a) in
-      then-in (Holds σ) (lowerTerm (h .under) (h .term)) (λ u. sourcesMet (walk k (h .node) (one t) (one u))) a l
+      let l : lowered h ≡ some a = shift-lowered a h e in
+      then-in (Holds σ) (lowered h) (λ u. sourcesMet (walk k (h .node) (one t) (one u))) a l
       (argument-in k (h .node) (one t) (one a) (lower-expression (h .under) (h .term) a l x) refl)
 
   hole-out : (k : ℕ) (t : Term) (h : Face) → IsArgument (one t) → AllO (Holds σ) (holeDemands k t h)
-      → shiftTerm (h .under) (fillTerm (fillHandler σ) k t) ≡ h .term
+      → lowered h ≡ some (fillTerm (fillHandler σ) k t)
   hole-out k t h v a =
-      let (u, l, w) = then-out (Holds σ) (lowerTerm (h .under) (h .term)) (λ u. sourcesMet (walk k (h .node) (one t) (one u))) a in
-      ap (shiftTerm (h .under)) (one-injective (fillTerm (fillHandler σ) k t) u (argument-out k (h .node) (one t) (one u) v w))
-      ∙ shift-lower-term (h .under) (h .term) u l
+      let (u, l, w) = then-out (Holds σ) (lowered h) (λ u. sourcesMet (walk k (h .node) (one t) (one u))) a in
+      l ∙ ap some (sym (one-injective (fillTerm (fillHandler σ) k t) u (argument-out k (h .node) (one t) (one u) v w)))
 
   -- AN APPLICATION of a function with body b, with n arguments
   abbrev pub filledArguments : Face → ℕ → Term
@@ -147,13 +111,8 @@ module _ (σ : Filling) where
     -- Where some arguments a make the body what is faced, the demands at the lowest hole of a place fix the argument there
     pub application-out : IsArgument (x .children) → IsBody n (one b) → Suits b (x .term) → AllO (Holds σ) (applicationLowest b n x)
         → plug (filledArguments x) b ≡ x .term
-    application-out v ib (a, e) demanded =
-        one-injective (plug (filledArguments x) b) (x .term)
-        (walk-out (plugHandler (filledArguments x)) 0 (x .node) (one b) (one (x .term))
-        (subst (AllO (Satisfied (plugHandler (filledArguments x)))) (sym (w .defined))
-        (mem-all (Satisfied (plugHandler (filledArguments x))) (w .found)
-        (λ h q. at h q
-        (face-has (IsHoleOf n) 0 (x .node) (one b) (one (x .term)) (w .found) (w .defined) (body-slots n (one b) ib) h q)))))
+    application-out v isBody (a, e) demanded =
+        fill-body n (x .node) (filledArguments x) b (x .term) (w .found) isBody (w .defined) (λ h i q z small. at h i q z small)
       where
         w : Walked (plugHandler a) 0 (x .node) (one b) (one (x .term))
         w = walked (plugHandler a) 0 (x .node) (one b) (one (x .term)) (ap (λ (t : Term). one t) e)
@@ -170,14 +129,12 @@ module _ (σ : Filling) where
             let (m, z) = lowest-is i (w .found) h q in
             let lowest : AllO (Holds σ) (holeDemands (x .under) (argument (x .children) i) h) =
             subst (λ (o : Option Face). AllO (Holds σ) (lowestDemand (x .under) (argument (x .children) i) o)) q (placed i small) in
-            let filling : shiftTerm (h .under) (fillTerm (fillHandler σ) (x .under) (argument (x .children) i)) ≡ h .term =
+            let filling : lowered h ≡ some (fillTerm (fillHandler σ) (x .under) (argument (x .children) i)) =
             hole-out (x .under) (argument (x .children) i) h (argument-of (x .children) i v (fewer i small)) lowest in
-            filled-is i small
-            ∙ shift-injective (h .under) (fillTerm (fillHandler σ) (x .under) (argument (x .children) i)) (a i)
-            (filling ∙ sym (subst (Gets a h) z (w .satisfied h m)))
+            let given : lowered h ≡ some (a i) = shift-lowered (a i) h (subst (Gets a h) z (w .satisfied h m)) in
+            filled-is i small ∙ (cc (filling, given))
 
-        at : (h : Face) → h ∈ w .found → IsHoleOf n (h .what) → Satisfied (plugHandler (filledArguments x)) h
-        at h q (i, z, small) =
+        at : (h : Face) (i : ℕ) → h ∈ w .found → h .what ≡ hole i → i < n → shiftTerm (h .under) (filledArguments x i) ≡ h .term
+        at h i q z small =
             let (l, low) = lowest-there i (w .found) h q z in
-            subst (Gets (filledArguments x) h) (sym z)
-            (ap (shiftTerm (h .under)) (fixed i small l low) ∙ subst (Gets a h) z (w .satisfied h q))
+            ap (shiftTerm (h .under)) (fixed i small l low) ∙ subst (Gets a h) z (w .satisfied h q)

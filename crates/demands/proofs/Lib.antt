@@ -2,6 +2,8 @@
 pub mod Answers
 pub mod DemandedSources
 pub mod PlainSources
+pub mod SlotKinds
+pub mod Suiting
 pub mod Holding
 pub mod FilledFaces
 pub mod Agreement

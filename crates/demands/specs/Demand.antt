@@ -23,10 +23,13 @@ eachSome f (x ∷ xs) = join (f x) (eachSome f xs)
 abbrev pub sourcesMet : Option (List Face) → Option (List Source)
 sourcesMet o = andThen o (λ ys. some (each sourceOf ys))
 
--- At a hole h, with k binders above the application: the argument t against the subexpression there, without the binders of the body
--- above it; none where one of these is used, or the shapes disagree
+-- What a hole holds, without the binders of the body above it; none where one of these is used
+abbrev pub lowered : Face → Option Term
+lowered h = lowerTerm (h .under) (h .term)
+
+-- At a hole h, with k binders above the application: the argument t against what the hole holds; none where the shapes disagree
 abbrev pub holeDemands : ℕ → Term → Face → Option (List Source)
-holeDemands k t h = andThen (lowerTerm (h .under) (h .term)) (λ u. sourcesMet (walk k (h .node) (one t) (one u)))
+holeDemands k t h = andThen (lowered h) (λ u. sourcesMet (walk k (h .node) (one t) (one u)))
 
 -- A place without a hole demands nothing: "an open metavariable stands only in arguments of functions whose body has no hole"
 abbrev pub lowestDemand : ℕ → Term → Option Face → Option (List Source)
