@@ -19,7 +19,7 @@ use Rattle.meaning.specs.Read.{refused, got}
 use Rattle.meaning.specs.Accept.{bothWays, overlarge, checkProblem}
 use Rattle.meaning.specs.Readable.{WithinLimits}
 use Rattle.meaning.proofs.Lists.{by-test, choose-true, choose-false}
-use Rattle.table.specs.Token.{patternTokens, expressionTokens}
+use Rattle.tokens.specs.Token.{patternTokens, expressionTokens}
 use Rattle.faces.specs.declared.check.Checked.{Checked}
 use Rattle.faces.specs.declared.check.Checked.the-variants as checked
 use Rattle.faces.specs.FlatWalk.{flatWalk}

@@ -17,8 +17,8 @@ use Rattle.meaning.specs.Row.{faceTerm, faceOf}
 use Rattle.meaning.specs.Readable.{WithinLimits, Accepted}
 use Rattle.meaning.proofs.Proper.{accepted-proper, functions-applied}
 use Rattle.meaning.proofs.RowBodies.{face-expression}
-use Rattle.table.specs.Token.{sizeIn, patternTokens, expressionTokens}
-use Rattle.table.specs.Key.{at}
+use Rattle.tokens.specs.Token.{sizeIn, patternTokens, expressionTokens}
+use Rattle.tokens.specs.Key.{at}
 use Rattle.faces.specs.FlatWalk.{patternNode, expressionNode}
 use Rattle.faces.specs.Recorded.{Records, Recorded, Both}
 use Rattle.faces.specs.declared.survey.Occurring.{Occurring}

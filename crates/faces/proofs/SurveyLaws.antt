@@ -17,8 +17,8 @@ use borrow.Author.Tests.{eq-eqb, ne-eqb}
 use Rattle.meaning.specs.Limits.{metavariableCount}
 use Rattle.meaning.specs.Basics.{choose, keep, upTo, isIn}
 use Rattle.meaning.proofs.Lists.{upTo-mem}
-use Rattle.table.specs.Token.{tagIn, payloadIn}
-use Rattle.table.specs.Key.{at}
+use Rattle.tokens.specs.Token.{tagIn, payloadIn}
+use Rattle.tokens.specs.Key.{at}
 use Rattle.faces.specs.declared.survey.Occurring.{Occurring}
 use Rattle.faces.specs.Survey.{has, numbers, Added, Marked, Surveyed, meets, count, functionsIn, bothIn}
 use Rattle.faces.proofs.BitLaws.{has-or, has-none, has-one, every-same, keep-same, meets-and, ones-count}

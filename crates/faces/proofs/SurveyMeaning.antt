@@ -14,7 +14,7 @@ use Rattle.meaning.specs.Field.{tagOf}
 use Rattle.meaning.specs.Read.{Context, inPattern, contextBelow}
 use Rattle.meaning.specs.Readable.{NodeFits, Readable, WithinLimits}
 use Rattle.meaning.specs.Accept.{bothWays}
-use Rattle.table.specs.Token.{tagIn, payloadIn, payloadOf, tokens, patternTokens}
+use Rattle.tokens.specs.Token.{tagIn, payloadIn, payloadOf, tokens, patternTokens}
 use Rattle.faces.specs.declared.survey.Occurring.{Occurring}
 use Rattle.faces.specs.Survey.{has, numbers, Surveyed, meets, count, functionsIn, bothIn}
 use Rattle.faces.proofs.SurveyLaws.{functions-set, both-set, count-set}

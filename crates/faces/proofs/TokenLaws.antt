@@ -15,11 +15,11 @@ use Rattle.meaning.specs.Field.{word, field, tagOf, fixedPart, encode, encodeCo
 use Rattle.meaning.specs.Read.{Context, inPattern, inExpression, contextBelow}
 use Rattle.meaning.specs.Readable.{Readable, WithinLimits}
 use Rattle.meaning.proofs.Lists.{all-append}
-use Rattle.table.specs.Token.{tokenOf, tagIn, sizeIn, payloadIn, payloadOf, tokens, patternTokens, expressionTokens}
-use Rattle.table.specs.Key.{at}
-use Rattle.table.proofs.KeyLaws.{tag-token, size-token, payload-token, tag-room, enter-room}
+use Rattle.tokens.specs.Token.{tokenOf, tagIn, sizeIn, payloadIn, payloadOf, tokens, patternTokens, expressionTokens}
+use Rattle.tokens.specs.Key.{at}
+use Rattle.tokens.proofs.TokenParts.{tag-token, size-token, payload-token, tag-room, enter-room}
 use Rattle.faces.specs.FlatWalk.{slotTag, isSlot, Table}
-use Rattle.table.proofs.TermLaws.{tokens-length}
+use Rattle.tokens.proofs.TokenParts.{tokens-length}
 use Rattle.meaning.proofs.Proper.{patterns-readable, expressions-readable}
 
 -- Each node has 3 bytes or more

@@ -18,13 +18,13 @@ use Rattle.meaning.specs.Field.{tagOf}
 use Rattle.meaning.specs.Read.{Context, inPattern, inExpression, contextBelow}
 use Rattle.meaning.specs.Readable.{NodeFits, Readable}
 use Rattle.meaning.proofs.Lists.{by-test}
-use Rattle.table.specs.Token.{tokens}
-use Rattle.table.specs.Key.{keyOf}
+use Rattle.tokens.specs.Token.{tokens}
+use Rattle.tokens.specs.Key.{keyOf}
 use Rattle.faces.specs.FlatWalk.{slotTag, isSlot, faceCode, lockstep, flatWalk}
 use Rattle.faces.proofs.FlatLaws.{join-assoc, join-nothing, lockstep-differs, lockstep-same, lockstep-face, lockstep-skip}
 use Rattle.faces.proofs.TokenLaws.{tokenAt, size-at, slot-at, Room, room-depth, room-size, room-below, room-later}
 use Rattle.faces.proofs.TopKeys.{meant, meant-label, keys-agree, agree-trees}
-use Rattle.table.proofs.TermLaws.{tokens-length}
+use Rattle.tokens.proofs.TokenParts.{tokens-length}
 
 abbrev pub meetCode : ℕ → ℕ → Nameless → Nameless → Option (List ℕ) → Option (List ℕ)
 meetCode i j (own o) l below = guard (agrees o l) below

@@ -12,8 +12,8 @@ use mathlib.Core.Option.{Option, none, some}
 use lib.ListN.{length, drop}
 use lib.Dec.{eqb}
 use Rattle.meaning.specs.Basics.{choose, join, guard}
-use Rattle.table.specs.Token.{tagIn, sizeIn}
-use Rattle.table.specs.Key.{keyOf, at}
+use Rattle.tokens.specs.Token.{tagIn, sizeIn}
+use Rattle.tokens.specs.Key.{keyOf, at}
 use Rattle.faces.specs.declared.walk.Shapes.{Shapes}
 use Rattle.faces.specs.declared.walk.Shapes.the-variants as shapes
 

@@ -9,7 +9,7 @@ use lib.ListN.{length}
 use lib.Dec.{eqb}
 use Rattle.meaning.specs.Limits.{metavariableCount}
 use Rattle.meaning.specs.Basics.{choose, keep, upTo, isIn, every}
-use Rattle.table.specs.Token.{tagIn, payloadIn}
+use Rattle.tokens.specs.Token.{tagIn, payloadIn}
 use Rattle.faces.specs.declared.survey.Occurring.{Occurring}
 
 abbrev pub has : ℕ → ℕ → Bool

@@ -1,9 +1,9 @@
 // The first face of each function, and whether one is over the limit.
 use crate::survey::METAVARIABLES;
 use crate::survey::in_set;
-use table::token::payload;
-use table::token::size;
-use table::token::tag;
+use tokens::token::payload;
+use tokens::token::size;
+use tokens::token::tag;
 ghost use mathlib.Core.Path.{_≡_};
 ghost use Prim.Native.Nat.{_+_, _<_, _≤_};
 ghost use lib.ListN.{length};

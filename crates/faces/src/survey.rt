@@ -1,6 +1,6 @@
 // Which metavariables occur, and how: refusals 12 and 13 look at nothing else.
-use table::token::payload;
-use table::token::tag;
+use tokens::token::payload;
+use tokens::token::tag;
 ghost use mathlib.Core.Path.{_≡_};
 ghost use Prim.Native.Nat.{_<_};
 ghost use Rattle.meaning.specs.Limits.{metavariableCount};

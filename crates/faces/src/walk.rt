@@ -1,7 +1,7 @@
 // Pattern and expression walked together from the top.
-use table::same::same_node;
-use table::token::size;
-use table::token::tag;
+use tokens::same::same_node;
+use tokens::token::size;
+use tokens::token::tag;
 ghost use mathlib.Core.Path.{_≡_};
 ghost use Prim.Native.Nat.{_≤_};
 ghost use lib.ListN.{length};

@@ -8,8 +8,8 @@ use native.Mathlib.Omega.{arith}
 use lib.Dec.{ltb}
 use lib.ListN.{length, getD, List·getD-eq-default}
 use borrow.Author.Tests.{lt-ltb, le-ltb}
-use Rattle.table.specs.Token.{depthIn}
-use Rattle.table.specs.Key.{at, usesAt}
+use Rattle.tokens.specs.Token.{depthIn}
+use Rattle.tokens.specs.Key.{at, usesAt}
 use Rattle.masks.specs.Mask.{width}
 use Rattle.masks.specs.Face.{Grown, Entry, Made}
 use Rattle.masks.proofs.Cases.{lt-or-ge}

@@ -19,9 +19,9 @@ use Rattle.meaning.proofs.ShiftLaws.{relabel-size}
 use Rattle.meaning.proofs.ViewLaws.{nameless-closed}
 use Rattle.meaning.proofs.ChoiceLaws.{length-views}
 use Rattle.meaning.proofs.Lowered.{lowered-none}
-use Rattle.table.specs.Token.{depthIn}
-use Rattle.table.specs.Key.{at, sameAt, usesAt, Held, Stands}
-use Rattle.table.proofs.KeyLaws.{stands-depth, stands-size, stands-inside, uses-means, same-means}
+use Rattle.tokens.specs.Token.{depthIn}
+use Rattle.tokens.specs.Key.{at, sameAt, usesAt, Held, Stands}
+use Rattle.tokens.proofs.KeyLaws.{stands-depth, stands-size, stands-inside, uses-means, same-means}
 use Rattle.masks.specs.Mask.{width}
 use Rattle.masks.specs.Face.{Grown, Made, Classes}
 use Rattle.masks.proofs.Cases.{lt-or-ge, same-truth}

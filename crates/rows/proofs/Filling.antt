@@ -9,7 +9,7 @@ use lib.ListN.{length, getD, take, drop, set, replicate, replicate-append-replic
 use lib.Seq.{take-suc-set, take-take, getD-drop, getD-take, drop-at, take-at, length-take-le}
 use borrow.Rule.Slice.PartMut.{putMid, take-put, drop-put}
 use Rattle.meaning.specs.Limits.{maxFunctions}
-use Rattle.table.proofs.Slices.{drop-take}
+use Rattle.slices.proofs.Slices.{drop-take}
 use Rattle.masks.specs.Mask.{width}
 use Rattle.masks.proofs.Cases.{lt-or-ge}
 use Rattle.rows.specs.Rows.{Long, classesAt}

@@ -14,7 +14,7 @@ use Rattle.meaning.specs.Face.{Face, faces}
 use Rattle.meaning.specs.Row.{faceOf}
 use Rattle.meaning.specs.Readable.{Accepted}
 use Rattle.meaning.proofs.Lists.{never, at-mem}
-use Rattle.table.specs.Token.{expressionTokens}
+use Rattle.tokens.specs.Token.{expressionTokens}
 use Rattle.faces.specs.Verdict.{FirstAt, FirstsAt}
 use Rattle.rows.specs.Rows.{classesAt}
 use Rattle.rows.specs.FaceTable.{Whole, Faces, TablesFrom}

@@ -20,9 +20,9 @@ use Rattle.meaning.specs.Choice.{Owner, ownerOf, below, viewsFrom}
 use Rattle.meaning.proofs.Lists.{choose-true, choose-false}
 use Rattle.meaning.proofs.ShiftLaws.{ltb-yes, ltb-no, relabel-size}
 use Rattle.meaning.proofs.ChoiceLaws.{length-views}
-use Rattle.table.proofs.TermLaws.{tokens-length}
-use Rattle.table.proofs.KeyLaws.{enter-room}
-use Rattle.table.specs.Token.{tokens}
+use Rattle.tokens.proofs.TokenParts.{tokens-length}
+use Rattle.tokens.proofs.TokenParts.{enter-room}
+use Rattle.tokens.specs.Token.{tokens}
 
 pub record Spot (d limit : ℕ) (ts : List ℕ) (us : List (View Owner)) (u : Terms) (i : ℕ) : Type 0 where
   pub levels : ℕ

@@ -13,8 +13,8 @@ use Rattle.meaning.specs.Limits.{maxFunctions}
 use Rattle.meaning.specs.Term.{NamedTerm, Term}
 use Rattle.meaning.specs.Scope.{namelessTerm}
 use Rattle.meaning.specs.Read.{Context}
-use Rattle.table.specs.Token.{depthIn, sizeIn}
-use Rattle.table.specs.Key.{at, sameAt, Inside, usesAt, Held, Stands}
+use Rattle.tokens.specs.Token.{depthIn, sizeIn}
+use Rattle.tokens.specs.Key.{at, sameAt, Inside, usesAt, Held, Stands}
 use Rattle.masks.specs.Mask.{width}
 use Rattle.masks.specs.Face.{Classes}
 use Rattle.rows.specs.Rows.{Long, classesAt}

@@ -16,10 +16,10 @@ ghost use Rattle.masks.specs.Table.{Next, NotLast, firstClass};
 ghost use Rattle.masks.specs.Face.{Grown, Entry};
 ghost use Rattle.rows.specs.Rows.{classesAt, choicesAt, maskRows, Long, Tables, Steps};
 ghost use Rattle.rows.specs.FaceTable.{sizeFrom, freeFrom, sameFrom, ClassesFrom, Whole, Faces, TablesFrom};
-use table::same::same;
-use table::same::uses_between;
-use table::token::depth;
-use table::token::size;
+use tokens::same::same;
+use tokens::same::uses_between;
+use tokens::token::depth;
+use tokens::token::size;
 
 // How many functions a row has masks for.
 pub const FUNCTIONS: usize = faces::first::MAX_FUNCTIONS;

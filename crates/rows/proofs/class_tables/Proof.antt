@@ -6,7 +6,7 @@ use mathlib.Core.Path.{_≡_, sym, _∙_, subst}
 use mathlib.Core.List.{List}
 use lib.ListN.{length, take, drop}
 use borrow.Rule.Slice.PartMut.{same-len-mid}
-use Rattle.table.proofs.Slices.{part-length}
+use Rattle.slices.proofs.Slices.{part-length}
 use Rattle.masks.specs.Mask.{width}
 use Rattle.rows.proofs.Tables.{part}
 use Rattle.rows.proofs.Filling.{Filled, filled-none, filled-more, filled-all, long-is, few-is, less-few}

@@ -4,8 +4,8 @@ use native.Mathlib.Omega.{arith}
 use Prim.Native.Nat.{_+_}
 use mathlib.Core.Path.{_≡_, ap, sym, _∙_}
 use lib.ListN.{getD}
-use Rattle.table.specs.Token.{depthIn}
-use Rattle.table.specs.Key.{usesAt}
+use Rattle.tokens.specs.Token.{depthIn}
+use Rattle.tokens.specs.Key.{usesAt}
 use Rattle.rows.proofs.Entries.{entry-past, entry-bound, entry-free}
 use Rattle.rows.proofs.entry_of.Statement.{statement}
 use Rattle.rows.proofs.entry_of.Tie as tie
