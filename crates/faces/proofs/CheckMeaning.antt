@@ -27,7 +27,7 @@ use Rattle.faces.specs.Recorded.{Recorded, Both}
 use Rattle.faces.specs.First.{firstNode, anyLarge}
 use Rattle.faces.specs.Check.{largeIn, afterWalk, verdict, CheckedBy}
 use Rattle.faces.specs.Verdict.{answerOf, Told, Says}
-use Rattle.faces.proofs.SurveyMeaning.{functions-in, both-in}
+use Rattle.metavariables.proofs.SurveyMeaning.{functions-in, both-in}
 use Rattle.faces.proofs.WalkMeaning.{walk-means}
 use Rattle.faces.proofs.FirstMeaning.{large-means}
 

@@ -23,7 +23,7 @@ use Rattle.meaning.proofs.Lists.{by-test, choose-true, choose-false}
 use Rattle.tokens.specs.Token.{tagIn, sizeIn, payloadIn, payloadOf, tokens, patternTokens, expressionTokens}
 use Rattle.tokens.specs.Key.{at, Held, Stands}
 use Rattle.tokens.proofs.KeyLaws.{some-levels, stands-size, stands-inside}
-use Rattle.faces.proofs.TokenLaws.{tokenAt, tag-at, payload-at, Room, room-below, room-later, patterns-room, expressions-room}
+use Rattle.tokens.proofs.ProblemTokens.{tokenAt, tag-at, payload-at, Room, room-below, room-later, patterns-room, expressions-room}
 use Rattle.faces.proofs.TopKeys.{meant, meant-label}
 use Rattle.faces.proofs.WalkTrees.{nameless-size}
 use Rattle.meaning.proofs.Proper.{patterns-readable, expressions-readable}

@@ -20,7 +20,7 @@ use Rattle.meaning.proofs.Alike.{variable-eq, variable-refl, own-eq, own-refl}
 use Rattle.tokens.specs.Key.{keyOf, levelFrom}
 use Rattle.tokens.proofs.Codes.{Viewed, code, code-injective, arity, seenLabel, label-code, fits-arity}
 use Rattle.tokens.proofs.Levels.{Resolved, isFree, isBound, resolved}
-use Rattle.faces.proofs.TokenLaws.{tokenAt}
+use Rattle.tokens.proofs.ProblemTokens.{tokenAt}
 
 abbrev Meant : Type 0
 Meant = Own Variable (Unit {0})

@@ -19,7 +19,7 @@ use Rattle.meaning.proofs.Lists.{choose-true, choose-false}
 use Rattle.tokens.specs.Token.{patternTokens, expressionTokens}
 use Rattle.faces.specs.FlatWalk.{faceCode, patternNode, expressionNode, flatWalk}
 use Rattle.faces.specs.Recorded.{RecordedBy, Recorded, Both, Means}
-use Rattle.faces.proofs.TokenLaws.{nodes-few, patterns-room, expressions-room}
+use Rattle.tokens.proofs.ProblemTokens.{nodes-few, patterns-room, expressions-room}
 use Rattle.faces.proofs.WalkTrees.{meetCode, walkCodes, nameless-size, flat-trees}
 use Rattle.meaning.proofs.Proper.{patterns-readable, expressions-readable}
 

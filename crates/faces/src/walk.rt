@@ -5,7 +5,8 @@ use tokens::token::tag;
 ghost use mathlib.Core.Path.{_≡_};
 ghost use Prim.Native.Nat.{_≤_};
 ghost use lib.ListN.{length};
-ghost use Rattle.faces.specs.FlatWalk.{isSlot, Table, Walked};
+ghost use Rattle.tokens.specs.Token.{Table};
+ghost use Rattle.faces.specs.FlatWalk.{isSlot, Walked};
 
 pub enum Shapes {
     // A shape disagrees.

@@ -4,4 +4,5 @@ pub mod Levels
 pub mod Codes
 pub mod Reaching
 pub mod KeyLaws
+pub mod ProblemTokens
 pub mod Examples

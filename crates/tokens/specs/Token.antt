@@ -4,9 +4,9 @@
 --   size      the number of nodes of the subterm, the node itself included  bits 16 to 31
 --   payload   what the tag says; a symbol's number may use all of it        bits 32 to 63
 --   level     of a variable: 1 + the number of binders above its own, or 0 where it is free
-use Prim.Native.Nat.{ℕ, suc, _+_, _*_, _/_, _%_}
+use Prim.Native.Nat.{ℕ, suc, _+_, _*_, _/_, _%_, _<_, _≤_}
 use mathlib.Core.List.{List, [], _∷_, _++_}
-use lib.ListN.{length}
+use lib.ListN.{length, getD}
 use lib.Dec.{eqb}
 use Rattle.meaning.specs.Basics.{choose}
 use Rattle.meaning.specs.Term.{Forest, nil, cons, size, symbol, variable, application, binder, own, slot, metavariable, function, hole, Named}
@@ -55,3 +55,8 @@ patternTokens p = tokens [] (namedPatterns p)
 
 unfoldable pub expressionTokens : Problem → List ℕ
 expressionTokens p = tokens [] (namedExpressions p)
+
+-- What whoever goes through a table by its sizes needs of it: each token counts itself, and 16 bits are enough for a node's number
+pub record Table (t : List ℕ) : Type 0 where
+  pub counted : (k : ℕ) → k < length t → 1 ≤ sizeIn (getD t k 0)
+  pub small : length t ≤ 65536
