@@ -50,7 +50,8 @@ fn next_choice(ds: &[u64], k: usize, m: u64) -> u64
     masks::next_choice(&ds[a..e], m)
 }
 
-// Whether the masks, whatever they are, are a row.
+// Whether the masks, whatever they are, are a row of the tables. Asked only where shapes agree: the tables of a problem without rows
+// still have one, of empty masks.
 pub fn is_row(ds: &[u64], row: [u64; FUNCTIONS]) -> bool
     requires { ⌜ Long (now ds) ⌝ }
     ensures { λ r. ⌜ (r ≡ true) ↔ (row ∈ maskRows (now (ds .entry))) ⌝ }
@@ -65,7 +66,7 @@ pub fn is_row(ds: &[u64], row: [u64; FUNCTIONS]) -> bool
     true
 }
 
-// The first row.
+// The first row of the tables. Asked only where shapes agree, like `is_row`.
 pub fn first_row(ds: &[u64]) -> [u64; FUNCTIONS]
     requires { ⌜ Tables (now ds) ⌝ }
     ensures { λ r. ⌜ placeOf (maskRows (now (ds .entry))) ≡ at r ⌝ }
@@ -80,7 +81,8 @@ pub fn first_row(ds: &[u64]) -> [u64; FUNCTIONS]
 }
 
 // The row after `row`, or that it is the last: the last function with a choice left takes its next one, and the later ones begin
-// again. The first row is lent so that beginning again costs nothing.
+// again. The first row is lent so that beginning again costs nothing: a call that makes many steps computes it once for itself. It is
+// never kept with a place, since what a host hands in may be any bytes.
 pub fn next_row(ds: &[u64], first: [u64; FUNCTIONS], row: [u64; FUNCTIONS]) -> Stepped
     requires { ⌜ Tables (now ds) ⌝ ∗ ⌜ row ∈ maskRows (now ds) ⌝ ∗ ⌜ placeOf (maskRows (now ds)) ≡ at first ⌝ }
     ensures { λ r. ⌜ Steps (now (ds .entry)) row (r .more) (r .row) ⌝ }

@@ -86,8 +86,9 @@ fn least(m: u64, n: u64) -> u64
     n
 }
 
-// Whether the subterms at nodes a and b are equal up to bound names. The sizes come last: two terms that differ do so in a pair
-// that both have.
+// Whether the subterms at nodes a and b are equal up to bound names. A binder outside them counts by its level, which is the same
+// binder for both only where it lies above both nodes: so the answer is right where each outer binder that they use does. The sizes
+// come last: two terms that differ do so in a pair that both have.
 pub fn same(t: &[u64], a: usize, b: usize) -> bool
     requires { ⌜ Inside (now t) a ⌝ ∗ ⌜ Inside (now t) b ⌝ }
     ensures { λ r. ⌜ r ≡ sameAt (now (t .entry)) a b ⌝ }
