@@ -43,7 +43,7 @@ problem-bytes (c ∷ p) =
     let inside = length-append (encode (one (c .pattern))) (encode (one (c .expression))) in
     omega arith
 
-pub nodes-few : (p : Problem) → WithinLimits p → size (namedPatterns p) + size (namedExpressions p) < 2048
+pub nodes-few : (p : Problem) → WithinLimits p → size (namedPatterns p) + size (namedExpressions p) < 1366
 unfolding maxInput
 nodes-few p w = omega (arith, problem-bytes p, w .input)
 
