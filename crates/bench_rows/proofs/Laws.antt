@@ -13,7 +13,7 @@ use Rattle.meaning.specs.Limits.{maxFunctions}
 use Rattle.meaning.specs.Basics.{_∈_}
 use Rattle.meaning.specs.Search.{at, placeOf}
 use Rattle.meaning.proofs.Lists.{never}
-use Rattle.rows.proofs.Filling.{getD-zeros}
+use Rattle.rows.proofs.Lists.{getD-zeros}
 use Rattle.masks.specs.Mask.{width}
 use Rattle.masks.specs.Table.{Lowest, Table}
 use Rattle.rows.specs.Rows.{MaskRow, classesAt, maskRows, Tables, Steps}

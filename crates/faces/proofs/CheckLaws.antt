@@ -11,16 +11,16 @@ use borrow.Author.Tests.{lt-ltb, le-ltb, ltb-false}
 use Rattle.meaning.specs.Limits.{metavariableCount, maxFunctions}
 use Rattle.meaning.specs.Basics.{choose}
 use Rattle.meaning.proofs.Lists.{by-test, choose-true, choose-false}
-use Rattle.faces.specs.declared.survey.Occurring.{Occurring}
+use Rattle.metavariables.specs.declared.Occurring.{Occurring}
 use Rattle.faces.specs.declared.walk.Shapes.{Shapes}
 use Rattle.faces.specs.declared.walk.Shapes.the-variants as shapes
 use Rattle.faces.specs.declared.check.Checked.the-variants as checked
 use lib.Dec.{ltb}
 use Rattle.faces.specs.FlatWalk.{flatWalk, answerOf, Walked}
-use Rattle.faces.specs.Survey.{Surveyed, meets, count, functionsIn, bothIn}
+use Rattle.metavariables.specs.Survey.{Surveyed, meets, count, functionsIn, bothIn}
 use Rattle.faces.specs.First.{firstNode, firstsOf, anyLarge}
 use Rattle.faces.specs.Check.{largeIn, afterWalk, verdict, CheckedBy}
-use Rattle.faces.proofs.SurveyLaws.{functions-set, both-set, count-set}
+use Rattle.metavariables.proofs.SurveyLaws.{functions-set, both-set, count-set}
 
 -- The faces are what is recorded at the front
 record Found (ps es old new : List ℕ) (n : ℕ) : Type 0 where

@@ -17,18 +17,18 @@ use Rattle.meaning.specs.Row.{faceTerm, faceOf}
 use Rattle.meaning.specs.Readable.{WithinLimits, Accepted}
 use Rattle.meaning.proofs.Proper.{accepted-proper, functions-applied}
 use Rattle.meaning.proofs.RowBodies.{face-expression}
-use Rattle.table.specs.Token.{sizeIn, patternTokens, expressionTokens}
-use Rattle.table.specs.Key.{at}
+use Rattle.tokens.specs.Token.{sizeIn, patternTokens, expressionTokens}
+use Rattle.tokens.specs.Key.{at}
 use Rattle.faces.specs.FlatWalk.{patternNode, expressionNode}
 use Rattle.faces.specs.Recorded.{Records, Recorded, Both}
-use Rattle.faces.specs.declared.survey.Occurring.{Occurring}
+use Rattle.metavariables.specs.declared.Occurring.{Occurring}
 use Rattle.faces.specs.declared.first.Firsts.{Firsts}
-use Rattle.faces.specs.Survey.{Surveyed}
+use Rattle.metavariables.specs.Survey.{Surveyed}
 use Rattle.faces.specs.First.{applies, firstIn, absent, nodeOr, firstNode, firstsOf, listed, Listed, large, anyLarge}
 use Rattle.faces.specs.Verdict.{FirstAt, FirstsAt}
-use Rattle.faces.proofs.TokenLaws.{expression-table}
+use Rattle.tokens.proofs.ProblemTokens.{expression-table}
 use Rattle.faces.proofs.NodeTokens.{node-inside, node-size, node-applies, pattern-node, expression-node}
-use Rattle.faces.proofs.SurveyMeaning.{kept-functions}
+use Rattle.metavariables.proofs.SurveyMeaning.{kept-functions}
 
 -- A node found on the table against a face
 pub record Meets (p : Problem) (j : ℕ) (x : Face) : Type 0 where

@@ -12,8 +12,8 @@ use lib.Seq.{drop-cons, drop-drop, drop-set-lt, take-suc-set, length-take-le}
 use lib.Dec.{eqb}
 use borrow.Author.Tests.{eq-eqb, ne-eqb}
 use Rattle.meaning.specs.Basics.{join}
-use Rattle.table.specs.Token.{tagIn, sizeIn}
-use Rattle.table.specs.Key.{keyOf, at}
+use Rattle.tokens.specs.Token.{tagIn, sizeIn}
+use Rattle.tokens.specs.Key.{keyOf, at}
 use Rattle.faces.specs.declared.walk.Shapes.the-variants as shapes
 use Rattle.faces.specs.FlatWalk.{isSlot, faceCode, lockstep, flatWalk, answerOf, Walked}
 

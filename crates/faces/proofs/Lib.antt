@@ -1,14 +1,10 @@
 -- Laws of the definitions of specs/, and what they say of a problem.
-pub mod BitLaws
 pub mod CheckLaws
 pub mod CheckMeaning
 pub mod FirstLaws
 pub mod FirstMeaning
 pub mod FlatLaws
 pub mod NodeTokens
-pub mod SurveyLaws
-pub mod SurveyMeaning
-pub mod TokenLaws
 pub mod TopKeys
 pub mod WalkTrees
 pub mod WalkMeaning

@@ -20,14 +20,14 @@ use Rattle.meaning.specs.Field.{tagOf}
 use Rattle.meaning.specs.Read.{Context, inPattern, inExpression, contextBelow}
 use Rattle.meaning.specs.Readable.{Readable, WithinLimits}
 use Rattle.meaning.proofs.Lists.{by-test, choose-true, choose-false}
-use Rattle.table.specs.Token.{tagIn, sizeIn, payloadIn, payloadOf, tokens, patternTokens, expressionTokens}
-use Rattle.table.specs.Key.{at, Held, Stands}
-use Rattle.table.proofs.KeyLaws.{some-levels, stands-size, stands-inside}
-use Rattle.faces.proofs.TokenLaws.{tokenAt, tag-at, payload-at, Room, room-below, room-later, patterns-room, expressions-room}
+use Rattle.tokens.specs.Token.{tagIn, sizeIn, payloadIn, payloadOf, tokens, patternTokens, expressionTokens}
+use Rattle.tokens.specs.Key.{at, Held, Stands}
+use Rattle.tokens.proofs.KeyLaws.{some-levels, stands-size, stands-inside}
+use Rattle.tokens.proofs.ProblemTokens.{tokenAt, tag-at, payload-at, Room, room-below, room-later, patterns-room, expressions-room}
 use Rattle.faces.proofs.TopKeys.{meant, meant-label}
 use Rattle.faces.proofs.WalkTrees.{nameless-size}
 use Rattle.meaning.proofs.Proper.{patterns-readable, expressions-readable}
-use Rattle.table.proofs.TermLaws.{tokens-length}
+use Rattle.tokens.proofs.TokenParts.{tokens-length}
 
 pub record AtNode (table : List ℕ) (i : ℕ) (t : Term) : Type 0 where
   pub scope : List ℕ

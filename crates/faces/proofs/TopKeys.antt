@@ -18,9 +18,10 @@ use Rattle.meaning.specs.Readable.{NodeFits}
 use Rattle.meaning.proofs.Lists.{T-true, true-T, by-test, choose-true}
 use Rattle.meaning.proofs.ShiftLaws.{ltb-yes}
 use Rattle.meaning.proofs.Alike.{variable-eq, variable-refl, own-eq, own-refl}
-use Rattle.table.specs.Key.{keyOf, levelFrom}
-use Rattle.table.proofs.KeyLaws.{code, code-injective, arity, seenLabel, label-code, fits-label, Resolved, isFree, isBound, resolved}
-use Rattle.faces.proofs.TokenLaws.{tokenAt}
+use Rattle.tokens.specs.Key.{keyOf, levelFrom}
+use Rattle.tokens.proofs.Codes.{code, code-injective, arity, seenLabel, label-code, fits-label}
+use Rattle.tokens.proofs.Levels.{Resolved, isFree, isBound, resolved}
+use Rattle.tokens.proofs.ProblemTokens.{tokenAt}
 
 abbrev Meant : Type 0
 Meant = Own Variable (Unit {0})

@@ -16,10 +16,10 @@ use Rattle.meaning.specs.Problem.{Problem, namedPatterns, namedExpressions, pat
 use Rattle.meaning.specs.Face.{Face, agrees, meet, walk, faces}
 use Rattle.meaning.specs.Readable.{WithinLimits}
 use Rattle.meaning.proofs.Lists.{choose-true, choose-false}
-use Rattle.table.specs.Token.{patternTokens, expressionTokens}
+use Rattle.tokens.specs.Token.{patternTokens, expressionTokens}
 use Rattle.faces.specs.FlatWalk.{faceCode, patternNode, expressionNode, flatWalk}
 use Rattle.faces.specs.Recorded.{RecordedBy, Recorded, Both, Means}
-use Rattle.faces.proofs.TokenLaws.{nodes-few, patterns-room, expressions-room}
+use Rattle.tokens.proofs.ProblemTokens.{nodes-few, patterns-room, expressions-room}
 use Rattle.faces.proofs.WalkTrees.{meetCode, walkCodes, nameless-size, flat-trees}
 use Rattle.meaning.proofs.Proper.{patterns-readable, expressions-readable}
 

@@ -18,13 +18,17 @@ use Rattle.meaning.specs.Field.{tagOf}
 use Rattle.meaning.specs.Read.{Context, inPattern, inExpression, contextBelow}
 use Rattle.meaning.specs.Readable.{NodeFits, Readable}
 use Rattle.meaning.proofs.Lists.{by-test}
-use Rattle.table.specs.Token.{tokens}
-use Rattle.table.specs.Key.{keyOf}
+use Rattle.tokens.specs.Token.{tokens}
+use Rattle.tokens.specs.Key.{keyOf}
 use Rattle.faces.specs.FlatWalk.{slotTag, isSlot, faceCode, lockstep, flatWalk}
 use Rattle.faces.proofs.FlatLaws.{join-assoc, join-nothing, lockstep-differs, lockstep-same, lockstep-face, lockstep-skip}
-use Rattle.faces.proofs.TokenLaws.{tokenAt, size-at, slot-at, Room, room-depth, room-size, room-below, room-later}
+use Rattle.tokens.proofs.ProblemTokens.{tokenAt, tag-at, size-at, Room, room-depth, room-size, room-below, room-later}
 use Rattle.faces.proofs.TopKeys.{meant, meant-label, keys-agree, agree-trees}
-use Rattle.table.proofs.TermLaws.{tokens-length}
+use Rattle.tokens.proofs.TokenParts.{tokens-length}
+
+slot-at : (sc : List ℕ) (l : Named) (c : Forest Named) → length sc < 256 → suc (size c) < 65536 → isSlot (tokenAt sc l c) ≡ slotTag (tagOf l)
+unfolding isSlot
+slot-at sc l c room small = ap slotTag (tag-at sc l c room small)
 
 abbrev pub meetCode : ℕ → ℕ → Nameless → Nameless → Option (List ℕ) → Option (List ℕ)
 meetCode i j (own o) l below = guard (agrees o l) below

@@ -10,7 +10,7 @@ use lib.Dec.{ltb}
 use Rattle.meaning.specs.Limits.{maxFunctions}
 use Rattle.meaning.specs.Basics.{choose}
 use Rattle.faces.specs.FlatWalk.{flatWalk}
-use Rattle.faces.specs.Survey.{functionsIn, bothIn}
+use Rattle.metavariables.specs.Survey.{functionsIn, bothIn}
 use Rattle.faces.specs.First.{firstNode, anyLarge}
 use Rattle.faces.specs.declared.check.Checked.{Checked}
 use Rattle.faces.specs.declared.check.Checked.the-variants as checked

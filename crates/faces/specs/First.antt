@@ -12,10 +12,10 @@ use lib.ListN.{length, take}
 use lib.Dec.{eqb, ltb}
 use Rattle.meaning.specs.Limits.{metavariableCount, maxFaceNodes}
 use Rattle.meaning.specs.Basics.{choose, keep, countFrom, upTo}
-use Rattle.table.specs.Token.{tagIn, sizeIn, payloadIn}
-use Rattle.table.specs.Key.{at}
+use Rattle.tokens.specs.Token.{tagIn, sizeIn, payloadIn}
+use Rattle.tokens.specs.Key.{at}
 use Rattle.faces.specs.FlatWalk.{patternNode, expressionNode}
-use Rattle.faces.specs.Survey.{has}
+use Rattle.metavariables.specs.Survey.{has}
 use Rattle.faces.specs.declared.first.Firsts.{Firsts}
 
 unfoldable pub applies : List ℕ → ℕ → ℕ → Bool

@@ -3,17 +3,16 @@
 --   face       what a slot of the pattern faces, as one number: the pattern's node and, 65536 times, the expression's
 --   lockstep   both tables from the front. A slot is passed with all its nodes (`skip` counts those that are left), and so is the
 --              subexpression that it faces; any other two nodes have to have the same key. none where they disagree
---   Table      what the walk needs of a table: each token counts itself, and 16 bits are enough for a node's number
 use mathlib.Core.Path.{_≡_}
-use Prim.Native.Nat.{ℕ, zero, suc, _+_, _*_, _-_, _/_, _%_, _<_, _≤_}
+use Prim.Native.Nat.{ℕ, zero, suc, _+_, _*_, _-_, _/_, _%_}
 use mathlib.Core.Bool.{Bool, _||_}
 use mathlib.Core.List.{List, [], _∷_, _++_}
 use mathlib.Core.Option.{Option, none, some}
 use lib.ListN.{length, drop}
 use lib.Dec.{eqb}
 use Rattle.meaning.specs.Basics.{choose, join, guard}
-use Rattle.table.specs.Token.{tagIn, sizeIn}
-use Rattle.table.specs.Key.{keyOf, at}
+use Rattle.tokens.specs.Token.{tagIn, sizeIn}
+use Rattle.tokens.specs.Key.{keyOf}
 use Rattle.faces.specs.declared.walk.Shapes.{Shapes}
 use Rattle.faces.specs.declared.walk.Shapes.the-variants as shapes
 
@@ -43,10 +42,6 @@ lockstep zero i j (x ∷ ps) (y ∷ es) =
 
 abbrev pub flatWalk : List ℕ → List ℕ → Option (List ℕ)
 flatWalk ps es = lockstep 0 0 0 ps es
-
-pub record Table (t : List ℕ) : Type 0 where
-  pub counted : (k : ℕ) → k < length t → 1 ≤ sizeIn (at t k)
-  pub small : length t ≤ 65536
 
 abbrev pub answerOf : Option (List ℕ) → Shapes
 answerOf none = shapes.Disagree

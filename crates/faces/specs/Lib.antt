@@ -3,5 +3,4 @@ pub mod Check
 pub mod First
 pub mod FlatWalk
 pub mod Recorded
-pub mod Survey
 pub mod Verdict

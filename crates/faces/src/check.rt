@@ -1,18 +1,18 @@
 // The checks after reading, in document 01's order: 12, 13, the walk, and 14 if all shapes agree.
-use crate::first::MAX_FUNCTIONS;
 use crate::first::any_large;
 use crate::first::first_faces;
-use crate::survey::both_ways;
-use crate::survey::function_count;
-use crate::survey::survey;
 use crate::walk::Shapes;
 use crate::walk::walk;
+use metavariables::MAX_FUNCTIONS;
+use metavariables::both_ways;
+use metavariables::function_count;
+use metavariables::survey;
 ghost use mathlib.Core.Path.{_≡_};
 ghost use Prim.Native.Nat.{_≤_};
 ghost use lib.ListN.{length};
 ghost use Rattle.meaning.specs.Limits.{metavariableCount};
-ghost use Rattle.faces.specs.FlatWalk.{Table};
-ghost use Rattle.faces.specs.Survey.{count};
+ghost use Rattle.tokens.specs.Token.{Table};
+ghost use Rattle.metavariables.specs.Survey.{count};
 ghost use Rattle.faces.specs.First.{firstsOf, anyLarge};
 ghost use Rattle.faces.specs.Check.{CheckedBy};
 

@@ -1,18 +1,16 @@
 // The first face of each function, and whether one is over the limit.
-use crate::survey::METAVARIABLES;
-use crate::survey::in_set;
-use table::token::payload;
-use table::token::size;
-use table::token::tag;
+use metavariables::MAX_FUNCTIONS;
+use metavariables::METAVARIABLES;
+use metavariables::in_set;
+use tokens::token::payload;
+use tokens::token::size;
+use tokens::token::tag;
 ghost use mathlib.Core.Path.{_≡_};
 ghost use Prim.Native.Nat.{_+_, _<_, _≤_};
 ghost use lib.ListN.{length};
 ghost use Rattle.meaning.specs.Limits.{metavariableCount};
-ghost use Rattle.faces.specs.Survey.{count};
+ghost use Rattle.metavariables.specs.Survey.{count};
 ghost use Rattle.faces.specs.First.{applies, firstNode, firstsOf, listed, Fits, Pushed, Listing, Listed, large, anyLarge};
-
-// "13 over 8 functions"
-pub const MAX_FUNCTIONS: usize = 8;
 
 // "A face has at most 64 nodes"
 const MAX_FACE_NODES: u64 = 64;

@@ -1,11 +1,12 @@
 // Pattern and expression walked together from the top.
-use table::same::same_node;
-use table::token::size;
-use table::token::tag;
+use tokens::same::same_node;
+use tokens::token::size;
+use tokens::token::tag;
 ghost use mathlib.Core.Path.{_≡_};
 ghost use Prim.Native.Nat.{_≤_};
 ghost use lib.ListN.{length};
-ghost use Rattle.faces.specs.FlatWalk.{isSlot, Table, Walked};
+ghost use Rattle.tokens.specs.Token.{Table};
+ghost use Rattle.faces.specs.FlatWalk.{isSlot, Walked};
 
 pub enum Shapes {
     // A shape disagrees.

@@ -3,7 +3,7 @@
 --   Owes   the third demand over any list of what is to be found and any number of rows
 use mathlib.Core.Path.{_≡_, refl, ap, sym, _∙_, subst}
 use mathlib.Core.Logic.{_⊎_, inl, inr, ⊎-elim}
-use Prim.Native.Nat.{ℕ, zero, suc, _+_, _<_, _≤_}
+use Prim.Native.Nat.{ℕ, zero, suc, _<_, _≤_}
 use mathlib.Core.Bool.{Bool, false}
 use mathlib.Core.List.{List, [], _∷_, _++_, map, map-map, append-assoc, append-nil, List·Memᴰ·head, List·Memᴰ·tail, List·Memᴰ·cases-cons, List·Memᴰ·not-nil}
 use native.Mathlib.Omega.{arith}
@@ -11,13 +11,12 @@ use lib.ListN.{length, take, length-append}
 use lib.Seq.{append-snoc, take-nil}
 use Rattle.meaning.specs.Basics.{keep, All, _∈_, Bytes}
 use Rattle.meaning.specs.Problem.{Problem}
-use Rattle.meaning.specs.Filling.{Filling}
 use Rattle.meaning.specs.Row.{Row}
 use Rattle.meaning.specs.Rows.{rows}
 use Rattle.meaning.specs.Candidate.{candidate, solves, solutionRows, fullList}
 use Rattle.meaning.specs.Read.{got}
 use Rattle.meaning.specs.Accept.{accept}
-use Rattle.meaning.specs.Search.{Place, at, past, placeOf, start, Reply, found, end, paused, refusedCall, Keeps, finds, ends, pauses, From}
+use Rattle.meaning.specs.Search.{Place, at, past, placeOf, start, Reply, end, refusedCall, Keeps, finds, ends, pauses, From}
 use Rattle.meaning.specs.PlaceValue.{PlaceValue, placeValue, Names}
 use Rattle.meaning.specs.Entry.{HostReply, replyValue, SearchCall}
 use Rattle.meaning.specs.Calls.{Call, left, Run, KeptCall, Kept, callsOf, HostCall, Carried, Held, foundIn, founds, HasEnd, allowed, positive, givenRow, ThirdDemand}

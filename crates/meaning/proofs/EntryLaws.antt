@@ -3,9 +3,9 @@
 use mathlib.Core.Path.{_≡_, refl, ap, sym, _∙_, subst, fun-ext}
 use mathlib.Core.Logic.{_↔_}
 use Prim.Native.Nat.{ℕ}
-use mathlib.Core.Bool.{Bool, true}
-use mathlib.Core.List.{List, _++_}
-use lib.ListN.{length, take}
+use mathlib.Core.Bool.{true}
+use mathlib.Core.List.{List}
+use lib.ListN.{take}
 use lib.Seq.{take-at}
 use Rattle.meaning.specs.Basics.{All, _∈_, Bytes}
 use Rattle.meaning.specs.Problem.{Problem}
@@ -13,7 +13,7 @@ use Rattle.meaning.specs.Filling.{Filling}
 use Rattle.meaning.specs.Row.{Row, IsRow}
 use Rattle.meaning.specs.Rows.{rows}
 use Rattle.meaning.specs.Candidate.{solves}
-use Rattle.meaning.specs.Read.{Answer, refused, got}
+use Rattle.meaning.specs.Read.{Answer, got}
 use Rattle.meaning.specs.Readable.{Accepted}
 use Rattle.meaning.specs.Accept.{accept}
 use Rattle.meaning.specs.Text.{Item, textOf, readText, Says, Passes}

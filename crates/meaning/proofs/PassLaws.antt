@@ -1,21 +1,21 @@
 -- The checker's test is yes exactly for the texts that pass.
 use mathlib.Core.Path.{_≡_, refl, ap, sym, _∙_, subst, fun-ext}
 use mathlib.Core.Logic.{_⊎_, inl, inr, ⊎-elim, _↔_}
-use Prim.Native.Nat.{ℕ, _<_}
-use mathlib.Core.Bool.{Bool, true, false, _&&_, _||_, not, true≢false, false≢true}
+use Prim.Native.Nat.{ℕ}
+use mathlib.Core.Bool.{Bool, true, false, _&&_, _||_, not, false≢true}
 use mathlib.Core.List.{List, [], _∷_, map, List·Memᴰ·head, List·Memᴰ·tail, List·Memᴰ·cases-cons, List·Memᴰ·not-nil}
-use lib.Dec.{T, eqb, ltb}
+use lib.Dec.{T, eqb}
 use borrow.Author.Tests.{ltb-true, lt-ltb, not-false}
 use native.Mathlib.Omega.{arith}
-use Rattle.meaning.specs.Basics.{choose, every, isIn, _∈_, Distinct}
+use Rattle.meaning.specs.Basics.{every, isIn, _∈_, Distinct}
 use Rattle.meaning.specs.Term.{nil, cons, one, own, slot, metavariable, function, hole, NamedTerm, Nameless, Terms, Term, IsExpression}
 use Rattle.meaning.specs.Shift.{ClosedTerm}
 use Rattle.meaning.specs.ClosedTest.{isClosed}
 use Rattle.meaning.specs.Same.{sameTerms}
-use Rattle.meaning.specs.Problem.{Problem, patterns, expressions, plain, applied, placesOf, isFunction, isPlain, Where, Standing, standings}
+use Rattle.meaning.specs.Problem.{Problem, patterns, expressions, plain, applied, placesOf, isFunction, isPlain, Standing, standings}
 use Rattle.meaning.specs.Filling.{Entry, absent, leftOpen, value, body, Filling, filled, bodyLabel, IsBody}
 use Rattle.meaning.specs.Solution.{needs, Idle, Solution}
-use Rattle.meaning.specs.Text.{Item, meant, said, Says, Passes}
+use Rattle.meaning.specs.Text.{Item, meant, said, Passes}
 use Rattle.meaning.specs.Passing.{isOnce, isBodyLabel, isBody, isWhole, isBodyEntry, isValueEntry, isOpen, isAbsent, isNeeded, once, known, kinds, openUnneeded, unneededOpen, meets, passes}
 use Rattle.meaning.proofs.Lists.{never, T-true, true-T, or-false, and-T, T-and, or-cases, or-left, or-right, eqb-self, eqb-eq, eqb-other, by-test, choose-true, choose-false, mem-map, isIn-mem, mem-isIn, not-isIn, all-mem, mem-all, every-all, all-every}
 use Rattle.meaning.proofs.ShiftLaws.{test-closed, closed-test}

@@ -4,7 +4,7 @@ use mathlib.Core.Logic.{_⊎_, inl, inr, ⊎-elim}
 use mathlib.Core.Bool.{Bool, true, false, _&&_, not, false≢true, Bool-discrete}
 use mathlib.Core.List.{List, [], _∷_, _++_, map, append-nil, List-discrete, List·Memᴰ·head, List·Memᴰ·tail, List·Memᴰ·cases-cons, List·Memᴰ·not-nil, Memᴰ·append-right}
 use mathlib.Core.Option.{none, some}
-use Prim.Native.Nat.{ℕ, zero, suc, _+_, _-_, _*_, _^_, _<_, _≤_}
+use Prim.Native.Nat.{ℕ, zero, suc, _-_, _^_, _<_, _≤_}
 use native.Mathlib.Nat.{pow-suc}
 use native.Mathlib.Decide.{ℕ-discrete}
 use native.Mathlib.Omega.{arith}
@@ -17,12 +17,12 @@ use Rattle.meaning.specs.Basics.{every, isSome, _∈_}
 use Rattle.meaning.specs.Term.{one, size}
 use Rattle.meaning.specs.Problem.{Problem, placesOf, functions}
 use Rattle.meaning.specs.Face.{faces}
-use Rattle.meaning.specs.Choice.{Mark, Marks, Choice}
+use Rattle.meaning.specs.Choice.{Marks, Choice}
 use Rattle.meaning.specs.Row.{Row, faceOf, IsRow, ChoiceEach}
 use Rattle.meaning.specs.Rows.{rows}
 use Rattle.meaning.specs.Accept.{bothWays, overlarge, checkProblem}
 use Rattle.meaning.specs.Readable.{Accepted}
-use Rattle.meaning.specs.Search.{Place, at, past, placeOf, From}
+use Rattle.meaning.specs.Search.{Place, at, past, From}
 use Rattle.meaning.specs.PlaceValue.{maskOf, PlaceValue, masksOf, placeValue, IsPlace, Names}
 use Rattle.meaning.proofs.Lists.{true-T, all-mem, every-all}
 use Rattle.meaning.proofs.ByteLaws.{unless-got}

@@ -1,24 +1,22 @@
 -- Writing a text: whatever it is given, a call has just one answer and one buffer after it, and a refused one leaves the buffer.
 use mathlib.Core.Path.{_≡_, refl, ap, ap₂, sym, _∙_, subst}
-use mathlib.Core.Logic.{_⊎_, inl, inr, ⊎-elim}
+use mathlib.Core.Logic.{⊎-elim}
 use Prim.Native.Nat.{ℕ, _<_, _≤_}
 use mathlib.Core.Bool.{Bool, true, false}
-use mathlib.Core.List.{List, _++_}
-use native.Mathlib.Omega.{arith}
+use mathlib.Core.List.{_++_}
 use lib.Dec.{ltb}
 use borrow.Author.Tests.{lt-ltb, le-ltb, ltb-true, ltb-false}
-use lib.ListN.{length, drop, length-append, length-drop}
+use lib.ListN.{length, drop}
 use Rattle.meaning.specs.Basics.{All, choose, Bytes}
 use Rattle.meaning.specs.Problem.{Problem}
 use Rattle.meaning.specs.Row.{Row}
 use Rattle.meaning.specs.Candidate.{solves}
 use Rattle.meaning.specs.Read.{Answer, refused, got}
-use Rattle.meaning.specs.Readable.{Accepted}
 use Rattle.meaning.specs.Accept.{accept}
 use Rattle.meaning.specs.Search.{Place, at}
 use Rattle.meaning.specs.PlaceValue.{PlaceValue, Names}
 use Rattle.meaning.specs.Entry.{rowText, WriteCall, notAccepted, noSuchRow, noSolutionRow, tooShort, writes}
-use Rattle.meaning.proofs.Lists.{never, by-test}
+use Rattle.meaning.proofs.Lists.{by-test}
 use Rattle.meaning.proofs.ByteLaws.{Byte, got-is, refused-not}
 use Rattle.meaning.proofs.ProblemReading.{accept-accepted}
 use Rattle.meaning.proofs.PlaceLaws.{value-names-one, named-row}

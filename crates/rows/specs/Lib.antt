@@ -1,4 +1,2 @@
--- Rows as masks, the class tables of a problem's functions, and the class table of one face.
+-- Rows as masks.
 pub mod Rows
-pub mod Tabled
-pub mod FaceTable

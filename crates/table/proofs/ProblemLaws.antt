@@ -16,21 +16,22 @@ use Rattle.meaning.specs.Limits.{maxInput, maxConstraints, maxDepth}
 use Rattle.meaning.specs.Term.{one, NamedTerm}
 use Rattle.meaning.specs.Problem.{Constraint, Problem, namedPatterns, namedExpressions}
 use Rattle.meaning.specs.Read.{Answer, refused, got, after, Parts, inPattern, inExpression, readTerm, readPair, constraintHead, readConstraints, readProblem}
-use Rattle.table.specs.Token.{tokens, patternTokens, expressionTokens}
-use Rattle.table.specs.Heads.{PartsDone}
-use Rattle.table.specs.Reading.{Space, Written, termAnswer, TermDone}
+use Rattle.tokens.specs.Token.{tokens, patternTokens, expressionTokens}
+use Rattle.fields.specs.Heads.{PartsDone}
+use Rattle.terms.specs.Reading.{Space, Written, termAnswer, TermDone}
 use Rattle.table.specs.Whole.{Spaces, TopDone, patternRow, expressionRow, pairedOf, pairAnswer, PairDone, ReadFits, listedOf, problemAnswer, ProblemDone}
-use Rattle.table.specs.declared.answer.Term.{Term}
-use Rattle.table.specs.declared.answer.Term.the-variants as terms
+use Rattle.terms.specs.declared.term.Term.{Term}
+use Rattle.terms.specs.declared.term.Term.the-variants as terms
 use Rattle.table.specs.declared.answer.Read.{Read}
 use Rattle.table.specs.declared.answer.Read.the-variants as answers
 use Rattle.table.specs.declared.problem.Pair.{Pair}
 use Rattle.table.specs.declared.problem.Pair.the-variants as pairs
 use Rattle.meaning.proofs.ByteLaws.{got-is, by-choice}
-use Rattle.table.proofs.Bounds.{refused-got, after-inv, term-fine, top-read, field-lengths}
-use Rattle.table.proofs.TermLaws.{tokens-length, tokens-graft, took, later-part}
-use Rattle.table.proofs.Slices.{positive, rest-all, part-length, rows-joined}
-use Rattle.table.specs.declared.field.Parts.the-variants as parts
+use Rattle.terms.proofs.Bounds.{refused-got, after-inv, term-fine, top-read, field-lengths}
+use Rattle.tokens.proofs.TokenParts.{tokens-length, tokens-graft}
+use Rattle.terms.proofs.TermLaws.{took, later-part}
+use Rattle.slices.proofs.Slices.{positive, rest-all, part-length, rows-joined}
+use Rattle.fields.specs.declared.field.Parts.the-variants as parts
 use Rattle.table.specs.declared.problem.Top.the-variants as tops
 
 -- A constraint's head

@@ -13,10 +13,10 @@ use Rattle.meaning.specs.Basics.{choose, Bytes}
 use Rattle.meaning.specs.Term.{one}
 use Rattle.meaning.specs.Problem.{Constraint, Problem}
 use Rattle.meaning.specs.Read.{Answer, refused, got, Parts, constraintHead}
-use Rattle.table.specs.Token.{tokens, patternTokens, expressionTokens}
-use Rattle.table.specs.Reading.{Space, Written}
-use Rattle.table.specs.declared.answer.Term.{Term}
-use Rattle.table.specs.declared.answer.Term.the-variants as terms
+use Rattle.tokens.specs.Token.{tokens, patternTokens, expressionTokens}
+use Rattle.terms.specs.Reading.{Space, Written}
+use Rattle.terms.specs.declared.term.Term.{Term}
+use Rattle.terms.specs.declared.term.Term.the-variants as terms
 use Rattle.table.specs.declared.problem.Top.{Top}
 use Rattle.table.specs.declared.problem.Top.the-variants as tops
 use Rattle.table.specs.declared.problem.Pair.{Pair}

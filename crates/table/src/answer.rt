@@ -1,10 +1,4 @@
-// What reading answers: document 01's refusal by its number, or counts of what stands in the table.
-
-pub enum Term {
-    // The bytes that the term takes, and its nodes.
-    Took(usize, usize),
-    Refused(u8),
-}
+// What reading answers: document 01's refusal by its number, or counts of what stands in the tables.
 
 pub enum Read {
     // The nodes of all patterns, the nodes of all expressions, and how many constraints.

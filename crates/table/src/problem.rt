@@ -1,12 +1,12 @@
 // Reads a problem: 1, then constraints to the end with 2, 3, 4, 11 and 7. Its patterns go into one table and its expressions into another.
 use crate::answer::Read;
-use crate::answer::Term;
-use crate::field::Parts;
-use crate::field::parts_of;
 use crate::limit::MAX_CONSTRAINTS;
 use crate::limit::MAX_INPUT;
-use crate::term::read_expression;
-use crate::term::read_pattern;
+use fields::field::Parts;
+use fields::field::parts_of;
+use terms::term::Term;
+use terms::term::read_expression;
+use terms::term::read_pattern;
 ghost use mathlib.Core.Path.{_≡_};
 ghost use lib.ListN.{length};
 ghost use Prim.Native.Nat.{_≤_, _<_};

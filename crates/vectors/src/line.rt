@@ -2,7 +2,7 @@
 use libc::STDOUT_FILENO;
 use table::Read;
 use table::TABLE_ROOM;
-use table::Term;
+use terms::term::Term;
 
 fn print(text: &[u8]) {
     io::write_all(STDOUT_FILENO, text);
@@ -63,7 +63,7 @@ pub fn show_pattern(name: &[u8], due: u8, bytes: &[u8]) {
     }
     let mut room = [0u64; TABLE_ROOM];
     print(name);
-    show_term(due, table::read_pattern(bytes, &mut room));
+    show_term(due, terms::term::read_pattern(bytes, &mut room));
 }
 
 pub fn show_expression(name: &[u8], due: u8, bytes: &[u8]) {
@@ -72,7 +72,7 @@ pub fn show_expression(name: &[u8], due: u8, bytes: &[u8]) {
     }
     let mut room = [0u64; TABLE_ROOM];
     print(name);
-    show_term(due, table::read_expression(bytes, &mut room));
+    show_term(due, terms::term::read_expression(bytes, &mut room));
 }
 
 pub fn show_body(name: &[u8], due: u8, bytes: &[u8]) {
@@ -81,5 +81,5 @@ pub fn show_body(name: &[u8], due: u8, bytes: &[u8]) {
     }
     let mut room = [0u64; TABLE_ROOM];
     print(name);
-    show_term(due, table::read_body(bytes, &mut room));
+    show_term(due, terms::term::read_body(bytes, &mut room));
 }

@@ -4,10 +4,10 @@ use native.Mathlib.Omega.{arith}
 use denote.Ref.{now}
 use Rattle.meaning.specs.Limits.{maxDepth}
 use Rattle.meaning.specs.Read.{readTerm, inPattern}
-use Rattle.table.specs.Reading.{TermDone}
-use Rattle.table.specs.declared.answer.Term.the-variants as terms
-use Rattle.table.proofs.Bounds.{term-fine}
-use Rattle.table.proofs.TermLaws.{TookFits, took-fits}
+use Rattle.terms.specs.Reading.{TermDone}
+use Rattle.terms.specs.declared.term.Term.the-variants as terms
+use Rattle.terms.proofs.Bounds.{term-fine}
+use Rattle.terms.proofs.TermLaws.{TookFits, took-fits}
 use Rattle.table.proofs.ProblemLaws.{pair-refused, pair-paired}
 use borrow.Author.Needs.{needs}
 use Rattle.table.proofs.problem.read_pair.Statement.{statement}

@@ -1,0 +1,2 @@
+-- Reading and checking is acceptance.
+pub mod AcceptanceLaws

@@ -1,0 +1,2 @@
+-- What reading and checking promises.
+pub mod Acceptance

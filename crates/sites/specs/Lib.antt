@@ -1,0 +1,2 @@
+-- Where a term stands.
+pub mod Site

@@ -1,0 +1,2 @@
+-- The laws of parts of slices.
+pub mod Slices

@@ -1,0 +1,19 @@
+-- `read_expression` meets its contract: `read_term` where no term encloses it.
+use borrow.Author.Needs.{needs}
+use Rattle.terms.proofs.term.read_expression.Statement.{statement}
+use Rattle.terms.proofs.term.read_expression.Tie as tie
+
+top-requires : tie.Need-top-requires
+top-requires c κs = search needs
+
+read-term-requires : tie.Need-read-term-requires
+read-term-requires c κs = search needs
+
+same-length : tie.Need-same-length
+same-length c = search needs
+
+returns : tie.Need-returns
+returns c = let top = c .before .before .before .before .top .ensures in rw (top .levels, top .context, top .names) at (c .before .before .read-term .ensures)
+
+pub read-expression-spec : {M : Type 1} → statement M
+read-expression-spec = tie.close (tie.spec top-requires read-term-requires same-length returns)

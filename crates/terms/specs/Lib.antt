@@ -1,0 +1,2 @@
+-- What reading a term promises.
+pub mod Reading

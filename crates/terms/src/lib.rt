@@ -1,0 +1,2 @@
+// Reads one term into a table of tokens.
+pub mod term;

@@ -1,0 +1,8 @@
+-- What tokens and keys mean.
+pub mod TokenParts
+pub mod Levels
+pub mod Codes
+pub mod Reaching
+pub mod KeyLaws
+pub mod ProblemTokens
+pub mod Examples

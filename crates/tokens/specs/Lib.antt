@@ -1,0 +1,3 @@
+-- The tokens of a problem, and what the functions of this crate promise of them.
+pub mod Token
+pub mod Key

@@ -1,0 +1,147 @@
+// Equality of two subterms up to bound names, and which outer binders a subterm uses.
+use crate::token::depth;
+use crate::token::payload;
+use crate::token::size;
+use crate::token::tag;
+ghost use mathlib.Core.Path.{_≡_};
+ghost use Prim.Native.Nat.{_+_, _-_, _*_, _<_, _≤_, min};
+ghost use lib.ListN.{length};
+ghost use lib.Dec.{eqb};
+ghost use Rattle.tokens.specs.Key.{keyOfVariable, keyOfPayload, keyOf, keys, nodes, sameList, sameAt, Inside, reaches, anyReaches, usesAt, closedAt};
+
+// A bound variable's de Bruijn index. No term's table has a level past the depth; should one, the answer is 0.
+fn index(depth: u64, level: u64) -> u64
+    ensures { λ r. ⌜ r ≡ depth - level ⌝ }
+{
+    if depth < level {
+        return 0;
+    }
+    depth - level
+}
+
+// The key of a variable that is free, bound inside a root at depth d, or bound outside it.
+fn key_of_variable(d: u64, depth: u64, name: u64, level: u64) -> u64
+    requires { ⌜ depth < 256 ⌝ ∗ ⌜ name < 65536 ⌝ ∗ ⌜ level < 65536 ⌝ }
+    ensures { λ r. ⌜ r ≡ keyOfVariable d depth name level ⌝ ∗ ⌜ r < 4294967296 ⌝ }
+{
+    if level == 0 {
+        return 4 * name;
+    }
+    if d < level {
+        return 4 * index(depth, level) + 1;
+    }
+    4 * level + 2
+}
+
+// What counts of a payload: of a variable as above, of a binder all but its bound name, else the whole.
+fn key_of_payload(d: u64, tag: u64, depth: u64, load: u64) -> u64
+    requires { ⌜ depth < 256 ⌝ ∗ ⌜ load < 4294967296 ⌝ }
+    ensures { λ r. ⌜ r ≡ keyOfPayload d tag depth load ⌝ ∗ ⌜ r < 4294967296 ⌝ }
+{
+    if tag == 2 {
+        return key_of_variable(d, depth, load % 65536, load / 65536);
+    }
+    if tag == 4 {
+        return load % 65536;
+    }
+    load
+}
+
+// A token's key, seen from a root at depth d.
+pub fn key_of(d: u64, x: u64) -> u64
+    ensures { λ r. ⌜ r ≡ keyOf d x ⌝ }
+{
+    let kind = tag(x);
+    kind + 256 * key_of_payload(d, kind, depth(x), payload(x))
+}
+
+// Whether a pair of nodes agrees, each seen from its own root, at depths d and e.
+pub fn same_node(d: u64, x: u64, e: u64, y: u64) -> bool
+    ensures { λ r. ⌜ r ≡ eqb (keyOf d x) (keyOf e y) ⌝ }
+{
+    key_of(d, x) == key_of(e, y)
+}
+
+// Whether n nodes in a row agree; the loop ends at the first pair that does not.
+fn same_run(t: &[u64], a: usize, b: usize, d: u64, e: u64, n: usize) -> bool
+    requires { ⌜ a + n ≤ length (now t) ⌝ ∗ ⌜ b + n ≤ length (now t) ⌝ }
+    ensures { λ r. ⌜ r ≡ sameList (keys d (nodes (now (t .entry)) a n)) (keys e (nodes (now (t .entry)) b n)) ⌝ }
+{
+    let mut k = 0;
+    while k < n {
+        if !same_node(d, t[a + k], e, t[b + k]) {
+            return false;
+        }
+        k += 1;
+    }
+    true
+}
+
+fn least(m: u64, n: u64) -> u64
+    ensures { λ r. ⌜ r ≡ min m n ⌝ }
+{
+    if m < n {
+        return m;
+    }
+    n
+}
+
+// Whether the subterms at nodes a and b are equal up to bound names. A binder outside them counts by its level, which is the same
+// binder for both only where it lies above both nodes: so the answer is right where each outer binder that they use does. The sizes
+// come last: two terms that differ do so in a pair that both have.
+pub fn same(t: &[u64], a: usize, b: usize) -> bool
+    requires { ⌜ Inside (now t) a ⌝ ∗ ⌜ Inside (now t) b ⌝ }
+    ensures { λ r. ⌜ r ≡ sameAt (now (t .entry)) a b ⌝ }
+{
+    let x = t[a];
+    let y = t[b];
+    let m = size(x);
+    let n = size(y);
+    if !same_run(t, a, b, depth(x), depth(y), least(m, n) as usize) {
+        return false;
+    }
+    m == n
+}
+
+// Whether a token is a variable with a level above d and at most r: bound outside a root at depth r, inside one at depth d.
+fn reaches(d: u64, r: u64, x: u64) -> bool
+    ensures { λ b. ⌜ b ≡ reaches d r x ⌝ }
+{
+    if tag(x) != 2 {
+        return false;
+    }
+    let level = payload(x) / 65536;
+    d < level && level <= r
+}
+
+// Whether one of n nodes in a row is such a variable.
+fn reaches_run(t: &[u64], a: usize, n: usize, d: u64, r: u64) -> bool
+    requires { ⌜ a + n ≤ length (now t) ⌝ }
+    ensures { λ b. ⌜ b ≡ anyReaches d r (nodes (now (t .entry)) a n) ⌝ }
+{
+    let mut i = 0;
+    while i < n {
+        if reaches(d, r, t[a + i]) {
+            return true;
+        }
+        i += 1;
+    }
+    false
+}
+
+// Whether the subterm at node a uses a variable that is bound above it inside the face, whose root has binder depth d.
+pub fn uses_between(t: &[u64], a: usize, d: u64) -> bool
+    requires { ⌜ Inside (now t) a ⌝ }
+    ensures { λ r. ⌜ r ≡ usesAt (now (t .entry)) a d ⌝ }
+{
+    let x = t[a];
+    reaches_run(t, a, size(x) as usize, d, depth(x))
+}
+
+// Whether no variable of the subterm at node a is bound outside it.
+pub fn closed(t: &[u64], a: usize) -> bool
+    requires { ⌜ Inside (now t) a ⌝ }
+    ensures { λ r. ⌜ r ≡ closedAt (now (t .entry)) a ⌝ }
+{
+    !uses_between(t, a, 0)
+}
