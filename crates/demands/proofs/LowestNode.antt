@@ -1,5 +1,7 @@
 -- The lowest hole of a body stands, in what is faced, where the lowest node of the choice stands in the function's own face: before it
 -- the two agree node by node.
+--   Unmarked   the first n nodes become no holes
+--   HoleAt     the lowest hole of a place, and the node where it stands
 use mathlib.Core.Path.{_≡_, refl, ap, sym, _∙_, subst}
 use Prim.Native.Nat.{ℕ, zero, suc, _+_, _-_, _<_, _≤_}
 use native.Mathlib.Nat.{suc-add}
@@ -28,7 +30,7 @@ at-drop zero xs i = ap (getElem? xs) (let e : i ≡ 0 + i = omega arith in e)
 at-drop (suc n) [] i = refl
 at-drop (suc n) (x ∷ xs) i = rw (suc-add n i) (at-drop n xs i)
 
-abbrev Unmarked : ℕ → Marks → Type 0
+abbrev pub Unmarked : ℕ → Marks → Type 0
 Unmarked n ms = (k : ℕ) → k < n → getElem? ms k ≡ some none
 
 module _ (i j n : ℕ) (ms : Marks) (low : LowestMark i j ms) where
@@ -48,8 +50,8 @@ lowest-left i (x ∷ xs) ys h e = go (isHole i (x .what)) (lowest-left i xs ys h
     go true ih q = q
     go false ih q = ih q
 
--- Where no node is marked, the walk finds no hole and passes node by node
-unmarked-walk : (k n : ℕ) (ms : Marks) (u e : Terms) (hs : List Face) → IsExpression u → Unmarked (size u) ms
+-- WITHOUT A MARK the walk finds no hole, and passes node by node
+pub unmarked-walk : (k n : ℕ) (ms : Marks) (u e : Terms) (hs : List Face) → IsExpression u → Unmarked (size u) ms
     → walk k n (punch ms u) e ≡ some hs → (hs ≡ []) × (size u ≡ size e)
 unmarked-walk k n ms nil nil hs x f w = (cc, refl)
 unmarked-walk k n ms nil (cons t d r) hs x f w = never (cc)
@@ -66,8 +68,7 @@ unmarked-walk k n (none ∷ ms) (cons (own o) c s) (cons t d r) hs x f w =
     (λ a l. at-drop (size c) ms a ∙ f (suc (size c + a)) (omega arith)) (y .areLater) in
     (y .whole ∙ ap (λ (l : List Face). l ++ y .later) noneInside ∙ noneLater, omega arith)
 
--- The hole of place i that stands at node j of e, among the faces hs of a walk that gives e's first node the number n; k binders are
--- around e
+-- The hole of place i stands at node j of e; hs are the faces of a walk that gives e's first node the number n, with k binders around it
 pub record HoleAt (i j k n : ℕ) (e : Terms) (hs : List Face) : Type 0 where
   pub face : Face
   pub isLowest : lowestHole i hs ≡ some face
