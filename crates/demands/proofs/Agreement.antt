@@ -1,4 +1,4 @@
--- Agreement of demands: demands that hold of a filling agree; and the test, one demand after the other, is right.
+-- Agreement of demands: the test, one demand after the other, is right; and demands that hold of a filling agree.
 use mathlib.Core.Path.{_≡_, refl, ap, sym, _∙_, subst}
 use mathlib.Core.Logic.{_⊎_, inl, inr, ⊎-elim, _↔_}
 use Prim.Native.Nat.{ℕ}
@@ -19,21 +19,6 @@ use Rattle.meaning.proofs.Renaming.{one-injective}
 use Rattle.meaning.proofs.Candidate.{lookup-is, lookup-none, lookup-cases}
 use Rattle.demands.specs.Agreeing.{Agreeing, agreesWith, agreeAfter}
 use Rattle.demands.proofs.Holding.{Holds}
-
--- DEMANDS THAT HOLD of one filling agree, if they are closed
-pub holding-agree : (σ : Filling) (ds : List Source) → All (Holds σ) ds → ((d : Source) → d ∈ ds → ClosedTerm (d .term)) → Agreeing ds
-holding-agree σ ds h closed = record {
-  same = λ d q. same d q (lookup-cases (d .number) ds);
-  closed = λ m s e. closed s (lookup-is m ds s e .0);
-}
-  where
-    same : (d : Source) → d ∈ ds → (lookup (d .number) ds ≡ none) ⊎ ((s : Source) × (lookup (d .number) ds ≡ some s))
-        → (s : Source) × (lookup (d .number) ds ≡ some s) × (s .term ≡ d .term)
-    same d q (inl n) = absurd (lookup-none (d .number) ds n (d, q, refl))
-    same d q (inr (s, e)) =
-        let (i, n) = lookup-is (d .number) ds s e in
-        let v : value (s .term) ≡ value (d .term) = sym (all-mem (Holds σ) s ds h i) ∙ ap σ n ∙ all-mem (Holds σ) d ds h q in
-        (s, e, cc)
 
 -- Looking up in a list that goes on
 abbrev orElse : {A : Type 0} → Option A → Option A → Option A
@@ -136,3 +121,18 @@ none-agreeing = record { same = λ d q. absurd (List·Memᴰ·not-nil q); closed
 -- THE TEST IS RIGHT
 pub agreeing-tested : (ds : List Source) → Agreeing ds ↔ (agreeAfter [] ds ≡ true)
 agreeing-tested ds = (λ a. T-true (agree-in [] ds a), λ e. agree-out [] ds none-agreeing (true-T e))
+
+-- DEMANDS THAT HOLD of one filling agree, if they are closed
+pub holding-agree : (σ : Filling) (ds : List Source) → All (Holds σ) ds → ((d : Source) → d ∈ ds → ClosedTerm (d .term)) → Agreeing ds
+holding-agree σ ds h closed = record {
+  same = λ d q. same d q (lookup-cases (d .number) ds);
+  closed = λ m s e. closed s (lookup-is m ds s e .0);
+}
+  where
+    same : (d : Source) → d ∈ ds → (lookup (d .number) ds ≡ none) ⊎ ((s : Source) × (lookup (d .number) ds ≡ some s))
+        → (s : Source) × (lookup (d .number) ds ≡ some s) × (s .term ≡ d .term)
+    same d q (inl n) = absurd (lookup-none (d .number) ds n (d, q, refl))
+    same d q (inr (s, e)) =
+        let (i, n) = lookup-is (d .number) ds s e in
+        let v : value (s .term) ≡ value (d .term) = sym (all-mem (Holds σ) s ds h i) ∙ ap σ n ∙ all-mem (Holds σ) d ds h q in
+        (s, e, cc)

@@ -40,6 +40,12 @@ module _ (p : Problem) (xs : List Face) (defined : faces p ≡ some xs) (f : ℕ
   abbrev facedTerm : Face → Term
   facedTerm x = x .term
 
+  by-faced : (x : Face) (n : ℕ) → x ∈ xs → x .what ≡ function f n → x .term ∈ facedBy p f
+  by-faced x n q e =
+      mem-map facedTerm
+      (subst (λ (o : Option (List Face)). x ∈ applicationsOf f (orNone o)) (sym defined)
+      (mem-keep (λ (y : Face). isApplication f (y .what)) x xs q (ap (isApplication f) e ∙ eqb-self f)))
+
   faced-by : (e : Term) → e ∈ facedBy p f → (x : Face) × (n : ℕ) × (x ∈ xs) × (x .what ≡ function f n) × (e ≡ x .term)
   faced-by e q =
       let (x, i, t) = map-mem facedTerm e (applicationsOf f (orNone (faces p))) q in
@@ -47,12 +53,6 @@ module _ (p : Problem) (xs : List Face) (defined : faces p ≡ some xs) (f : ℕ
       (subst (λ (o : Option (List Face)). x ∈ applicationsOf f (orNone o)) defined i) in
       let (n, z) = application-is f (x .what) isF in
       (x, n, m, z, t)
-
-  by-faced : (x : Face) (n : ℕ) → x ∈ xs → x .what ≡ function f n → x .term ∈ facedBy p f
-  by-faced x n q e =
-      mem-map facedTerm
-      (subst (λ (o : Option (List Face)). x ∈ applicationsOf f (orNone o)) (sym defined)
-      (mem-keep (λ (y : Face). isApplication f (y .what)) x xs q (ap (isApplication f) e ∙ eqb-self f)))
 
 -- What a filling gives is closed, by the test of an entry
 value-closed : (t : Term) → isClosedEntry (value t) ≡ true → ClosedTerm t
