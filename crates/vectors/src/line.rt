@@ -1,85 +1,99 @@
-// One line of the output: the name of an input, and what the reader answers.
-use libc::STDOUT_FILENO;
-use table::Read;
-use table::TABLE_ROOM;
-use terms::term::Term;
+// One line of the input: its bytes out of their digits, and its label.
+use crate::answer;
+ghost use mathlib.Core.Path.{_≡_};
+ghost use Prim.Native.Nat.{_+_, _*_, _≤_};
+ghost use lib.ListN.{length};
 
-fn print(text: &[u8]) {
-    io::write_all(STDOUT_FILENO, text);
-}
+// The bytes that a line may have.
+const MOST: usize = 8192;
 
-fn print_number(n: u64) {
-    io::print_decimal(STDOUT_FILENO, n);
-}
-
-// The end of a line: where another number is due, it says so.
-fn end(due: u8, got: u8) {
-    if due != got {
-        print(b", but due is ");
-        print_number(due as u64);
+// The value of a digit, 16 where it is none.
+fn value(digit: u8) -> u8 {
+    match digit {
+        48..=57 => digit - 48,
+        65..=70 => digit - 55,
+        _ => 16,
     }
-    print(b"\n");
 }
 
-fn end_refused(due: u8, got: u8) {
-    print(b": refused ");
-    print_number(got as u64);
-    end(due, got);
-}
-
-pub fn show(name: &[u8], due: u8, bytes: &[u8]) {
-    let mut patterns = [0u64; TABLE_ROOM];
-    let mut expressions = [0u64; TABLE_ROOM];
-    print(name);
-    match table::read(bytes, &mut patterns, &mut expressions) {
-        Read::Refused(r) => end_refused(due, r),
-        Read::Problem(p, e, constraints) => {
-            print(b": read, nodes ");
-            print_number(std::num::wrapping_add_u64(p as u64, e as u64));
-            print(b", constraints ");
-            print_number(constraints as u64);
-            end(due, 0);
+// Where the digits end that stand from index 2 on.
+fn digits_end(line: &[u8]) -> usize
+    requires { ⌜ 2 ≤ length (now line) ⌝ }
+    ensures { λ r. ⌜ (2 ≤ r) × (r ≤ length (now (line .entry))) ⌝ }
+{
+    let mut i = 2;
+    while i < line.len() {
+        if value(line[i]) == 16 {
+            return i;
         }
+        i += 1;
+    }
+    i
+}
+
+// The n bytes whose digits stand from index 2 on, at the front of the buffer.
+fn decode(line: &[u8], n: usize, bytes: &mut [u8])
+    requires { ⌜ (3 + 2 * n ≤ length (now line)) × (n ≤ length (now bytes)) ⌝ }
+{
+    let mut i = 0;
+    while i < n {
+        let at = 2 + 2 * i;
+        bytes[i] = value(line[at]) % 16 * 16 + value(line[at + 1]) % 16;
+        i += 1;
     }
 }
 
-fn show_term(due: u8, term: Term) {
-    match term {
-        Term::Refused(r) => end_refused(due, r),
-        Term::Took(bytes, nodes) => {
-            print(b": read, bytes ");
-            print_number(bytes as u64);
-            print(b", nodes ");
-            print_number(nodes as u64);
-            end(due, 0);
-        }
+fn show_input(kind: u8, label: &[u8], bytes: &[u8])
+    requires { ⌜ length (now bytes) ≤ 8192 ⌝ }
+{
+    match kind {
+        // P, T, E, B
+        80 => answer::show_problem(label, bytes),
+        84 => answer::show_pattern(label, bytes),
+        69 => answer::show_expression(label, bytes),
+        66 => answer::show_body(label, bytes),
+        _ => answer::no_kind(label),
     }
 }
 
-// A term of at most 4,096 bytes by itself, in each of its places.
-pub fn show_pattern(name: &[u8], due: u8, bytes: &[u8]) {
-    if 4096 < bytes.len() {
+// How many bytes the digits of a line give, more than MOST where it is no line of an input.
+fn byte_count(line: &[u8]) -> usize
+    ensures { λ r. ⌜ (r ≤ 8192 → 3 + 2 * r ≤ length (now (line .entry))) ⌝ }
+{
+    if line.len() < 2 {
+        return MOST + 1;
+    }
+    let end = digits_end(line);
+    if line.len() <= end {
+        return MOST + 1;
+    }
+    if line[1] != 32 {
+        return MOST + 1;
+    }
+    if line[end] != 32 {
+        return MOST + 1;
+    }
+    if end % 2 != 0 {
+        return MOST + 1;
+    }
+    (end - 2) / 2
+}
+
+// The buffer has room for the bytes of a line.
+fn show_in(line: &[u8], bytes: &mut [u8])
+    requires { ⌜ length (now bytes) ≡ 8192 ⌝ }
+{
+    let n = byte_count(line);
+    if MOST < n {
+        answer::bad(line);
         return;
     }
-    let mut room = [0u64; TABLE_ROOM];
-    print(name);
-    show_term(due, terms::term::read_pattern(bytes, &mut room));
+    decode(line, n, bytes);
+    let label = 3 + 2 * n;
+    show_input(line[0], &line[label..], &bytes[..n]);
 }
 
-pub fn show_expression(name: &[u8], due: u8, bytes: &[u8]) {
-    if 4096 < bytes.len() {
-        return;
-    }
-    let mut room = [0u64; TABLE_ROOM];
-    print(name);
-    show_term(due, terms::term::read_expression(bytes, &mut room));
-}
-
-pub fn show_body(name: &[u8], due: u8, bytes: &[u8]) {
-    if 4096 < bytes.len() {
-        return;
-    }
-    let mut room = [0u64; TABLE_ROOM];
-    print(name);
-    show_term(due, terms::term::read_body(bytes, &mut room));
+pub fn show(line: &[u8]) {
+    let mut bytes = [0u8; MOST];
+    show_in(line, &mut bytes);
 }
