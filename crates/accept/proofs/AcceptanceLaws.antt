@@ -1,6 +1,6 @@
 -- Reading and checking is acceptance: `table`'s reading followed by the checks of `faces` gives `meaning`'s answer, for all bytes.
 use mathlib.Core.Path.{_≡_, refl, ap, sym, _∙_}
-use mathlib.Core.Bool.{Bool, true, false}
+use mathlib.Core.Bool.{Bool, true, false, true≢false}
 use mathlib.Core.List.{List, [], _∷_, _++_}
 use mathlib.Core.Option.{some}
 use Prim.Native.Nat.{ℕ, suc, _<_, _≤_}
@@ -97,11 +97,11 @@ module _ (ps es old new : List ℕ) (f : Checked) (d : CheckedBy ps es old new f
 
     pub checks-none : f ≡ checked.NoRows → Checks ps es old new (verdicts.Accepted (standing false 0))
     unfolding Checks
-    checks-none e = record { patterns = refl; expressions = refl; survey = v; check = rw e at d }
+    checks-none e = record { patterns = refl; expressions = refl; survey = v; check = rw e at d; none = λ q. refl }
 
     pub checks-faces : (n : ℕ) → f ≡ checked.Faces n → Checks ps es old new (verdicts.Accepted (standing true n))
     unfolding Checks
-    checks-faces n e = record { patterns = refl; expressions = refl; survey = v; check = rw e at d }
+    checks-faces n e = record { patterns = refl; expressions = refl; survey = v; check = rw e at d; none = λ q. absurd (true≢false q) }
 
 -- What the checks say of the problem that was read
 module _ (q : Problem) (new : List ℕ) (n : ℕ) where
@@ -148,6 +148,7 @@ module _ (s o p x y : List ℕ) (b : AreBytes s) (m n k : ℕ) (d : ProblemDone 
           expressionTable = t .expressionTable ∙ ap (λ (i : ℕ). expressionTokens (t .problem) ++ drop i x) (t .expressionNodes ∙ sym (front .expressions));
           survey = front .survey;
           agree = agrees (t .problem) new (a .faces) (a .agree) says;
+          none = front .none;
           recorded = recorded (t .problem) new (a .faces) (a .agree) says;
         },
       )

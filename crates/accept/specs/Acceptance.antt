@@ -4,6 +4,7 @@
 --   Accepts   the answer for any bytes
 use mathlib.Core.Path.{_≡_}
 use Prim.Native.Nat.{ℕ, _≤_}
+use mathlib.Core.Bool.{false}
 use mathlib.Core.List.{List, _++_}
 use mathlib.Core.Option.{some}
 use lib.ListN.{length, take, drop}
@@ -31,6 +32,7 @@ pub record Passed (ps es old new : List ℕ) (a : Standing) : Type 0 where
   pub expressions : a .expressions ≡ length es
   pub survey : Surveyed ps (a .occurring)
   pub check : CheckedBy ps es old new (checkedAs a)
+  pub none : a .agree ≡ false → a .faces ≡ 0
 
 unfoldable pub Checks : List ℕ → List ℕ → List ℕ → List ℕ → Verdict → Type 0
 Checks ps es old new (verdicts.Refused r) = CheckedBy ps es old new (checked.Refused r)
@@ -50,6 +52,7 @@ pub record Stands (p : Problem) (ps ps′ es es′ fs′ : List ℕ) (a : Standi
   pub expressionTable : es′ ≡ expressionTokens p ++ drop (a .expressions) es
   pub survey : Surveyed (patternTokens p) (a .occurring)
   pub agree : a .agree ≡ isSome (faces p)
+  pub none : a .agree ≡ false → a .faces ≡ 0
   pub recorded : (found : List Face) → faces p ≡ some found → (length found ≡ a .faces) × Recorded p (take (a .faces) fs′) found
 
 -- A refusal is document 01's, with its number

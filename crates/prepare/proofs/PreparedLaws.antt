@@ -1,0 +1,159 @@
+-- One law for each answer, over plain variables; and that a prepared problem has its class tables.
+use mathlib.Core.Path.{_≡_, refl, ap, sym, _∙_, subst}
+use mathlib.Core.Bool.{Bool, true, false, true≢false}
+use mathlib.Core.List.{List, [], _∷_, _++_}
+use mathlib.Core.Option.{Option, none, some}
+use Prim.Native.Nat.{ℕ, suc, _<_, _≤_}
+use native.Mathlib.Omega.{arith}
+use lib.ListN.{length, take, drop, length-append, length-take}
+use lib.Seq.{take-at}
+use Rattle.meaning.specs.Limits.{metavariableCount, maxFunctions}
+use Rattle.meaning.specs.Basics.{All, isSome}
+use Rattle.meaning.specs.Term.{Term}
+use Rattle.meaning.specs.Problem.{Problem, functions}
+use Rattle.meaning.specs.Face.{Face, faces}
+use Rattle.meaning.specs.Read.{Answer, refused, got}
+use Rattle.meaning.specs.Readable.{Accepted}
+use Rattle.meaning.specs.Accept.{accept}
+use Rattle.meaning.proofs.Lists.{is-some}
+use Rattle.meaning.proofs.PlaceLaws.{few-functions}
+use Rattle.meaning.proofs.ProblemReading.{accept-accepted}
+use Rattle.tokens.specs.Token.{patternTokens, expressionTokens}
+use Rattle.metavariables.specs.Survey.{count}
+use Rattle.metavariables.proofs.SurveyMeaning.{function-count-means}
+use Rattle.faces.specs.Recorded.{RecordedBy}
+use Rattle.faces.specs.First.{Listed, listed}
+use Rattle.faces.specs.declared.first.Firsts.{Firsts}
+use Rattle.faces.specs.Verdict.{FirstsAt}
+use Rattle.faces.proofs.FirstMeaning.{first-faces-mean}
+use Rattle.classes.specs.FaceTable.{Faces, TablesFrom}
+use Rattle.classes.specs.Tabled as classes
+use Rattle.classes.proofs.ProblemTables.{problem-faces, problem-tabled}
+use Rattle.accept.specs.Acceptance.{Stands, Accepts}
+use Rattle.accept.specs.declared.Standing.{Standing}
+use Rattle.accept.specs.declared.Verdict.the-variants as verdicts
+use Rattle.prepare.specs.Prepared.{NoFaces, NodesOf, Laid, Ground, Tabled, Tabling, Prepares}
+use Rattle.prepare.specs.declared.Prepared.{Prepared}
+
+-- The two answers of `nodes_of`
+pub nodes-looked-up : (agree : Bool) (ps fs : List ℕ) (functions : ℕ) (r : Firsts) → agree ≡ true → Listed ps fs functions r → NodesOf agree ps fs functions r
+unfolding NodesOf
+nodes-looked-up true ps fs functions r e h = h
+nodes-looked-up false ps fs functions r e h = absurd (true≢false (sym e))
+
+pub no-nodes : (agree : Bool) (ps fs : List ℕ) (functions : ℕ) (r : Firsts) → agree ≡ false → NoFaces r → NodesOf agree ps fs functions r
+unfolding NodesOf
+no-nodes true ps fs functions r e h = absurd (true≢false e)
+no-nodes false ps fs functions r e h = h
+
+module _ (p : Problem) (ps es fs : List ℕ) (a : Standing) (laid : Laid p ps es fs a) where
+  -- What `first_faces` requires
+  pub functions-few : count metavariableCount (a .occurring .functions) ≤ 8
+  unfolding maxFunctions
+  functions-few =
+      let n = function-count-means p (laid .accepted .within) (a .occurring) (laid .survey) in
+      let m : length (functions p) ≤ 8 = few-functions p (laid .accepted) in
+      omega arith
+
+  module _ (firsts : Firsts) (found : List Face) (shapes : faces p ≡ some found)
+      (nodes : Listed (take (a .patterns) ps) (take (a .faces) fs) (a .occurring .functions) firsts) where
+    -- The nodes are those of the functions' faces
+    pub nodes-mean : FirstsAt p found (functions p) (listed firsts)
+    nodes-mean =
+        first-faces-mean p (laid .accepted) (take (a .faces) fs) found shapes (laid .recorded found shapes) (a .occurring) (laid .survey) firsts
+        (subst (λ (t : List ℕ). Listed t (take (a .faces) fs) (a .occurring .functions) firsts) (laid .patterns) nodes)
+
+    faces-there : Faces (take (a .expressions) es) (firsts .nodes) (firsts .count)
+    unfolding maxFunctions
+    faces-there =
+        subst (λ (t : List ℕ). Faces t (firsts .nodes) (firsts .count)) (sym (laid .expressions))
+        (problem-faces p (laid .accepted) found shapes (firsts .nodes) (firsts .count) (nodes .fits .count) (nodes .fits .array) nodes-mean)
+
+    -- ... AND THE CLASS TABLES ARE THE PROBLEM'S
+    pub tables-mean : (ds : List ℕ) → TablesFrom (take (a .expressions) es) (firsts .nodes) (firsts .count) ds → classes.Tabled p ds
+    unfolding maxFunctions
+    tables-mean ds t =
+        problem-tabled p (laid .accepted) found shapes (firsts .nodes) (firsts .count) (nodes .fits .count) (nodes .fits .array) nodes-mean ds
+        (subst (λ (l : List ℕ). TablesFrom l (firsts .nodes) (firsts .count) ds) (laid .expressions) t)
+
+  -- What `class_tables` requires
+  pub faces-ready : (firsts : Firsts) → NodesOf (a .agree) (take (a .patterns) ps) (take (a .faces) fs) (a .occurring .functions) firsts
+      → Faces (take (a .expressions) es) (firsts .nodes) (firsts .count)
+  unfolding NodesOf maxFunctions
+  faces-ready firsts h = go (a .agree) refl h
+    where
+      go : (b : Bool) → a .agree ≡ b → NodesOf b (take (a .patterns) ps) (take (a .faces) fs) (a .occurring .functions) firsts
+          → Faces (take (a .expressions) es) (firsts .nodes) (firsts .count)
+      go true e n = let x = is-some (faces p) (sym (laid .agree) ∙ e) in faces-there firsts (x .0) (x .1) n
+      go false e n = let z : firsts .count ≡ 0 = n .none in record { few = omega arith; whole = λ k l. absurd (omega arith) }
+
+-- What `accept` leaves
+length-recorded : (p e : ℕ → Option Term) (ns : List ℕ) (xs : List Face) → RecordedBy p e ns xs → length ns ≡ length xs
+length-recorded p e [] [] r = refl
+length-recorded p e [] (x ∷ xs) r = absurd r
+length-recorded p e (n ∷ ns) [] r = absurd r
+length-recorded p e (n ∷ ns) (x ∷ xs) r = ap suc (length-recorded p e ns xs (r .1))
+
+front : (xs later ys : List ℕ) (n : ℕ) → n ≡ length xs → ys ≡ xs ++ later → (take n ys ≡ xs) × (n ≤ length ys)
+front xs later ys n l e = (ap (take n) e ∙ take-at xs later n (sym l), omega (arith, ap length e, length-append xs later))
+
+module _ (s ps ps′ es es′ fs′ : List ℕ) (bytes : All (λ b. b < 256) s) where
+  faces-inside : (p : Problem) (a : Standing) → Stands p ps ps′ es es′ fs′ a → a .faces ≤ length fs′
+  faces-inside p a h = go (faces p) refl
+    where
+      go : (o : Option (List Face)) → faces p ≡ o → a .faces ≤ length fs′
+      go none e = let z : a .faces ≡ 0 = h .none (h .agree ∙ ap isSome e) in omega arith
+      go (some found) e =
+          let r = h .recorded found e in
+          let n : length found ≡ a .faces = r .0 in
+          let m = length-recorded _ _ (take (a .faces) fs′) found (r .1) in
+          let l = length-take (a .faces) fs′ in
+          omega arith
+
+  pub stands-laid : (p : Problem) (a : Standing) → accept s ≡ got p → Stands p ps ps′ es es′ fs′ a → Laid p ps′ es′ fs′ a
+  stands-laid p a e h =
+      let l = front (patternTokens p) (drop (a .patterns) ps) ps′ (a .patterns) (h .patterns) (h .patternTable) in
+      let r = front (expressionTokens p) (drop (a .expressions) es) es′ (a .expressions) (h .expressions) (h .expressionTable) in
+      record {
+        accepted = accept-accepted s p bytes e .0;
+        patterns = l .0;
+        patternsInside = l .1;
+        expressions = r .0;
+        expressionsInside = r .1;
+        survey = h .survey;
+        agree = h .agree;
+        facesInside = faces-inside p a h;
+        recorded = λ found q. h .recorded found q .1;
+      }
+
+  -- What `with_tables` requires
+  pub accepts-ground : (a : Standing) → Accepts (accept s) ps ps′ es es′ fs′ (verdicts.Accepted a) → Ground ps′ es′ fs′ a
+  unfolding Accepts
+  accepts-ground a h = go (accept s) refl h
+    where
+      go : (x : Answer Problem) → accept s ≡ x → Accepts x ps ps′ es es′ fs′ (verdicts.Accepted a) → Ground ps′ es′ fs′ a
+      go (refused n) e h = absurd (let z : _≡_ {A = ℕ} 0 1 = cc in omega arith)
+      go (got p) e h =
+          let same : h .0 ≡ a = let q = h .1 in cc in
+          (p, stands-laid p a e (subst (Stands p ps ps′ es es′ fs′) same (h .2)))
+
+  -- The returns of `prepare`
+  pub prepares-refused : (ds : List ℕ) (n : ℕ) (r : Prepared) → Accepts (accept s) ps ps′ es es′ fs′ (verdicts.Refused n)
+      → r .verdict ≡ verdicts.Refused n → Prepares (accept s) ps′ es′ fs′ ds r
+  unfolding Accepts Prepares
+  prepares-refused ds n r h v = go (accept s) h
+    where
+      go : (x : Answer Problem) → Accepts x ps ps′ es es′ fs′ (verdicts.Refused n) → Prepares x ps′ es′ fs′ ds r
+      go (refused m) h = v ∙ h
+      go (got p) h = absurd (let q = h .1 in let z : _≡_ {A = ℕ} 0 1 = cc in omega arith)
+
+  pub prepares-accepted : (ds : List ℕ) (a : Standing) (r : Prepared) → Accepts (accept s) ps ps′ es es′ fs′ (verdicts.Accepted a)
+      → Tabling ps′ es′ fs′ ds a r → Prepares (accept s) ps′ es′ fs′ ds r
+  unfolding Accepts Prepares
+  prepares-accepted ds a r h t = go (accept s) refl h
+    where
+      go : (x : Answer Problem) → accept s ≡ x → Accepts x ps ps′ es es′ fs′ (verdicts.Accepted a) → Prepares x ps′ es′ fs′ ds r
+      go (refused n) e h = absurd (let z : _≡_ {A = ℕ} 0 1 = cc in omega arith)
+      go (got p) e h =
+          let same : h .0 ≡ a = let q = h .1 in cc in
+          (a, stands-laid p a e (subst (Stands p ps ps′ es es′ fs′) same (h .2)), t)

@@ -1,0 +1,2 @@
+-- What preparing a problem promises.
+pub mod Prepared

@@ -1,0 +1,83 @@
+// What happens once a call, whatever is asked: the problem is read and checked, and where its shapes agree the nodes of its functions'
+// faces and the class tables of these are looked up. Searching, writing and checking all begin with it.
+use accept::Standing;
+use accept::Verdict;
+use accept::accept;
+use classes::class_tables;
+use faces::first::Firsts;
+use faces::first::first_faces;
+use metavariables::MAX_FUNCTIONS;
+ghost use Prim.Native.Nat.{_≤_};
+ghost use Rattle.meaning.specs.Limits.{metavariableCount};
+ghost use Rattle.meaning.specs.Accept.{accept};
+ghost use Rattle.rows.specs.Rows.{Long};
+ghost use Rattle.accept.specs.Acceptance.{Rooms};
+ghost use Rattle.metavariables.specs.Survey.{count};
+ghost use Rattle.prepare.specs.Prepared.{NoFaces, NodesOf, Ground, Tabling, Prepares};
+
+// The verdict on the problem, and the nodes of its functions' faces; of a problem that is refused or has no rows there are none. They
+// stand beside the verdict since they are an array.
+pub struct Prepared {
+    pub verdict: Verdict,
+    pub firsts: Firsts,
+}
+
+fn no_faces() -> Firsts
+    ensures { λ r. ⌜ NoFaces r ⌝ }
+{
+    Firsts {
+        nodes: [0usize; MAX_FUNCTIONS],
+        count: 0,
+    }
+}
+
+// The nodes of the functions' faces, where shapes agree.
+fn nodes_of(agree: bool, ps: &[u64], fs: &[u64], functions: u32) -> Firsts
+    requires { ⌜ count metavariableCount functions ≤ 8 ⌝ }
+    ensures { λ r. ⌜ NodesOf agree (now (ps .entry)) (now (fs .entry)) functions r ⌝ }
+{
+    if agree {
+        return first_faces(ps, fs, functions);
+    }
+    no_faces()
+}
+
+// An accepted problem: the nodes of its functions' faces, and their class tables.
+fn with_tables(a: Standing, ps: &[u64], es: &[u64], fs: &[u64], ds: &mut [u64]) -> Prepared
+    requires { ⌜ Ground (now ps) (now es) (now fs) a ⌝ ∗ ⌜ Long (now ds) ⌝ }
+    ensures { λ r. ⌜ Tabling (now (ps .entry)) (now (es .entry)) (now (fs .entry)) (now (ds .exit)) a r ⌝ }
+{
+    let p = a.patterns;
+    let e = a.expressions;
+    let n = a.faces;
+    let functions = a.occurring.functions;
+    let firsts = nodes_of(a.agree, &ps[..p], &fs[..n], functions);
+    let nodes = firsts.nodes;
+    class_tables(&es[..e], nodes, firsts.count, ds);
+    Prepared {
+        verdict: Verdict::Accepted(a),
+        firsts: firsts,
+    }
+}
+
+// Any bytes: document 01's refusal, or all that later steps need of the problem, in the tables and in the answer. After a refusal the
+// tables may hold anything.
+pub fn prepare(
+    problem: &[u8],
+    ps: &mut [u64],
+    es: &mut [u64],
+    fs: &mut [u64],
+    ds: &mut [u64],
+) -> Prepared
+    requires { ⌜ Rooms (now ps) (now es) (now fs) ⌝ ∗ ⌜ Long (now ds) ⌝ }
+    ensures { λ r. ⌜ Prepares (accept (now (problem .entry))) (now (ps .exit)) (now (es .exit)) (now (fs .exit)) (now (ds .exit)) r ⌝ }
+{
+    let verdict = accept(problem, ps, es, fs);
+    match verdict {
+        Verdict::Refused(r) => Prepared {
+            verdict: Verdict::Refused(r),
+            firsts: no_faces(),
+        },
+        Verdict::Accepted(a) => with_tables(a, ps, es, fs, ds),
+    }
+}
