@@ -54,7 +54,8 @@ module _ (s o p x y : List ℕ) (b : AreBytes s) (m n k : ℕ) (d : ProblemDone 
   pattern-front = ap (take m) (tables .patternTable) ∙ take-at (patternTokens (tables .problem)) (drop m o) m (sym (tables .patternNodes))
 
   expression-front : take n y ≡ expressionTokens (tables .problem)
-  expression-front = ap (take n) (tables .expressionTable) ∙ take-at (expressionTokens (tables .problem)) (drop n x) n (sym (tables .expressionNodes))
+  expression-front =
+      ap (take n) (tables .expressionTable) ∙ take-at (expressionTokens (tables .problem)) (drop n x) n (sym (tables .expressionNodes))
 
   -- What `check` wants of them
   pub pattern-ready : Table (take m p)
@@ -65,10 +66,13 @@ module _ (s o p x y : List ℕ) (b : AreBytes s) (m n k : ℕ) (d : ProblemDone 
 
   -- They lie in the tables, and the faces have room for one for each node of the patterns
   pub patterns-inside : m ≤ length p
-  patterns-inside = omega (arith, ap length (tables .patternTable), length-append (patternTokens (tables .problem)) (drop m o), tables .patternNodes)
+  patterns-inside =
+      omega (arith, ap length (tables .patternTable), length-append (patternTokens (tables .problem)) (drop m o), tables .patternNodes)
 
   pub expressions-inside : n ≤ length y
-  expressions-inside = omega (arith, ap length (tables .expressionTable), length-append (expressionTokens (tables .problem)) (drop n x), tables .expressionNodes)
+  expressions-inside =
+      omega
+      (arith, ap length (tables .expressionTable), length-append (expressionTokens (tables .problem)) (drop n x), tables .expressionNodes)
 
   pub few-tokens : length (take m p) ≤ tableRoom
   unfolding patternTokens
@@ -76,8 +80,10 @@ module _ (s o p x y : List ℕ) (b : AreBytes s) (m n k : ℕ) (d : ProblemDone 
       omega (arith, ap length pattern-front, tokens-length [] (namedPatterns (tables .problem)), nodes-few (tables .problem) within)
 
 -- READING AND CHECKING IS ACCEPTANCE: c is what the checks answer on the fronts of the tables, where a problem was read
-pub reading-checking : (s o p x y : List ℕ) → AreBytes s → (r : Read) → ProblemDone (readProblem s) o p x y r → (old new : List ℕ) (c : Checked)
-    → ((m n k : ℕ) → r ≡ answers.Problem m n k → CheckedBy (take m p) (take n y) old new c) → accept s ≡ after (readProblem s) (λ q. answerOf q c)
+pub reading-checking : (s o p x y : List ℕ) → AreBytes s → (r : Read) → ProblemDone (readProblem s) o p x y r
+    → (old new : List ℕ) (c : Checked)
+    → ((m n k : ℕ) → r ≡ answers.Problem m n k → CheckedBy (take m p) (take n y) old new c)
+    → accept s ≡ after (readProblem s) (λ q. answerOf q c)
 unfolding accept
 reading-checking s o p x y b (answers.Refused n) d old new c h = rw (read-refused s o p x y d)
 reading-checking s o p x y b (answers.Problem m n k) d old new c h =
@@ -124,7 +130,8 @@ pub accepts-refused : (s o p x y new : List ℕ) {r : ℕ} → ProblemDone (read
 unfolding accept Accepts
 accepts-refused s o p x y new d = rw (read-refused s o p x y d, Accepts)
 
-module _ (s o p x y : List ℕ) (b : AreBytes s) (m n k : ℕ) (d : ProblemDone (readProblem s) o p x y (answers.Problem m n k)) (old new : List ℕ) where
+module _ (s o p x y : List ℕ) (b : AreBytes s) (m n k : ℕ) (d : ProblemDone (readProblem s) o p x y (answers.Problem m n k))
+    (old new : List ℕ) where
   answered : (c : Checked) → CheckedBy (take m p) (take n y) old new c → accept s ≡ answerOf (tables s o p x y b m n k d .problem) c
   answered c h =
       reading-checking s o p x y b (answers.Problem m n k) d old new c
@@ -145,7 +152,9 @@ module _ (s o p x y : List ℕ) (b : AreBytes s) (m n k : ℕ) (d : ProblemDone 
           patterns = front .patterns;
           expressions = front .expressions;
           patternTable = t .patternTable ∙ ap (λ (i : ℕ). patternTokens (t .problem) ++ drop i o) (t .patternNodes ∙ sym (front .patterns));
-          expressionTable = t .expressionTable ∙ ap (λ (i : ℕ). expressionTokens (t .problem) ++ drop i x) (t .expressionNodes ∙ sym (front .expressions));
+          expressionTable =
+              t .expressionTable
+              ∙ ap (λ (i : ℕ). expressionTokens (t .problem) ++ drop i x) (t .expressionNodes ∙ sym (front .expressions));
           survey = front .survey;
           agree = agrees (t .problem) new (a .faces) (a .agree) says;
           recorded = recorded (t .problem) new (a .faces) (a .agree) says;

@@ -51,10 +51,16 @@ allMarks-subsets : (n : ℕ) → allMarks 1 n ≡ map unflags (subsets n)
 unfolding subsets
 allMarks-subsets zero = refl
 allMarks-subsets (suc n) =
-    rw (allMarks-subsets n, unflag-front true (subsets n), unflag-front false (subsets n), append-nil (map unflags (map (withMark false) (subsets n))))
+    rw (
+      allMarks-subsets n,
+      unflag-front true (subsets n),
+      unflag-front false (subsets n),
+      append-nil (map unflags (map (withMark false) (subsets n))),
+    )
     (sym (map-append unflags (map (withMark true) (subsets n)) (map (withMark false) (subsets n))))
 
-keep-unflags : (p : Marks → Bool) (xs : List (List Bool)) → basics.keep p (map unflags xs) ≡ map unflags (keep (λ (l : List Bool). p (unflags l)) xs)
+keep-unflags : (p : Marks → Bool) (xs : List (List Bool))
+    → basics.keep p (map unflags xs) ≡ map unflags (keep (λ (l : List Bool). p (unflags l)) xs)
 unfolding keep
 keep-unflags p [] = refl
 keep-unflags p (x ∷ xs) = go (p (unflags x)) (keep-unflags p xs)
@@ -131,10 +137,12 @@ in-all face l n = allMarks-are 1 (size (one face)) (unflags l) .1 (length-map l 
     placed (true ∷ l) = (omega arith, placed l)
     placed (false ∷ l) = (tt, placed l)
 
-passes-choice : (face : Term) (l : List Bool) → length l ≡ size (one face) → passes face l ≡ true → IsChoice (size (one face)) (free face) (equal face) l
+passes-choice : (face : Term) (l : List Bool) → length l ≡ size (one face) → passes face l ≡ true
+    → IsChoice (size (one face)) (free face) (equal face) l
 unfolding IsChoice free equal
 passes-choice face l n e i j a b =
-    let c : Choice 1 face (unflags l) = choices-are 1 face (unflags l) .0 (mem-keep (isChoice 1 face) (unflags l) (allMarks 1 (size (one face))) (in-all face l n) e) in
+    let c : Choice 1 face (unflags l) =
+    choices-are 1 face (unflags l) .0 (mem-keep (isChoice 1 face) (unflags l) (allMarks 1 (size (one face))) (in-all face l n) e) in
     let long : length (unflags l) ≡ length (views face) = length-map l unflag ∙ n ∙ sym (length-views [] 0 (one face)) in
     let (u, d) = at-other (unflags l) (views face) i (some 0) long (in-mark l i a) in (
       omega (arith, in-lt l i a),
@@ -142,7 +150,8 @@ passes-choice face l n e i j a b =
       ap₂ areEqual d (sym (c .equal i j 0 (in-mark l i a) (in-mark l j b)) ∙ d) ∙ same-views u,
     )
 
-choice-passes : (face : Term) (l : List Bool) → length l ≡ size (one face) → IsChoice (size (one face)) (free face) (equal face) l → passes face l ≡ true
+choice-passes : (face : Term) (l : List Bool) → length l ≡ size (one face) → IsChoice (size (one face)) (free face) (equal face) l
+    → passes face l ≡ true
 unfolding IsChoice free equal
 choice-passes face l n c =
     keep-mem (isChoice 1 face) (unflags l) (allMarks 1 (size (one face)))
@@ -150,7 +159,8 @@ choice-passes face l n c =
     (record {
       long = length-map l unflag ∙ n;
       places = λ k i e. omega (arith, mark-in l k i e .1);
-      equal = λ j k i d e. views-same (getElem? (views face) j) (getElem? (views face) k) (c j k (mark-in l j i d .0) (mark-in l k i e .0) .2);
+      equal =
+          λ j k i d e. views-same (getElem? (views face) j) (getElem? (views face) k) (c j k (mark-in l j i d .0) (mark-in l k i e .0) .2);
       unbound = λ k i u d e. not-true (usesFace u) (ap isFree (sym e) ∙ c k k (mark-in l k i d .0) (mark-in l k i d .0) .1);
     }))
     .1
@@ -163,16 +173,20 @@ decides face = record { sound = passes-choice face; complete = choice-passes fac
 unflags-choices : (face : Term) → map unflags (choices (passes face) (size (one face))) ≡ meant.choices 1 face
 unfolding choices
 unflags-choices face =
-    sym (ap (basics.keep (isChoice 1 face)) (allMarks-subsets (size (one face))) ∙ keep-unflags (isChoice 1 face) (subsets (size (one face))))
+    sym
+    (ap (basics.keep (isChoice 1 face)) (allMarks-subsets (size (one face))) ∙ keep-unflags (isChoice 1 face) (subsets (size (one face))))
 
 -- At any width
 module _ (w : ℕ) (face : Term) (ds : List ℕ) (c : Classes w (size (one face)) (free face) (equal face) ds) where
   masks-choices : below (test w ds) (2 ^ w) ≡ map (maskOf w) (meant.choices 1 face)
   masks-choices =
-      sym (map-map value (marks w) all ∙ map-same (λ m. value (marks w m)) (λ m. m) all (λ m h. value-marks w m (below-mem (test w ds) (2 ^ w) m h .0)) ∙ map-id all)
+      sym
+      (map-map value (marks w) all
+      ∙ map-same (λ m. value (marks w m)) (λ m. m) all (λ m h. value-marks w m (below-mem (test w ds) (2 ^ w) m h .0)) ∙ map-id all)
       ∙ ap (map value) (choices-listed w n (free face) (equal face) ds (equality face) c (passes face) (decides face))
       ∙ map-map value (pad (w - n)) sets
-      ∙ map-same (λ l. value (pad (w - n) l)) (λ l. maskOf w (unflags l)) sets (λ l h. sym (mask-at n w l (c .fits) (choices-mem (passes face) n l h .0)))
+      ∙ map-same (λ l. value (pad (w - n) l)) (λ l. maskOf w (unflags l)) sets
+      (λ l h. sym (mask-at n w l (c .fits) (choices-mem (passes face) n l h .0)))
       ∙ sym (map-map (maskOf w) unflags sets)
       ∙ ap (map (maskOf w)) (unflags-choices face)
     where
@@ -209,11 +223,15 @@ choice-mask-injective n w ms us h a b p q e =
     let v : value (pad (w - n) l) ≡ value (pad (w - n) k) =
     sym (mask-at n w l h ln) ∙ ap (maskOf w) (unflag-flags ms p) ∙ e ∙ sym (ap (maskOf w) (unflag-flags us q)) ∙ mask-at n w k h kn in
     let same : pad (w - n) l ≡ pad (w - n) k =
-    value-injective (pad (w - n) l) (pad (w - n) k) (length-append l (empty (w - n)) ∙ ap (λ (x : ℕ). x + length (empty (w - n))) (ln ∙ sym kn) ∙ sym (length-append k (empty (w - n)))) v in
-    sym (unflag-flags ms p) ∙ ap unflags (sym (take-at l (empty (w - n)) n ln) ∙ ap (take n) same ∙ take-at k (empty (w - n)) n kn) ∙ unflag-flags us q
+    value-injective (pad (w - n) l) (pad (w - n) k)
+    (length-append l (empty (w - n)) ∙ ap (λ (x : ℕ). x + length (empty (w - n))) (ln ∙ sym kn)
+    ∙ sym (length-append k (empty (w - n)))) v in
+    sym (unflag-flags ms p) ∙ ap unflags (sym (take-at l (empty (w - n)) n ln) ∙ ap (take n) same ∙ take-at k (empty (w - n)) n kn)
+    ∙ unflag-flags us q
 
 -- Main theorems: the choices by a face's class table are the face's choices
-pub face-choices : (face : Term) (ds : List ℕ) → FaceClasses face ds → below (test width ds) (2 ^ width) ≡ map (maskOf maxFaceNodes) (meant.choices placeCount face)
+pub face-choices : (face : Term) (ds : List ℕ) → FaceClasses face ds
+    → below (test width ds) (2 ^ width) ≡ map (maskOf maxFaceNodes) (meant.choices placeCount face)
 unfolding maxFaceNodes placeCount
 face-choices face ds c = masks-choices width face ds c
 
@@ -224,7 +242,8 @@ face-table face ds c = table-of width (size (one face)) (free face) (equal face)
 pub choice-mask : (face : Term) (ms us : Marks) → size (one face) ≤ maxFaceNodes → Choice placeCount face ms → Choice placeCount face us
     → maskOf maxFaceNodes ms ≡ maskOf maxFaceNodes us → ms ≡ us
 unfolding placeCount
-choice-mask face ms us h c d e = choice-mask-injective (size (one face)) maxFaceNodes ms us h (c .long) (d .long) (placed ms c) (placed us d) e
+choice-mask face ms us h c d e =
+    choice-mask-injective (size (one face)) maxFaceNodes ms us h (c .long) (d .long) (placed ms c) (placed us d) e
   where
     placed : (xs : Marks) → Choice 1 face xs → All (Placed 1) xs
     placed xs c =

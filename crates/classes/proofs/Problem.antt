@@ -50,8 +50,10 @@ small-faces p a agree f m =
     let ways = unless-got (bothWays p) 12 _ (a .checked) .1 in
     let few = unless-got (ltb maxFunctions (length (functions p))) 13 _ ways .1 in
     let fits : ℕ → Bool = λ g. not (ltb maxFaceNodes (size (one (faceOf p g)))) in
-    let e : not (every fits (functions p)) ≡ false = ap (λ (b : Bool). b && not (every fits (functions p))) (sym agree) ∙ unless-got (overlarge p) 14 _ few .0 in
-    let all = all-mem (λ g. fits g ≡ true) f (functions p) (every-all fits (functions p) (true-T (not-false (every fits (functions p)) e))) m in
+    let e : not (every fits (functions p)) ≡ false = ap (λ (b : Bool). b && not (every fits (functions p))) (sym agree)
+    ∙ unless-got (overlarge p) 14 _ few .0 in
+    let all =
+    all-mem (λ g. fits g ≡ true) f (functions p) (every-all fits (functions p) (true-T (not-false (every fits (functions p)) e))) m in
     ltb-false maxFaceNodes (size (one (faceOf p f))) (not-true (ltb maxFaceNodes (size (one (faceOf p f)))) all)
 
 -- ---- a function that is not there
@@ -78,20 +80,24 @@ counted {A} L X y k (suc n) [] h there absent =
     let e : suc n - 0 ≡ suc (n - 0) = omega arith in
     rw e
     (ap₂ {C = List A} (λ x xs. x ∷ xs) (absent 0 k (omega arith) (omega arith))
-    (counted L X y (suc k) n [] (omega arith) (λ i f j e q. there (suc i) f j (omega arith) q) (λ i j e q. absent (suc i) j (omega arith) (omega arith))))
+    (counted L X y (suc k) n [] (omega arith) (λ i f j e q. there (suc i) f j (omega arith) q)
+    (λ i j e q. absent (suc i) j (omega arith) (omega arith))))
 counted L X y k zero (f ∷ fs) h there absent = absurd (omega arith)
 counted {A} L X y k (suc n) (f ∷ fs) h there absent =
     let e : suc n - suc (length fs) ≡ n - length fs = omega arith in
     rw e
     (ap₂ {C = List A} (λ x xs. x ∷ xs) (there 0 f k (omega arith) refl)
-    (counted L X y (suc k) n fs (omega arith) (λ i f j e q. there (suc i) f j (omega arith) q) (λ i j e q. absent (suc i) j (omega arith) (omega arith))))
+    (counted L X y (suc k) n fs (omega arith) (λ i f j e q. there (suc i) f j (omega arith) q)
+    (λ i j e q. absent (suc i) j (omega arith) (omega arith))))
 
 choices-at : (p : Problem) (ds : List ℕ) → Accepted p → Tabled p ds
     → map (choicesAt ds) (upTo maxFunctions)
-    ≡ map (λ f. map (maskOf maxFaceNodes) (choices placeCount (faceOf p f))) (functions p) ++ replicate (maxFunctions - length (functions p)) (0 ∷ [])
+    ≡ map (λ f. map (maskOf maxFaceNodes) (choices placeCount (faceOf p f))) (functions p) ++ replicate
+    (maxFunctions - length (functions p)) (0 ∷ [])
 unfolding choicesAt
 choices-at p ds a t =
-    counted (choicesAt ds) (λ f. map (maskOf maxFaceNodes) (choices placeCount (faceOf p f))) (0 ∷ []) 0 maxFunctions (functions p) (few-functions p a)
+    counted (choicesAt ds) (λ f. map (maskOf maxFaceNodes) (choices placeCount (faceOf p f))) (0 ∷ []) 0 maxFunctions (functions p)
+    (few-functions p a)
     (λ i f k e q. let z : i ≡ k = omega arith in face-choices (faceOf p f) (classesAt ds k) (t .there k f (rw z at q)))
     (λ i k e q. empty-choices width (classesAt ds k) (λ j. t .absent k j (omega arith)))
 
@@ -116,7 +122,8 @@ rows-product p e = go (faces p) e
     go none e = absurd (false≢true e)
     go (some xs) e = refl
 
-choices-injective : (p : Problem) (fs : List ℕ) → ((f : ℕ) → f ∈ fs → size (one (faceOf p f)) ≤ maxFaceNodes) → (r s : Row) → ChoiceEach p fs r → ChoiceEach p fs s
+choices-injective : (p : Problem) (fs : List ℕ) → ((f : ℕ) → f ∈ fs → size (one (faceOf p f)) ≤ maxFaceNodes) → (r s : Row)
+    → ChoiceEach p fs r → ChoiceEach p fs s
     → (xs ys : List ℕ) → map (maskOf maxFaceNodes) r ++ xs ≡ map (maskOf maxFaceNodes) s ++ ys → r ≡ s
 choices-injective p [] h [] [] c d xs ys e = refl
 choices-injective p [] h [] (m ∷ s) c d xs ys e = absurd d
@@ -125,25 +132,29 @@ choices-injective p (f ∷ fs) h [] s c d xs ys e = absurd c
 choices-injective p (f ∷ fs) h (m ∷ r) [] c d xs ys e = absurd d
 choices-injective p (f ∷ fs) h (m ∷ r) (u ∷ s) c d xs ys e =
     ap₂ {C = Row} (λ x y. x ∷ y)
-    (choice-mask (faceOf p f) m u (h f (List·Memᴰ·head refl)) (c .0) (d .0) (let q : maskOf maxFaceNodes m ≡ maskOf maxFaceNodes u = cc in q))
+    (choice-mask (faceOf p f) m u (h f (List·Memᴰ·head refl)) (c .0) (d .0)
+    (let q : maskOf maxFaceNodes m ≡ maskOf maxFaceNodes u = cc in q))
     (choices-injective p fs (λ g k. h g (List·Memᴰ·tail k)) r s (c .1) (d .1) xs ys
     (let q : map (maskOf maxFaceNodes) r ++ xs ≡ map (maskOf maxFaceNodes) s ++ ys = cc in q))
 
 -- The row of all empty choices.
 empty-row : (p : Problem) (fs : List ℕ) → (r : Row) × ChoiceEach p fs r
 empty-row p [] = ([], tt)
-empty-row p (f ∷ fs) = let (r, c) = empty-row p fs in (replicate (size (one (faceOf p f))) none ∷ r, (empty-choice placeCount (faceOf p f), c))
+empty-row p (f ∷ fs) =
+    let (r, c) = empty-row p fs in (replicate (size (one (faceOf p f))) none ∷ r, (empty-choice placeCount (faceOf p f), c))
 
 begins : {A : Type 0} (xs : List A) (x : A) → x ∈ xs → (y : A) × (ys : List A) × (xs ≡ y ∷ ys)
 begins [] x m = absurd (List·Memᴰ·not-nil m)
 begins (y ∷ ys) x m = (y, ys, refl)
 
 -- The place of a list of mask rows, as a host holds it
-value-place : (rs : List Row) (more : Bool) (next : MaskRow) → Leads (placeOf (map masksOf rs)) more next → record { masks = next; isPast = not more } ≡ placeValue (placeOf rs)
+value-place : (rs : List Row) (more : Bool) (next : MaskRow) → Leads (placeOf (map masksOf rs)) more next
+    → record { masks = next; isPast = not more } ≡ placeValue (placeOf rs)
 unfolding placeValue
 value-place [] true next h = absurd (let e = h .goes refl in let z : _≡_ {A = ℕ} 0 1 = cc in omega arith)
 value-place [] false next h = ap {B = PlaceValue} (λ (m : MaskRow). record { masks = m; isPast = true }) (h .clear refl)
-value-place (r ∷ rs) true next h = ap {B = PlaceValue} (λ (m : MaskRow). record { masks = m; isPast = false }) (let e = h .goes refl in let q : next ≡ masksOf r = cc in q)
+value-place (r ∷ rs) true next h =
+    ap {B = PlaceValue} (λ (m : MaskRow). record { masks = m; isPast = false }) (let e = h .goes refl in let q : next ≡ masksOf r = cc in q)
 value-place (r ∷ rs) false next h = absurd (let e = h .ends refl in let z : _≡_ {A = ℕ} 0 1 = cc in omega arith)
 
 -- Main theorems. Two rows never have the same masks.
@@ -190,7 +201,8 @@ tabled-tables p ds t =
     record {
       long = t .long;
       each = λ k h.
-          ⊎-elim (λ r. face-table (faceOf p (r .0)) (classesAt ds k) (t .there k (r .0) (r .1))) (λ q. empty-table (classesAt ds k) (λ i. t .absent k i q))
+          ⊎-elim (λ r. face-table (faceOf p (r .0)) (classesAt ds k) (t .there k (r .0) (r .1)))
+          (λ q. empty-table (classesAt ds k) (λ i. t .absent k i q))
           (at-or-past (functions p) k);
     }
 
@@ -209,10 +221,16 @@ module _ (p : Problem) (ds : List ℕ) (a : Accepted p) (agree : isSome (faces p
   pub first-row-of : (row : MaskRow) → placeOf (maskRows ds) ≡ at row → record { masks = row; isPast = false } ≡ placeValue (start p)
   first-row-of row e =
       value-place (rows p) true row
-      (record { goes = λ q. ap placeOf (sym (rows-listed p ds a agree t)) ∙ e; ends = λ q. absurd (true≢false q); clear = λ q. absurd (true≢false q) })
+      (record {
+        goes = λ q. ap placeOf (sym (rows-listed p ds a agree t))
+            ∙ e;
+        ends = λ q. absurd (true≢false q);
+        clear = λ q. absurd (true≢false q);
+      })
 
   -- What `next_row` gives after the masks of a row: those of the row after it, or past the last.
-  pub next-row-of : (before later : List Row) (r : Row) (more : Bool) (next : MaskRow) → rows p ≡ before ++ (r ∷ later) → Steps ds (masksOf r) more next
+  pub next-row-of : (before later : List Row) (r : Row) (more : Bool) (next : MaskRow) → rows p ≡ before ++ (r ∷ later)
+      → Steps ds (masksOf r) more next
       → record { masks = next; isPast = not more } ≡ placeValue (placeOf later)
   unfolding Steps
   next-row-of before later r more next e h =

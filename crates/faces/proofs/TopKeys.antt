@@ -54,7 +54,8 @@ seen-top sc x = go (resolved sc 0 x)
     go : Resolved sc 0 x → see (levelFrom []) (length sc) (resolve sc 0 x) ≡ topVariable (resolve sc 0 x)
     go (isFree p q) = ap (see (levelFrom []) (length sc)) p ∙ sym (ap topVariable p)
     go (isBound j h p q) =
-        ap (see (levelFrom []) (length sc)) p ∙ choose-true (inside (0 + j)) _ (ltb-yes (0 + j) (length sc) (omega arith)) ∙ sym (ap topVariable p)
+        ap (see (levelFrom []) (length sc)) p ∙ choose-true (inside (0 + j)) _ (ltb-yes (0 + j) (length sc) (omega arith))
+        ∙ sym (ap topVariable p)
 
 top-label : (sc : List ℕ) (o : Own ℕ ℕ) → seenLabel [] (length sc) (namelessLabel sc (own o)) ≡ top (meant sc o)
 top-label sc (symbol n) = refl
@@ -88,12 +89,14 @@ code-agrees : (o q : Meant) → eqb (code (top o)) (code (top q)) ≡ sameOwn sa
 code-agrees o q =
     by-test (sameOwn sameVariable o q)
     (λ t. eq-eqb _ _ (ap (λ (x : Meant). code (top x)) (own-eq sameVariable variable-eq o q (true-T t))) ∙ sym t)
-    (λ f. ne-eqb _ _ (λ e. false≢true (sym f ∙ ap (sameOwn sameVariable o) (sym (same e)) ∙ T-true (own-refl sameVariable variable-refl o))) ∙ sym f)
+    (λ f. ne-eqb _ _ (λ e. false≢true (sym f ∙ ap (sameOwn sameVariable o) (sym (same e)) ∙ T-true (own-refl sameVariable variable-refl o)))
+    ∙ sym f)
   where
     same : code (top o) ≡ code (top q) → o ≡ q
     same e = sym (top-back o) ∙ ap back (code-injective (top o) (top q) e) ∙ top-back q
 
-node-code : (ctx : Context) (sc : List ℕ) (c : Forest Named) → length sc < 256 → suc (size c) < 65536 → (o : Own ℕ ℕ) → NodeFits ctx (own o) c
+node-code : (ctx : Context) (sc : List ℕ) (c : Forest Named) → length sc < 256 → suc (size c) < 65536 → (o : Own ℕ ℕ)
+    → NodeFits ctx (own o) c
     → keyOf 0 (tokenAt sc (own o) c) ≡ code (top (meant sc o))
 node-code ctx sc c room small o f =
     label-code [] ctx (length sc) sc (suc (size c)) (omega arith) room small (own o) c f ∙ ap code (top-label sc o)
@@ -106,10 +109,12 @@ keys-agree ctx ctx′ sc sc′ o o′ c c′ r m r′ m′ f f′ =
     ap₂ eqb (node-code ctx sc c r m o f) (node-code ctx′ sc′ c′ r′ m′ o′ f′) ∙ code-agrees (meant sc o) (meant sc′ o′)
 
 -- Labels that agree have as many children
-pub agree-trees : (ctx ctx′ : Context) (sc sc′ : List ℕ) (o o′ : Own ℕ ℕ) (c c′ : Forest Named) → NodeFits ctx (own o) c → NodeFits ctx′ (own o′) c′
+pub agree-trees : (ctx ctx′ : Context) (sc sc′ : List ℕ) (o o′ : Own ℕ ℕ) (c c′ : Forest Named) → NodeFits ctx (own o) c
+    → NodeFits ctx′ (own o′) c′
     → agrees (meant sc o) (own (meant sc′ o′)) ≡ true → trees c ≡ trees c′
 agree-trees ctx ctx′ sc sc′ o o′ c c′ f f′ e =
-    trees-of ctx sc o c f ∙ ap (λ (x : Meant). arity (top x)) (own-eq sameVariable variable-eq (meant sc o) (meant sc′ o′) (true-T e)) ∙ sym (trees-of ctx′ sc′ o′ c′ f′)
+    trees-of ctx sc o c f ∙ ap (λ (x : Meant). arity (top x)) (own-eq sameVariable variable-eq (meant sc o) (meant sc′ o′) (true-T e))
+    ∙ sym (trees-of ctx′ sc′ o′ c′ f′)
   where
     trees-of : (ctx : Context) (sc : List ℕ) (o : Own ℕ ℕ) (c : Forest Named) → NodeFits ctx (own o) c → trees c ≡ arity (top (meant sc o))
     trees-of ctx sc o c f = fits-arity [] (length sc) ctx sc (own o) c f ∙ ap arity (top-label sc o)

@@ -10,7 +10,10 @@ use borrow.Author.Tests.{ltb-false}
 use Rattle.meaning.specs.Limits.{metavariableCount}
 use Rattle.meaning.specs.Term.{Forest, nil, graft, one, size, trees, application, own, Named, NamedTerm}
 use Rattle.meaning.specs.Field.{Bytes}
-use Rattle.meaning.specs.Read.{Answer, refused, got, after, Context, Kind, symbolKind, variableKind, applicationKind, binderKind, metavariableKind, functionKind, holeKind, Parts, Head, wordAt, partsOf, kindOf, headWith, headOf, Content, leaf, over, many, contentOf, Reader, contextBelow, readExactly, readAll, readContent, readTerm, constraintHead}
+use Rattle.meaning.specs.Read.{Answer, refused, got, after, Context, Kind, symbolKind, variableKind, applicationKind, binderKind}
+use Rattle.meaning.specs.Read.{metavariableKind, functionKind, holeKind, Parts, Head, wordAt, partsOf, kindOf, headWith, headOf, Content}
+use Rattle.meaning.specs.Read.{leaf, over, many, contentOf, Reader, contextBelow, readExactly, readAll, readContent, readTerm}
+use Rattle.meaning.specs.Read.{constraintHead}
 use Rattle.meaning.proofs.ByteLaws.{got-is, refused-not, by-choice}
 use Rattle.fields.specs.Heads.{readFields}
 use Rattle.fields.specs.declared.node.Due.{Due}
@@ -34,7 +37,8 @@ Fine read = (s : Bytes) (x : NamedTerm × Bytes) → read s ≡ got x → Within
 
 -- Inner fields take their bytes from the content
 module _ (read : Reader) (fine : Fine read) where
-  graft-room : (s : Bytes) (x : NamedTerm × Bytes) (f : Forest Named) → read s ≡ got x → 3 * size f ≤ length (x .1) → 3 * size (graft (x .0) f) ≤ length s
+  graft-room : (s : Bytes) (x : NamedTerm × Bytes) (f : Forest Named) → read s ≡ got x → 3 * size f ≤ length (x .1)
+      → 3 * size (graft (x .0) f) ≤ length s
   graft-room s x f e h = omega (arith, fine s x e .room)
 
   exactly-room : (n : ℕ) (s : Bytes) (f : Forest Named) → readExactly n read s ≡ got f → 3 * size f ≤ length s
@@ -116,7 +120,8 @@ content-in metavariableKind c x h =
     (λ b e. refused-got e)
 content-in functionKind c x h =
     by-choice (eqb (length c) 0) (refused 6) _ h (λ b e. refused-got e)
-    (λ b e. by-choice (ltb (getD c 0 0) metavariableCount) _ (refused 10) e (λ b2 e2. rw (← got-is e2) (omega (arith, length-drop 1 c))) (λ b2 e2. refused-got e2))
+    (λ b e. by-choice (ltb (getD c 0 0) metavariableCount) _ (refused 10) e (λ b2 e2. rw (← got-is e2) (omega (arith, length-drop 1 c)))
+    (λ b2 e2. refused-got e2))
 content-in holeKind c x h = by-choice (eqb (length c) 0) _ (refused 6) h (λ b e. rw (← got-is e) tt) (λ b e. refused-got e)
 
 content-room : (read : Context → Reader) → ((ctx : Context) → Fine (read ctx)) → (ctx : Context) (k : ℕ) (x : Content) (t : NamedTerm)
@@ -146,7 +151,9 @@ term-fine (suc levels) ctx s x e =
     let c = after-inv (readContent (readTerm levels) ctx (b .0)) _ (b .2) in
     let q = head-read ctx s (a .0) (a .1) in
     let w : (c .0, a .0 .later) ≡ x = got-is (c .2) in
-    let room = content-room (readTerm levels) (term-fine levels) ctx (length (a .0 .content)) (b .0) (c .0) (content-in (a .0 .kind) (a .0 .content) (b .0) (b .1)) (c .1) in
+    let room =
+    content-room (readTerm levels) (term-fine levels) ctx (length (a .0 .content)) (b .0) (c .0)
+    (content-in (a .0 .kind) (a .0 .content) (b .0) (b .1)) (c .1) in
     let short : length (a .0 .content) ≤ q .size = rw (q .inside) (simp length-take (omega arith)) in
     let left : length (a .0 .later) ≡ length s - (3 + q .size) = rw (q .after) (length-drop (3 + q .size) s) in
     let taken : length s - length (a .0 .later) ≡ 3 + q .size = omega (arith, left, q .fits) in
