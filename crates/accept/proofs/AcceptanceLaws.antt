@@ -1,5 +1,8 @@
 -- Reading and checking is acceptance: `table`'s reading followed by the checks of `faces` gives `meaning`'s answer, for all bytes.
-use mathlib.Core.Path.{_≡_, refl, ap, sym, _∙_}
+--   s          the bytes
+--   o, p       the table of patterns before and after; x, y, that of expressions; old, new, that of faces
+--   m, n, k    how many tokens are read of patterns and of expressions, and how many constraints
+use mathlib.Core.Path.{_≡_, refl, ap, sym, _∙_, subst}
 use mathlib.Core.Bool.{Bool, true, false}
 use mathlib.Core.List.{List, [], _∷_, _++_}
 use mathlib.Core.Option.{some}
@@ -10,10 +13,10 @@ use lib.Seq.{take-at}
 use Rattle.meaning.specs.Basics.{choose, All, isSome}
 use Rattle.meaning.specs.Problem.{Problem, namedPatterns}
 use Rattle.meaning.specs.Face.{Face, faces}
-use Rattle.meaning.specs.Read.{got, after, readProblem}
-use Rattle.meaning.specs.Readable.{WithinLimits}
+use Rattle.meaning.specs.Read.{Answer, refused, got, after, readProblem}
+use Rattle.meaning.specs.Readable.{WithinLimits, Accepted}
 use Rattle.meaning.specs.Accept.{accept}
-use Rattle.meaning.proofs.ProblemReading.{read-within}
+use Rattle.meaning.proofs.ProblemReading.{read-within, accept-accepted}
 use Rattle.tokens.specs.Token.{patternTokens, expressionTokens, Table}
 use Rattle.tokens.proofs.TokenParts.{tokens-length}
 use Rattle.tokens.proofs.ProblemTokens.{nodes-few, pattern-table, expression-table}
@@ -29,7 +32,7 @@ use Rattle.table.specs.Whole.{tableRoom, ProblemDone}
 use Rattle.table.specs.declared.answer.Read.{Read}
 use Rattle.table.specs.declared.answer.Read.the-variants as answers
 use Rattle.table.proofs.ProblemLaws.{TablesOf, read-refused, read-accepted}
-use Rattle.accept.specs.Acceptance.{checkedAs, Checks, Accepts}
+use Rattle.accept.specs.Acceptance.{checkedAs, Checks, Stands, Accepts}
 use Rattle.accept.specs.declared.Standing.{Standing}
 use Rattle.accept.specs.declared.Verdict.{Verdict}
 use Rattle.accept.specs.declared.Verdict.the-variants as verdicts
@@ -160,3 +163,26 @@ module _ (s o p x y : List ℕ) (b : AreBytes s) (m n k : ℕ) (d : ProblemDone 
           recorded = recorded (t .problem) new (a .faces) (a .agree) says;
         },
       )
+
+-- What the answer tells a caller: a refusal is document 01's,
+module _ (s o p x y new : List ℕ) where
+  pub verdict-refused : (n : ℕ) → Accepts (accept s) o p x y new (verdicts.Refused n) → accept s ≡ refused n
+  unfolding Accepts
+  verdict-refused n h = go (accept s) h
+    where
+      go : (a : Answer Problem) → Accepts a o p x y new (verdicts.Refused n) → a ≡ refused n
+      go (refused k) e = cc
+      go (got q) e = absurd (let w = e .1 in let z : _≡_ {A = ℕ} 0 1 = cc in omega arith)
+
+  -- ... and otherwise the problem that document 01 accepts stands in the tables
+  pub verdict-accepted : AreBytes s → (a : Standing) → Accepts (accept s) o p x y new (verdicts.Accepted a)
+      → (q : Problem) × (accept s ≡ got q) × Accepted q × Stands q o p x y new a
+  unfolding Accepts
+  verdict-accepted b a h = go (accept s) refl h
+    where
+      go : (r : Answer Problem) → accept s ≡ r → Accepts r o p x y new (verdicts.Accepted a)
+          → (q : Problem) × (accept s ≡ got q) × Accepted q × Stands q o p x y new a
+      go (refused k) e w = absurd (let z : _≡_ {A = ℕ} 0 1 = cc in omega arith)
+      go (got q) e w =
+          let same : a ≡ w .0 = let v = w .1 in cc in
+          (q, e, accept-accepted s q b e .0, subst (Stands q o p x y new) (sym same) (w .2))

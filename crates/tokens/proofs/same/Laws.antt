@@ -13,7 +13,7 @@ use borrow.Author.Tests.{eq-eqb, ne-eqb, lt-ltb, le-ltb, eqb-true, eqb-false, no
 use Rattle.meaning.proofs.Lists.{choose-true, choose-false, T-true, true-T, not-T, and-T, by-test}
 use Rattle.tokens.specs.Token.{tagIn, depthIn, sizeIn, payloadIn}
 use Rattle.tokens.specs.Key.{upperHalf, lowerHalf, keyOfVariable, keyOfPayload, keyOf, keys, at, nodes, keysAt, sameList, sameAt}
-use Rattle.tokens.specs.Key.{Inside, reaches, anyReaches}
+use Rattle.tokens.specs.Key.{Inside, reaches, anyReaches, usesAt}
 
 -- The three keys of a variable, and the keys of a payload
 module _ (d depth name level : ℕ) where
@@ -192,3 +192,15 @@ module _ (t : List ℕ) (a b m n d e l : ℕ) (found : Bool) (is-m : m ≡ sizeI
           let fa : a + m ≤ length t = omega (arith, ia .ends) in
           let fb : b + n ≤ length t = omega (arith, ib .ends) in
           other-sameList _ _ (λ z. eqb-false m n g (sym (length-keys d m t a fa) ∙ ap length z ∙ length-keys e n t b fb)) ∙ sym g
+
+-- Which outer binders a subterm uses, by its size m and its depth r as the code has them
+pub uses-judged : (t : List ℕ) (a d m r : ℕ) (found : Bool) → m ≡ sizeIn (at t a) → r ≡ depthIn (at t a)
+    → found ≡ anyReaches d r (nodes t a m) → found ≡ usesAt t a d
+unfolding usesAt
+uses-judged t a d m r found is-m is-r is-found = is-found ∙ ap₂ (λ (j i : ℕ). anyReaches d j (nodes t a i)) is-r is-m
+
+-- A token's key out of its parts
+pub key-judged : (d x kind depth load key : ℕ) → kind ≡ tagIn x → depth ≡ depthIn x → load ≡ payloadIn x
+    → key ≡ keyOfPayload d kind depth load → kind + 256 * key ≡ keyOf d x
+unfolding keyOf
+key-judged d x kind depth load key is-kind is-depth is-load is-key = cc
