@@ -41,7 +41,7 @@ fn main() {
     let mut input = io::large_buffer();
     let n = io::read_full(0, &mut input);
     if MOST < n {
-        answer::too_long();
+        answer::bad(b"the input is too long");
         return;
     }
     show_all(&input[..n]);
