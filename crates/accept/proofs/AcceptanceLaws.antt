@@ -1,5 +1,8 @@
 -- Reading and checking is acceptance: `table`'s reading followed by the checks of `faces` gives `meaning`'s answer, for all bytes.
-use mathlib.Core.Path.{_≡_, refl, ap, sym, _∙_}
+--   s          the bytes
+--   o, p       the table of patterns before and after; x, y, that of expressions; old, new, that of faces
+--   m, n, k    how many tokens are read of patterns and of expressions, and how many constraints
+use mathlib.Core.Path.{_≡_, refl, ap, sym, _∙_, subst}
 use mathlib.Core.Bool.{Bool, true, false, true≢false}
 use mathlib.Core.List.{List, [], _∷_, _++_}
 use mathlib.Core.Option.{some}
@@ -10,10 +13,10 @@ use lib.Seq.{take-at}
 use Rattle.meaning.specs.Basics.{choose, All, isSome}
 use Rattle.meaning.specs.Problem.{Problem, namedPatterns}
 use Rattle.meaning.specs.Face.{Face, faces}
-use Rattle.meaning.specs.Read.{got, after, readProblem}
-use Rattle.meaning.specs.Readable.{WithinLimits}
+use Rattle.meaning.specs.Read.{Answer, refused, got, after, readProblem}
+use Rattle.meaning.specs.Readable.{WithinLimits, Accepted}
 use Rattle.meaning.specs.Accept.{accept}
-use Rattle.meaning.proofs.ProblemReading.{read-within}
+use Rattle.meaning.proofs.ProblemReading.{read-within, accept-accepted}
 use Rattle.tokens.specs.Token.{patternTokens, expressionTokens, Table}
 use Rattle.tokens.proofs.TokenParts.{tokens-length}
 use Rattle.tokens.proofs.ProblemTokens.{nodes-few, pattern-table, expression-table}
@@ -29,7 +32,7 @@ use Rattle.table.specs.Whole.{tableRoom, ProblemDone}
 use Rattle.table.specs.declared.answer.Read.{Read}
 use Rattle.table.specs.declared.answer.Read.the-variants as answers
 use Rattle.table.proofs.ProblemLaws.{TablesOf, read-refused, read-accepted}
-use Rattle.accept.specs.Acceptance.{checkedAs, Checks, Accepts}
+use Rattle.accept.specs.Acceptance.{checkedAs, Checks, Stands, Accepts}
 use Rattle.accept.specs.declared.Standing.{Standing}
 use Rattle.accept.specs.declared.Verdict.{Verdict}
 use Rattle.accept.specs.declared.Verdict.the-variants as verdicts
@@ -54,7 +57,8 @@ module _ (s o p x y : List ℕ) (b : AreBytes s) (m n k : ℕ) (d : ProblemDone 
   pattern-front = ap (take m) (tables .patternTable) ∙ take-at (patternTokens (tables .problem)) (drop m o) m (sym (tables .patternNodes))
 
   expression-front : take n y ≡ expressionTokens (tables .problem)
-  expression-front = ap (take n) (tables .expressionTable) ∙ take-at (expressionTokens (tables .problem)) (drop n x) n (sym (tables .expressionNodes))
+  expression-front =
+      ap (take n) (tables .expressionTable) ∙ take-at (expressionTokens (tables .problem)) (drop n x) n (sym (tables .expressionNodes))
 
   -- What `check` wants of them
   pub pattern-ready : Table (take m p)
@@ -65,10 +69,13 @@ module _ (s o p x y : List ℕ) (b : AreBytes s) (m n k : ℕ) (d : ProblemDone 
 
   -- They lie in the tables, and the faces have room for one for each node of the patterns
   pub patterns-inside : m ≤ length p
-  patterns-inside = omega (arith, ap length (tables .patternTable), length-append (patternTokens (tables .problem)) (drop m o), tables .patternNodes)
+  patterns-inside =
+      omega (arith, ap length (tables .patternTable), length-append (patternTokens (tables .problem)) (drop m o), tables .patternNodes)
 
   pub expressions-inside : n ≤ length y
-  expressions-inside = omega (arith, ap length (tables .expressionTable), length-append (expressionTokens (tables .problem)) (drop n x), tables .expressionNodes)
+  expressions-inside =
+      omega
+      (arith, ap length (tables .expressionTable), length-append (expressionTokens (tables .problem)) (drop n x), tables .expressionNodes)
 
   pub few-tokens : length (take m p) ≤ tableRoom
   unfolding patternTokens
@@ -76,8 +83,10 @@ module _ (s o p x y : List ℕ) (b : AreBytes s) (m n k : ℕ) (d : ProblemDone 
       omega (arith, ap length pattern-front, tokens-length [] (namedPatterns (tables .problem)), nodes-few (tables .problem) within)
 
 -- READING AND CHECKING IS ACCEPTANCE: c is what the checks answer on the fronts of the tables, where a problem was read
-pub reading-checking : (s o p x y : List ℕ) → AreBytes s → (r : Read) → ProblemDone (readProblem s) o p x y r → (old new : List ℕ) (c : Checked)
-    → ((m n k : ℕ) → r ≡ answers.Problem m n k → CheckedBy (take m p) (take n y) old new c) → accept s ≡ after (readProblem s) (λ q. answerOf q c)
+pub reading-checking : (s o p x y : List ℕ) → AreBytes s → (r : Read) → ProblemDone (readProblem s) o p x y r
+    → (old new : List ℕ) (c : Checked)
+    → ((m n k : ℕ) → r ≡ answers.Problem m n k → CheckedBy (take m p) (take n y) old new c)
+    → accept s ≡ after (readProblem s) (λ q. answerOf q c)
 unfolding accept
 reading-checking s o p x y b (answers.Refused n) d old new c h = rw (read-refused s o p x y d)
 reading-checking s o p x y b (answers.Problem m n k) d old new c h =
@@ -124,7 +133,8 @@ pub accepts-refused : (s o p x y new : List ℕ) {r : ℕ} → ProblemDone (read
 unfolding accept Accepts
 accepts-refused s o p x y new d = rw (read-refused s o p x y d, Accepts)
 
-module _ (s o p x y : List ℕ) (b : AreBytes s) (m n k : ℕ) (d : ProblemDone (readProblem s) o p x y (answers.Problem m n k)) (old new : List ℕ) where
+module _ (s o p x y : List ℕ) (b : AreBytes s) (m n k : ℕ) (d : ProblemDone (readProblem s) o p x y (answers.Problem m n k))
+    (old new : List ℕ) where
   answered : (c : Checked) → CheckedBy (take m p) (take n y) old new c → accept s ≡ answerOf (tables s o p x y b m n k d .problem) c
   answered c h =
       reading-checking s o p x y b (answers.Problem m n k) d old new c
@@ -145,10 +155,35 @@ module _ (s o p x y : List ℕ) (b : AreBytes s) (m n k : ℕ) (d : ProblemDone 
           patterns = front .patterns;
           expressions = front .expressions;
           patternTable = t .patternTable ∙ ap (λ (i : ℕ). patternTokens (t .problem) ++ drop i o) (t .patternNodes ∙ sym (front .patterns));
-          expressionTable = t .expressionTable ∙ ap (λ (i : ℕ). expressionTokens (t .problem) ++ drop i x) (t .expressionNodes ∙ sym (front .expressions));
+          expressionTable =
+              t .expressionTable
+              ∙ ap (λ (i : ℕ). expressionTokens (t .problem) ++ drop i x) (t .expressionNodes ∙ sym (front .expressions));
           survey = front .survey;
           agree = agrees (t .problem) new (a .faces) (a .agree) says;
           none = front .none;
           recorded = recorded (t .problem) new (a .faces) (a .agree) says;
         },
       )
+
+-- What the answer tells a caller: a refusal is document 01's,
+module _ (s o p x y new : List ℕ) where
+  pub verdict-refused : (n : ℕ) → Accepts (accept s) o p x y new (verdicts.Refused n) → accept s ≡ refused n
+  unfolding Accepts
+  verdict-refused n h = go (accept s) h
+    where
+      go : (a : Answer Problem) → Accepts a o p x y new (verdicts.Refused n) → a ≡ refused n
+      go (refused k) e = cc
+      go (got q) e = absurd (let w = e .1 in let z : _≡_ {A = ℕ} 0 1 = cc in omega arith)
+
+  -- ... and otherwise the problem that document 01 accepts stands in the tables
+  pub verdict-accepted : AreBytes s → (a : Standing) → Accepts (accept s) o p x y new (verdicts.Accepted a)
+      → (q : Problem) × (accept s ≡ got q) × Accepted q × Stands q o p x y new a
+  unfolding Accepts
+  verdict-accepted b a h = go (accept s) refl h
+    where
+      go : (r : Answer Problem) → accept s ≡ r → Accepts r o p x y new (verdicts.Accepted a)
+          → (q : Problem) × (accept s ≡ got q) × Accepted q × Stands q o p x y new a
+      go (refused k) e w = absurd (let z : _≡_ {A = ℕ} 0 1 = cc in omega arith)
+      go (got q) e w =
+          let same : a ≡ w .0 = let v = w .1 in cc in
+          (q, e, accept-accepted s q b e .0, subst (Stands q o p x y new) (sym same) (w .2))

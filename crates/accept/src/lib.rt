@@ -55,7 +55,8 @@ fn checked(ps: &[u64], es: &[u64], faces: &mut [u64]) -> Verdict
 // what is known of it. After a refusal the tables may hold anything.
 pub fn accept(problem: &[u8], ps: &mut [u64], es: &mut [u64], faces: &mut [u64]) -> Verdict
     requires { ⌜ Rooms (now ps) (now es) (now faces) ⌝ }
-    ensures { λ r. ⌜ Accepts (accept (now (problem .entry))) (now (ps .entry)) (now (ps .exit)) (now (es .entry)) (now (es .exit)) (now (faces .exit)) r ⌝ }
+    ensures { λ r. ⌜ Accepts (accept (now (problem .entry))) (now (ps .entry)) (now (ps .exit)) (now (es .entry)) (now (es .exit))
+        (now (faces .exit)) r ⌝ }
 {
     match table::read(problem, ps, es) {
         Read::Refused(r) => Verdict::Refused(r),

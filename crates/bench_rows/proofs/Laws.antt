@@ -37,7 +37,8 @@ pub step-in : (ds : List ℕ) (row next : MaskRow) → Steps ds row true next �
 unfolding Steps
 step-in ds row next s m =
     let r = split row (maskRows ds) m in
-    subst (λ (l : List MaskRow). next ∈ l) (sym (r .2)) (Memᴰ·append-right (r .0) (List·Memᴰ·tail (place-mem (r .1) next (s (r .0) (r .1) (r .2) .goes refl))))
+    subst (λ (l : List MaskRow). next ∈ l) (sym (r .2))
+    (Memᴰ·append-right (r .0) (List·Memᴰ·tail (place-mem (r .1) next (s (r .0) (r .1) (r .2) .goes refl))))
 
 -- One class, of node 0 of the first function
 module _ (n d : ℕ) (some : 0 < n) (low : Lowest width d 0) where
@@ -60,7 +61,8 @@ module _ (n d : ℕ) (some : 0 < n) (low : Lowest width d 0) where
     where
       go : Dec (i < width) → (getD (classesAt ds k) i 0 ≡ 0) ⊎ Lowest width (getD (classesAt ds k) i 0) i
       go (yes h) =
-          let e : getD (classesAt ds k) i 0 ≡ getD ds (k * width + i) 0 = getD-take width (drop (k * width) ds) i 0 h ∙ getD-drop (k * width) ds i 0 in
+          let e : getD (classesAt ds k) i 0 ≡ getD ds (k * width + i) 0 = getD-take width (drop (k * width) ds) i 0 h
+          ∙ getD-drop (k * width) ds i 0 in
           subst (λ (x : ℕ). (x ≡ 0) ⊎ Lowest width x i) (sym e) (entry (k * width + i) i (λ q. omega arith))
       go (no h) = inl (List·getD-eq-default (classesAt ds k) 0 (simp length-take (omega arith)))
 

@@ -47,11 +47,13 @@ module _ (es : List ℕ) (root : ℕ) where
       (ap₂ (λ (a b : Bool). a && not b) (lt-ltb i (sizeFrom es root) h) e) g
 
   -- With the entries made of all nodes that a mask has room for, the table is made.
-  pub all-made : (out : List ℕ) → length out ≡ width → sizeFrom es root ≤ width → Made width (sizeFrom es root) (freeFrom es root) (sameFrom es root) out width
+  pub all-made : (out : List ℕ) → length out ≡ width → sizeFrom es root ≤ width
+      → Made width (sizeFrom es root) (freeFrom es root) (sameFrom es root) out width
       → ClassesFrom es root out
   unfolding Made
   all-made out n fits m = record { fits = fits; made = λ i h. m i (omega arith); rest = rest }
     where
       rest : (i : ℕ) → sizeFrom es root ≤ i → getD out i 0 ≡ 0
       rest i h =
-          ⊎-elim (λ (l : i < width). m i l .none (free-past i h)) (λ (l : width ≤ i). List·getD-eq-default out 0 (omega arith)) (lt-or-ge i width)
+          ⊎-elim (λ (l : i < width). m i l .none (free-past i h)) (λ (l : width ≤ i). List·getD-eq-default out 0 (omega arith))
+          (lt-or-ge i width)

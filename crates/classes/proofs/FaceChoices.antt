@@ -52,10 +52,16 @@ allMarks-subsets : (n : ℕ) → allMarks 1 n ≡ map unflags (subsets n)
 unfolding subsets
 allMarks-subsets zero = refl
 allMarks-subsets (suc n) =
-    rw (allMarks-subsets n, unflag-front true (subsets n), unflag-front false (subsets n), append-nil (map unflags (map (withMark false) (subsets n))))
+    rw (
+      allMarks-subsets n,
+      unflag-front true (subsets n),
+      unflag-front false (subsets n),
+      append-nil (map unflags (map (withMark false) (subsets n))),
+    )
     (sym (map-append unflags (map (withMark true) (subsets n)) (map (withMark false) (subsets n))))
 
-keep-unflags : (p : Marks → Bool) (xs : List (List Bool)) → basics.keep p (map unflags xs) ≡ map unflags (keep (λ (l : List Bool). p (unflags l)) xs)
+keep-unflags : (p : Marks → Bool) (xs : List (List Bool))
+    → basics.keep p (map unflags xs) ≡ map unflags (keep (λ (l : List Bool). p (unflags l)) xs)
 unfolding keep
 keep-unflags p [] = refl
 keep-unflags p (x ∷ xs) = go (p (unflags x)) (keep-unflags p xs)
@@ -132,10 +138,12 @@ in-all face l n = allMarks-are 1 (size (one face)) (unflags l) .1 (length-map l 
     placed (true ∷ l) = (omega arith, placed l)
     placed (false ∷ l) = (tt, placed l)
 
-passes-choice : (face : Term) (l : List Bool) → length l ≡ size (one face) → passes face l ≡ true → IsChoice (size (one face)) (free face) (equal face) l
+passes-choice : (face : Term) (l : List Bool) → length l ≡ size (one face) → passes face l ≡ true
+    → IsChoice (size (one face)) (free face) (equal face) l
 unfolding IsChoice free equal
 passes-choice face l n e i j a b =
-    let c : Choice 1 face (unflags l) = choices-are 1 face (unflags l) .0 (mem-keep (isChoice 1 face) (unflags l) (allMarks 1 (size (one face))) (in-all face l n) e) in
+    let c : Choice 1 face (unflags l) =
+    choices-are 1 face (unflags l) .0 (mem-keep (isChoice 1 face) (unflags l) (allMarks 1 (size (one face))) (in-all face l n) e) in
     let long : length (unflags l) ≡ length (views face) = length-map l unflag ∙ n ∙ sym (length-views [] 0 (one face)) in
     let (u, d) = at-other (unflags l) (views face) i (some 0) long (in-mark l i a) in (
       omega (arith, in-lt l i a),
@@ -143,7 +151,8 @@ passes-choice face l n e i j a b =
       ap₂ areEqual d (sym (c .equal i j 0 (in-mark l i a) (in-mark l j b)) ∙ d) ∙ same-views u,
     )
 
-choice-passes : (face : Term) (l : List Bool) → length l ≡ size (one face) → IsChoice (size (one face)) (free face) (equal face) l → passes face l ≡ true
+choice-passes : (face : Term) (l : List Bool) → length l ≡ size (one face) → IsChoice (size (one face)) (free face) (equal face) l
+    → passes face l ≡ true
 unfolding IsChoice free equal
 choice-passes face l n c =
     let same : (j k h i : ℕ) → getElem? (unflags l) j ≡ some (some h) → getElem? (unflags l) k ≡ some (some i) → getElem? (views face) j ≡ getElem? (views face) k =
@@ -167,16 +176,20 @@ decides face = record { sound = passes-choice face; complete = choice-passes fac
 unflags-choices : (face : Term) → map unflags (choices (passes face) (size (one face))) ≡ meant.choices 1 face
 unfolding choices
 unflags-choices face =
-    sym (ap (basics.keep (isChoice 1 face)) (allMarks-subsets (size (one face))) ∙ keep-unflags (isChoice 1 face) (subsets (size (one face))))
+    sym
+    (ap (basics.keep (isChoice 1 face)) (allMarks-subsets (size (one face))) ∙ keep-unflags (isChoice 1 face) (subsets (size (one face))))
 
 -- At any width
 module _ (w : ℕ) (face : Term) (ds : List ℕ) (c : Classes w (size (one face)) (free face) (equal face) ds) where
   masks-choices : below (test w ds) (2 ^ w) ≡ map (maskOf w) (meant.choices 1 face)
   masks-choices =
-      sym (map-map value (marks w) all ∙ map-same (λ m. value (marks w m)) (λ m. m) all (λ m h. value-marks w m (below-mem (test w ds) (2 ^ w) m h .0)) ∙ map-id all)
+      sym
+      (map-map value (marks w) all
+      ∙ map-same (λ m. value (marks w m)) (λ m. m) all (λ m h. value-marks w m (below-mem (test w ds) (2 ^ w) m h .0)) ∙ map-id all)
       ∙ ap (map value) (choices-listed w n (free face) (equal face) ds (equality face) c (passes face) (decides face))
       ∙ map-map value (pad (w - n)) sets
-      ∙ map-same (λ l. value (pad (w - n) l)) (λ l. maskOf w (unflags l)) sets (λ l h. sym (mask-at n w l (c .fits) (choices-mem (passes face) n l h .0)))
+      ∙ map-same (λ l. value (pad (w - n) l)) (λ l. maskOf w (unflags l)) sets
+      (λ l h. sym (mask-at n w l (c .fits) (choices-mem (passes face) n l h .0)))
       ∙ sym (map-map (maskOf w) unflags sets)
       ∙ ap (map (maskOf w)) (unflags-choices face)
     where

@@ -51,10 +51,12 @@ module _ (es : List ℕ) (root : ℕ) (face : Term) (h : FaceAt es root face) wh
   node : (i : ℕ) → i < size (one face) → Node i
   node i l = subst (λ (t : Term). Spot above (size (one (h .named))) (drop root es) (views t) (one t) i) (h .is) here
     where
-      here : Spot above (size (one (h .named))) (drop root es) (views (namelessTerm (h .scope) (h .named))) (one (namelessTerm (h .scope) (h .named))) i
+      here : Spot above (size (one (h .named))) (drop root es) (views (namelessTerm (h .scope) (h .named)))
+          (one (namelessTerm (h .scope) (h .named))) i
       here =
           rw (h .stands .split)
-          (spot above (h .levels) (h .ctx) (h .scope) [] 0 (one (h .named)) (h .stands .after) i (omega (arith, face-size)) (h .held .readable) (h .held .depths) (omega arith))
+          (spot above (h .levels) (h .ctx) (h .scope) [] 0 (one (h .named)) (h .stands .after) i (omega (arith, face-size))
+          (h .held .readable) (h .held .depths) (omega arith))
 
   module _ (i : ℕ) (s : Node i) where
     abbrev term : Term
@@ -84,7 +86,9 @@ module _ (es : List ℕ) (root : ℕ) (face : Term) (h : FaceAt es root face) wh
   node-same i j s r f =
       let m = same-means (s .levels) (r .levels) (s .ctx) (r .ctx) es (root + i) (root + j) (s .scope) (r .scope) (s .named) (r .named)
       (node-held i s) (node-held j r) (node-stands i s) (node-stands j r) in
-      let e = equal-levels above (s .scope) (s .binders) (r .scope) (r .binders) (term i s) (term j r) (s .deep) (r .deep) (node-closed i s) (node-closed j r) f in
+      let e =
+      equal-levels above (s .scope) (s .binders) (r .scope) (r .binders) (term i s) (term j r) (s .deep) (r .deep) (node-closed i s)
+      (node-closed j r) f in
       (λ q. e .1 (m .0 q), λ q. m .1 (e .0 q))
 
   root-depth : depthIn (at es root) ≡ above
@@ -97,12 +101,15 @@ module _ (es : List ℕ) (root : ℕ) (face : Term) (h : FaceAt es root face) wh
   unfolding freeFrom free
   free-same i = ⊎-elim here past (lt-or-ge i (size (one face)))
     where
-      here : i < size (one face) → ltb i (sizeFrom es root) && not (usesAt es (root + i) (depthIn (at es root))) ≡ isFree (getElem? (views face) i)
+      here : i < size (one face)
+          → ltb i (sizeFrom es root) && not (usesAt es (root + i) (depthIn (at es root))) ≡ isFree (getElem? (views face) i)
       here l =
           let s = node i l in
-          ap₂ _&&_ (lt-ltb i (sizeFrom es root) (omega (arith, root-size))) (ap not (ap (usesAt es (root + i)) root-depth ∙ node-uses i s)) ∙ sym (ap isFree (s .seen))
+          ap₂ _&&_ (lt-ltb i (sizeFrom es root) (omega (arith, root-size))) (ap not (ap (usesAt es (root + i)) root-depth ∙ node-uses i s))
+          ∙ sym (ap isFree (s .seen))
 
-      past : size (one face) ≤ i → ltb i (sizeFrom es root) && not (usesAt es (root + i) (depthIn (at es root))) ≡ isFree (getElem? (views face) i)
+      past : size (one face) ≤ i
+          → ltb i (sizeFrom es root) && not (usesAt es (root + i) (depthIn (at es root))) ≡ isFree (getElem? (views face) i)
       past l =
           ap (λ (b : Bool). b && not (usesAt es (root + i) (depthIn (at es root)))) (le-ltb i (sizeFrom es root) (omega (arith, root-size)))
           ∙ sym (ap isFree (at-past (views face) i (omega (arith, length-views [] 0 (one face)))))
@@ -125,7 +132,12 @@ module _ (es : List ℕ) (root : ℕ) (face : Term) (h : FaceAt es root face) wh
 module _ (w n : ℕ) (ok ok′ : ℕ → Bool) (eq eq′ : ℕ → ℕ → Bool) (same-ok : (i : ℕ) → ok i ≡ ok′ i)
     (same-eq : (i j : ℕ) → i < n → j < n → ok′ i ≡ true → eq i j ≡ eq′ i j) where
   grown-same : (i d : ℕ) → i < n → ok′ i ≡ true → Grown w eq i n d → Grown w eq′ i n d
-  grown-same i d l o g = record { small = g .small; marked = λ j q. g .marked j q ∙ ap (λ (b : Bool). leb i j && b) (⊎-elim (inside j) (outside j) (lt-or-ge j n)) }
+  grown-same i d l o g =
+      record {
+        small = g .small;
+        marked = λ j q. g .marked j q
+            ∙ ap (λ (b : Bool). leb i j && b) (⊎-elim (inside j) (outside j) (lt-or-ge j n));
+      }
     where
       inside : (j : ℕ) → j < n → ltb j n && eq i j ≡ ltb j n && eq′ i j
       inside j q = ap (λ (b : Bool). ltb j n && b) (same-eq i j l q o)
@@ -156,11 +168,13 @@ face-whole es root face h fits =
       fits = omega arith;
       inside = λ i l.
           let s = node es root face h i (omega arith) in
-          stands-inside (s .levels) (s .ctx) es (root + i) (s .scope) (s .named) (node-held es root face h i s) (node-stands es root face h i s);
+          stands-inside (s .levels) (s .ctx) es (root + i) (s .scope) (s .named) (node-held es root face h i s)
+          (node-stands es root face h i s);
     }
 
 -- and the classes that the table tells of it are its own.
-pub face-classes : (es : List ℕ) (root : ℕ) (face : Term) → FaceAt es root face → (ds : List ℕ) → ClassesFrom es root ds → FaceClasses face ds
+pub face-classes : (es : List ℕ) (root : ℕ) (face : Term) → FaceAt es root face → (ds : List ℕ) → ClassesFrom es root ds
+    → FaceClasses face ds
 face-classes es root face h ds c =
     classes-same width (size (one face)) (freeFrom es root) (free face) (sameFrom es root) (equal face) (free-same es root face h)
     (equal-same es root face h) ds (rw (root-size es root face h) at c)

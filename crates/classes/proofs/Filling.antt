@@ -49,7 +49,8 @@ module _ (es nodes ds x : List ℕ) (k : ℕ) (f : Filled es nodes k ds) (few : 
   put-classes : classesAt put k ≡ x
   put-classes =
       let l : length (take a ds) ≡ a = length-take-le a ds (omega (arith, room)) in
-      ap (take width) (drop-at (take a ds) (x ++ drop ((a + width) - a) (drop a ds)) a l) ∙ take-at x (drop ((a + width) - a) (drop a ds)) width n
+      ap (take width) (drop-at (take a ds) (x ++ drop ((a + width) - a) (drop a ds)) a l)
+      ∙ take-at x (drop ((a + width) - a) (drop a ds)) width n
 
   put-before : (j : ℕ) → j < k → classesAt put j ≡ classesAt ds j
   put-before j h =
@@ -90,7 +91,8 @@ filled-all es nodes ds count f = record { long = f .long; there = f .there; abse
     absent : (k i : ℕ) → count ≤ k → getD (classesAt ds k) i 0 ≡ 0
     absent k i h =
         ⊎-elim
-        (λ (q : i < width). getD-take width (drop (k * width) ds) i 0 q ∙ getD-drop (k * width) ds i 0 ∙ f .clear (k * width + i) (omega arith))
+        (λ (q : i < width). getD-take width (drop (k * width) ds) i 0 q ∙ getD-drop (k * width) ds i 0
+        ∙ f .clear (k * width + i) (omega arith))
         (λ (q : width ≤ i). List·getD-eq-default (classesAt ds k) 0 (short q))
         (lt-or-ge i width)
       where

@@ -40,8 +40,12 @@ reach bs k i = go (decLt i k) (decLt i (k + length bs))
   where
     go : Dec (i < k) → Dec (i < k + length bs) → Reach bs k i
     go (yes h) g = within h (see-low (ownerOf bs) k i h)
-    go (no h) (yes g) = let (b, e) = owner-below bs (i - k) (omega arith) in toFace b (omega arith) g (see-high (ownerOf bs) k i (omega arith) ∙ ap outside e)
-    go (no h) (no g) = above (omega arith) (see-high (ownerOf bs) k i (omega arith) ∙ ap outside (owner-above bs (i - k) (i - k - length bs) (omega arith)))
+    go (no h) (yes g) =
+        let (b, e) = owner-below bs (i - k) (omega arith) in
+        toFace b (omega arith) g (see-high (ownerOf bs) k i (omega arith) ∙ ap outside e)
+    go (no h) (no g) =
+        above (omega arith)
+        (see-high (ownerOf bs) k i (omega arith) ∙ ap outside (owner-above bs (i - k) (i - k - length bs) (omega arith)))
 
 -- The ways between the two views, and what the level view tells of binders of the face
 levelOfOwner : ℕ → Seen Owner → Seen ℕ
@@ -104,7 +108,8 @@ module _ (d : ℕ) (sc bs : List ℕ) (long : length sc ≡ length bs + d) (k : 
       go : Reach bs k i → ownerOfLevel d (see (levelFrom sc) k (bound i)) ≡ see (ownerOf bs) k (bound i)
       go (within h e) = ap (ownerOfLevel d) (see-low (levelFrom sc) k i h) ∙ sym e
       go (toFace b h g e) = absurd (true≢false (ap ofFace (sym e) ∙ f))
-      go (above h e) = ap (ownerOfLevel d) (see-high (levelFrom sc) k i (omega arith)) ∙ ap (λ (j : ℕ). outside (aboveFace j)) (omega arith) ∙ sym e
+      go (above h e) =
+          ap (ownerOfLevel d) (see-high (levelFrom sc) k i (omega arith)) ∙ ap (λ (j : ℕ). outside (aboveFace j)) (omega arith) ∙ sym e
 
 -- Labels and forests; m is the number of all binders around
 inner-add : (l : Nameless) (m k n : ℕ) → m ≡ k + n → inner l m ≡ inner l k + n
@@ -140,7 +145,8 @@ module _ (d : ℕ) (sc bs : List ℕ) (long : length sc ≡ length bs + d) where
   owner-label m k q (own (binder b x)) c f = refl
   owner-label m k q (slot z) c f = refl
 
-  deep-forest : (m k : ℕ) → m ≡ k + length sc → (u : Terms) → Closed m u → deep d (viewUnder (levelFrom sc) k u) ≡ usesFace (viewUnder (ownerOf bs) k u)
+  deep-forest : (m k : ℕ) → m ≡ k + length sc → (u : Terms) → Closed m u
+      → deep d (viewUnder (levelFrom sc) k u) ≡ usesFace (viewUnder (ownerOf bs) k u)
   unfolding deep
   deep-forest m k q nil c = refl
   deep-forest m k q (cons l b s) c =
@@ -152,11 +158,14 @@ module _ (d : ℕ) (sc bs : List ℕ) (long : length sc ≡ length bs + d) where
       → (usesLabel (withVariable (see (ownerOf bs) k) l) ≡ false) × (usesFace (viewUnder (ownerOf bs) (inner l k) b) ≡ false)
       × (usesFace (viewUnder (ownerOf bs) k s) ≡ false)
   unused k l b s f =
-      let (p, r) = or-false (usesLabel (withVariable (see (ownerOf bs) k) l)) (usesFace (viewUnder (ownerOf bs) (inner l k) b) || usesFace (viewUnder (ownerOf bs) k s)) f in
+      let (p, r) =
+      or-false (usesLabel (withVariable (see (ownerOf bs) k) l))
+      (usesFace (viewUnder (ownerOf bs) (inner l k) b) || usesFace (viewUnder (ownerOf bs) k s)) f in
       let (x, y) = or-false (usesFace (viewUnder (ownerOf bs) (inner l k) b)) (usesFace (viewUnder (ownerOf bs) k s)) r in
       (p, x, y)
 
-  level-forest : (k : ℕ) (u : Terms) → usesFace (viewUnder (ownerOf bs) k u) ≡ false → reseen (levelOfOwner d) (viewUnder (ownerOf bs) k u) ≡ viewUnder (levelFrom sc) k u
+  level-forest : (k : ℕ) (u : Terms) → usesFace (viewUnder (ownerOf bs) k u) ≡ false
+      → reseen (levelOfOwner d) (viewUnder (ownerOf bs) k u) ≡ viewUnder (levelFrom sc) k u
   unfolding reseen
   level-forest k nil f = refl
   level-forest k (cons l b s) f =
@@ -169,7 +178,11 @@ module _ (d : ℕ) (sc bs : List ℕ) (long : length sc ≡ length bs + d) where
   owner-forest m k q nil c f = refl
   owner-forest m k q (cons l b s) c f =
       let (p, x, y) = unused k l b s f in
-      rw (owner-label m k q l (c .0) p, owner-forest (inner l m) (inner l k) (inner-add l m k (length sc) q) b (c .1) x, owner-forest m k q s (c .2) y)
+      rw (
+        owner-label m k q l (c .0) p,
+        owner-forest (inner l m) (inner l k) (inner-add l m k (length sc) q) b (c .1) x,
+        owner-forest m k q s (c .2) y,
+      )
 
 -- Main theorem. Two subexpressions of a face, the first of which uses no binder of the face above it, are equal by owners just when they
 -- are equal by levels.
@@ -180,12 +193,15 @@ equal-levels d sc bs sc′ bs′ t u a b c e f = (there, back)
   where
     there : Equal (ownerOf bs) (ownerOf bs′) t u → Equal (levelFrom sc) (levelFrom sc′) t u
     there h =
-        sym (level-forest d sc bs a 0 (one t) f) ∙ ap (reseen (levelOfOwner d)) h ∙ level-forest d sc′ bs′ b 0 (one u) (ap usesFace (sym h) ∙ f)
+        sym (level-forest d sc bs a 0 (one t) f) ∙ ap (reseen (levelOfOwner d)) h
+        ∙ level-forest d sc′ bs′ b 0 (one u) (ap usesFace (sym h) ∙ f)
 
     back : Equal (levelFrom sc) (levelFrom sc′) t u → Equal (ownerOf bs) (ownerOf bs′) t u
     back h =
         let p : length sc ≡ 0 + length sc = omega arith in
         let q : length sc′ ≡ 0 + length sc′ = omega arith in
         let g : usesFace (view (ownerOf bs′) (one u)) ≡ false =
-        sym (deep-forest d sc′ bs′ b (length sc′) 0 q (one u) e) ∙ ap (deep d) (sym h) ∙ deep-forest d sc bs a (length sc) 0 p (one t) c ∙ f in
-        sym (owner-forest d sc bs a (length sc) 0 p (one t) c f) ∙ ap (reseen (ownerOfLevel d)) h ∙ owner-forest d sc′ bs′ b (length sc′) 0 q (one u) e g
+        sym (deep-forest d sc′ bs′ b (length sc′) 0 q (one u) e) ∙ ap (deep d) (sym h) ∙ deep-forest d sc bs a (length sc) 0 p (one t) c
+        ∙ f in
+        sym (owner-forest d sc bs a (length sc) 0 p (one t) c f) ∙ ap (reseen (ownerOfLevel d)) h
+        ∙ owner-forest d sc′ bs′ b (length sc′) 0 q (one u) e g

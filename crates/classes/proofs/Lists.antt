@@ -10,7 +10,8 @@ use Rattle.meaning.specs.Rows.{product}
 
 pub map-same : {A B : Type 0} (f g : A → B) (xs : List A) → ((x : A) → x ∈ xs → f x ≡ g x) → map f xs ≡ map g xs
 map-same f g [] h = refl
-map-same {B = B} f g (x ∷ xs) h = ap₂ {C = List B} (λ y ys. y ∷ ys) (h x (List·Memᴰ·head refl)) (map-same f g xs (λ z m. h z (List·Memᴰ·tail m)))
+map-same {B = B} f g (x ∷ xs) h =
+    ap₂ {C = List B} (λ y ys. y ∷ ys) (h x (List·Memᴰ·head refl)) (map-same f g xs (λ z m. h z (List·Memᴰ·tail m)))
 
 -- ---- products
 
@@ -32,7 +33,8 @@ product-map f [] = refl
 product-map {A} {B} f (xs ∷ xss) =
     each-map f (λ y. map (λ ys. y ∷ ys) (product (map (map f) xss))) xs
     ∙ each-same (λ x. map (λ ys. f x ∷ ys) (product (map (map f) xss))) (λ x. map (map f) (map (λ ys. x ∷ ys) (product xss))) xs
-    (λ x. ap (map (λ ys. f x ∷ ys)) (product-map f xss) ∙ map-map (λ ys. f x ∷ ys) (map f) (product xss) ∙ sym (map-map (map f) (λ ys. x ∷ ys) (product xss)))
+    (λ x. ap (map (λ ys. f x ∷ ys)) (product-map f xss) ∙ map-map (λ ys. f x ∷ ys) (map f) (product xss)
+    ∙ sym (map-map (map f) (λ ys. x ∷ ys) (product xss)))
     ∙ sym (map-each (map f) (λ x. map (λ ys. x ∷ ys) (product xss)) xs)
 
 product-singles : {A : Type 0} (x : A) (n : ℕ) → product (replicate n (x ∷ [])) ≡ replicate n x ∷ []
@@ -45,7 +47,8 @@ pub product-padded : {A : Type 0} (x : A) (n : ℕ) (xss : List (List A))
 product-padded x n [] = product-singles x n
 product-padded {A} x n (xs ∷ xss) =
     each-same (λ y. map (λ ys. y ∷ ys) (product (xss ++ replicate n (x ∷ [])))) (λ y. map after (map (λ ys. y ∷ ys) (product xss))) xs
-    (λ y. ap (map (λ ys. y ∷ ys)) (product-padded x n xss) ∙ map-map (λ ys. y ∷ ys) after (product xss) ∙ sym (map-map after (λ ys. y ∷ ys) (product xss)))
+    (λ y. ap (map (λ ys. y ∷ ys)) (product-padded x n xss) ∙ map-map (λ ys. y ∷ ys) after (product xss)
+    ∙ sym (map-map after (λ ys. y ∷ ys) (product xss)))
     ∙ sym (map-each after (λ y. map (λ ys. y ∷ ys) (product xss)) xs)
   where
     after : List A → List A

@@ -66,13 +66,15 @@ counted {A} L X y k (suc n) [] h there absent =
     let e : suc n - 0 ≡ suc (n - 0) = omega arith in
     rw e
     (ap₂ {C = List A} (λ x xs. x ∷ xs) (absent 0 k (omega arith) (omega arith))
-    (counted L X y (suc k) n [] (omega arith) (λ i f j e q. there (suc i) f j (omega arith) q) (λ i j e q. absent (suc i) j (omega arith) (omega arith))))
+    (counted L X y (suc k) n [] (omega arith) (λ i f j e q. there (suc i) f j (omega arith) q)
+    (λ i j e q. absent (suc i) j (omega arith) (omega arith))))
 counted L X y k zero (f ∷ fs) h there absent = absurd (omega arith)
 counted {A} L X y k (suc n) (f ∷ fs) h there absent =
     let e : suc n - suc (length fs) ≡ n - length fs = omega arith in
     rw e
     (ap₂ {C = List A} (λ x xs. x ∷ xs) (there 0 f k (omega arith) refl)
-    (counted L X y (suc k) n fs (omega arith) (λ i f j e q. there (suc i) f j (omega arith) q) (λ i j e q. absent (suc i) j (omega arith) (omega arith))))
+    (counted L X y (suc k) n fs (omega arith) (λ i f j e q. there (suc i) f j (omega arith) q)
+    (λ i j e q. absent (suc i) j (omega arith) (omega arith))))
 
 choices-at : (p : Problem) (ds : List ℕ) → Accepted p → Tabled p ds
     → map (choicesAt ds) (upTo maxFunctions)
@@ -114,11 +116,13 @@ begins [] x m = absurd (List·Memᴰ·not-nil m)
 begins (y ∷ ys) x m = (y, ys, refl)
 
 -- The place of a list of mask rows, as a host holds it
-value-place : (rs : List Row) (more : Bool) (next : MaskRow) → Leads (placeOf (map masksOf rs)) more next → record { masks = next; isPast = not more } ≡ placeValue (placeOf rs)
+value-place : (rs : List Row) (more : Bool) (next : MaskRow) → Leads (placeOf (map masksOf rs)) more next
+    → record { masks = next; isPast = not more } ≡ placeValue (placeOf rs)
 unfolding placeValue
 value-place [] true next h = absurd (let e = h .goes refl in let z : _≡_ {A = ℕ} 0 1 = cc in omega arith)
 value-place [] false next h = ap {B = PlaceValue} (λ (m : MaskRow). record { masks = m; isPast = true }) (h .clear refl)
-value-place (r ∷ rs) true next h = ap {B = PlaceValue} (λ (m : MaskRow). record { masks = m; isPast = false }) (let e = h .goes refl in let q : next ≡ masksOf r = cc in q)
+value-place (r ∷ rs) true next h =
+    ap {B = PlaceValue} (λ (m : MaskRow). record { masks = m; isPast = false }) (let e = h .goes refl in let q : next ≡ masksOf r = cc in q)
 value-place (r ∷ rs) false next h = absurd (let e = h .ends refl in let z : _≡_ {A = ℕ} 0 1 = cc in omega arith)
 
 -- The mask rows of the problem's table are the masks of its rows, in their order.
@@ -156,7 +160,8 @@ tabled-tables p ds t =
     record {
       long = t .long;
       each = λ k h.
-          ⊎-elim (λ r. face-table (faceOf p (r .0)) (classesAt ds k) (t .there k (r .0) (r .1))) (λ q. empty-table (classesAt ds k) (λ i. t .absent k i q))
+          ⊎-elim (λ r. face-table (faceOf p (r .0)) (classesAt ds k) (t .there k (r .0) (r .1)))
+          (λ q. empty-table (classesAt ds k) (λ i. t .absent k i q))
           (at-or-past (functions p) k);
     }
 
@@ -175,10 +180,16 @@ module _ (p : Problem) (ds : List ℕ) (a : Accepted p) (agree : isSome (faces p
   pub first-row-of : (row : MaskRow) → placeOf (maskRows ds) ≡ at row → record { masks = row; isPast = false } ≡ placeValue (start p)
   first-row-of row e =
       value-place (rows p) true row
-      (record { goes = λ q. ap placeOf (sym (rows-listed p ds a agree t)) ∙ e; ends = λ q. absurd (true≢false q); clear = λ q. absurd (true≢false q) })
+      (record {
+        goes = λ q. ap placeOf (sym (rows-listed p ds a agree t))
+            ∙ e;
+        ends = λ q. absurd (true≢false q);
+        clear = λ q. absurd (true≢false q);
+      })
 
   -- What `next_row` gives after the masks of a row: those of the row after it, or past the last.
-  pub next-row-of : (before later : List Row) (r : Row) (more : Bool) (next : MaskRow) → rows p ≡ before ++ (r ∷ later) → Steps ds (masksOf r) more next
+  pub next-row-of : (before later : List Row) (r : Row) (more : Bool) (next : MaskRow) → rows p ≡ before ++ (r ∷ later)
+      → Steps ds (masksOf r) more next
       → record { masks = next; isPast = not more } ≡ placeValue (placeOf later)
   unfolding Steps
   next-row-of before later r more next e h =

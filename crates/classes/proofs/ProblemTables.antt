@@ -30,7 +30,8 @@ firsts-length p xs [] (j ∷ js) h = absurd h
 firsts-length p xs (f ∷ fs) [] h = absurd h
 firsts-length p xs (f ∷ fs) (j ∷ js) h = ap suc (firsts-length p xs fs js (h .1))
 
-firsts-at : (p : Problem) (xs : List Face) (fs js : List ℕ) → FirstsAt p xs fs js → (k f : ℕ) → getElem? fs k ≡ some f → FirstAt p xs f (getD js k 0)
+firsts-at : (p : Problem) (xs : List Face) (fs js : List ℕ) → FirstsAt p xs fs js → (k f : ℕ) → getElem? fs k ≡ some f
+    → FirstAt p xs f (getD js k 0)
 firsts-at p xs [] js h k f e = never (cc)
 firsts-at p xs (g ∷ fs) [] h k f e = absurd h
 firsts-at p xs (g ∷ fs) (j ∷ js) h zero f e = let w : g ≡ f = cc in subst (λ (x : ℕ). FirstAt p xs x j) w (h .0)
@@ -60,7 +61,15 @@ module _ (p : Problem) (a : Accepted p) (xs : List Face) (agree : faces p ≡ so
   face-at : (k f : ℕ) → getElem? (functions p) k ≡ some f → FaceAt (expressionTokens p) (getD nodes k 0) (faceOf p f)
   face-at k f e =
       let n = expression-node p (a .within) (getD nodes k 0) (faceOf p f) (first k f e .term) in
-      record { levels = n .levels; ctx = n .context; scope = n .scope; named = n .named; held = n .held; stands = n .stands; is = sym (n .term) }
+      record {
+        levels = n .levels;
+        ctx = n .context;
+        scope = n .scope;
+        named = n .named;
+        held = n .held;
+        stands = n .stands;
+        is = sym (n .term);
+      }
 
   -- THE CODE CAN MAKE THEM
   pub problem-faces : Faces (expressionTokens p) nodes count

@@ -68,7 +68,8 @@ at-back : {A : Type 0} (xs ys : List A) (i : ℕ) → getElem? (xs ++ ys) (lengt
 at-back [] ys i = rw (zero-add i)
 at-back (x ∷ xs) ys i = rw (suc-add (length xs) i) (at-back xs ys i)
 
-tokens-head : (sc : List ℕ) (l : Named) (c s : Forest Named) (rest : List ℕ) → tokens sc (cons l c s) ++ rest ≡ tokens sc (one (l, c)) ++ (tokens sc s ++ rest)
+tokens-head : (sc : List ℕ) (l : Named) (c s : Forest Named) (rest : List ℕ)
+    → tokens sc (cons l c s) ++ rest ≡ tokens sc (one (l, c)) ++ (tokens sc s ++ rest)
 unfolding tokens
 tokens-head sc l c s rest = simp (append-assoc, append-nil)
 
@@ -77,15 +78,18 @@ tokens-inner : (sc : List ℕ) (l : Named) (c s : Forest Named) (rest : List ℕ
 unfolding tokens
 tokens-inner sc l c s rest i = ap (drop i) (append-assoc (tokens (enter l sc) c) (tokens sc s) rest)
 
-enter-deep : (d n : ℕ) (sc bs : List ℕ) (l : Named) → length sc ≡ length bs + d → length (enter l sc) ≡ length (below n (namelessLabel sc l) bs) + d
+enter-deep : (d n : ℕ) (sc bs : List ℕ) (l : Named) → length sc ≡ length bs + d
+    → length (enter l sc) ≡ length (below n (namelessLabel sc l) bs) + d
 enter-deep d n sc bs (own (symbol m)) h = h
 enter-deep d n sc bs (own (variable x)) h = h
 enter-deep d n sc bs (own (application m)) h = h
 enter-deep d n sc bs (own (binder b x)) h = omega arith
 enter-deep d n sc bs (slot z) h = h
 
-pub spot : (d levels : ℕ) (ctx : Context) (sc bs : List ℕ) (n : ℕ) (u : Forest Named) (rest : List ℕ) (i : ℕ) → i < size u → Readable levels ctx u
-    → length sc + levels ≤ 256 → length sc ≡ length bs + d → Spot d (size u) (tokens sc u ++ rest) (viewsFrom bs n (nameless sc u)) (nameless sc u) i
+pub spot : (d levels : ℕ) (ctx : Context) (sc bs : List ℕ) (n : ℕ) (u : Forest Named) (rest : List ℕ) (i : ℕ) → i < size u
+    → Readable levels ctx u
+    → length sc + levels ≤ 256 → length sc ≡ length bs + d
+    → Spot d (size u) (tokens sc u ++ rest) (viewsFrom bs n (nameless sc u)) (nameless sc u) i
 spot d levels ctx sc bs n nil rest i h r room deep = absurd (omega arith)
 spot d zero ctx sc bs n (cons l c s) rest i h r room deep = absurd r
 spot d (suc levels) ctx sc bs n (cons l c s) rest zero h r room deep =
@@ -106,7 +110,8 @@ spot d (suc levels) ctx sc bs n (cons l c s) rest zero h r room deep =
     }
 spot d (suc levels) ctx sc bs n (cons l c s) rest (suc i) h r room deep =
     go (decLt i (size c))
-    (λ g. spot d levels (contextBelow l ctx) (enter l sc) (below n l′ bs) (suc n) c (tokens sc s ++ rest) i g (r .1) (omega (arith, enter-room sc l)) (enter-deep d n sc bs l deep))
+    (λ g. spot d levels (contextBelow l ctx) (enter l sc) (below n l′ bs) (suc n) c (tokens sc s ++ rest) i g (r .1)
+    (omega (arith, enter-room sc l)) (enter-deep d n sc bs l deep))
     (λ g. spot d (suc levels) ctx sc bs (suc n + size c′) s rest (i - size c) (omega arith) (r .2) room deep)
   where
     l′ : Nameless
@@ -121,14 +126,16 @@ spot d (suc levels) ctx sc bs n (cons l c s) rest (suc i) h r room deep =
     same : size c′ ≡ size c
     same = relabel-size enter namelessLabel (enter l sc) c
 
-    go : Dec (i < size c) → (i < size c → Spot d (size c) (tokens (enter l sc) c ++ (tokens sc s ++ rest)) (viewsFrom (below n l′ bs) (suc n) c′) c′ i)
+    go : Dec (i < size c)
+        → (i < size c → Spot d (size c) (tokens (enter l sc) c ++ (tokens sc s ++ rest)) (viewsFrom (below n l′ bs) (suc n) c′) c′ i)
         → (size c ≤ i → Spot d (size s) (tokens sc s ++ rest) (viewsFrom bs (suc n + size c′) s′) s′ (i - size c))
         → Spot d (size (cons l c s)) (tokens sc (cons l c s) ++ rest) (viewsFrom bs n (cons l′ c′ s′)) (cons l′ c′ s′) (suc i)
     go (yes g) child sibling =
         widen d (size c) (size (cons l c s)) (tokens sc (cons l c s) ++ rest) (tokens (enter l sc) c ++ (tokens sc s ++ rest))
         (viewsFrom bs n (cons l′ c′ s′)) (viewsFrom (below n l′ bs) (suc n) c′) (cons l′ c′ s′) c′ (suc i) i (omega arith)
         (tokens-inner sc l c s rest i)
-        (at-front (viewsFrom (below n l′ bs) (suc n) c′) (viewsFrom bs (suc n + size c′) s′) i (omega (arith, length-views (below n l′ bs) (suc n) c′, same)))
+        (at-front (viewsFrom (below n l′ bs) (suc n) c′) (viewsFrom bs (suc n + size c′) s′) i
+        (omega (arith, length-views (below n l′ bs) (suc n) c′, same)))
         (choose-true (nodeAt i c′) (nodeAt (i - size c′) s′) (ltb-yes i (size c′) (omega (arith, same))))
         (child g)
     go (no g) child sibling =
@@ -137,7 +144,10 @@ spot d (suc levels) ctx sc bs n (cons l c s) rest (suc i) h r room deep =
         let y : length (viewsFrom (below n l′ bs) (suc n) c′) + j ≡ i = omega (arith, length-views (below n l′ bs) (suc n) c′, same) in
         widen d (size s) (size (cons l c s)) (tokens sc (cons l c s) ++ rest) (tokens sc s ++ rest)
         (viewsFrom bs n (cons l′ c′ s′)) (viewsFrom bs (suc n + size c′) s′) (cons l′ c′ s′) s′ (suc i) j (omega arith)
-        (tokens-inner sc l c s rest i ∙ ap (λ (k : ℕ). drop k (tokens (enter l sc) c ++ (tokens sc s ++ rest))) (sym x) ∙ drop-append-add (tokens (enter l sc) c) (tokens sc s ++ rest) j)
-        (ap (getElem? (viewsFrom (below n l′ bs) (suc n) c′ ++ viewsFrom bs (suc n + size c′) s′)) (sym y) ∙ at-back (viewsFrom (below n l′ bs) (suc n) c′) (viewsFrom bs (suc n + size c′) s′) j)
-        (choose-false (nodeAt i c′) (nodeAt (i - size c′) s′) (ltb-no i (size c′) (omega (arith, same))) ∙ ap (λ (k : ℕ). nodeAt (i - k) s′) same)
+        (tokens-inner sc l c s rest i ∙ ap (λ (k : ℕ). drop k (tokens (enter l sc) c ++ (tokens sc s ++ rest))) (sym x)
+        ∙ drop-append-add (tokens (enter l sc) c) (tokens sc s ++ rest) j)
+        (ap (getElem? (viewsFrom (below n l′ bs) (suc n) c′ ++ viewsFrom bs (suc n + size c′) s′)) (sym y)
+        ∙ at-back (viewsFrom (below n l′ bs) (suc n) c′) (viewsFrom bs (suc n + size c′) s′) j)
+        (choose-false (nodeAt i c′) (nodeAt (i - size c′) s′) (ltb-no i (size c′) (omega (arith, same)))
+        ∙ ap (λ (k : ℕ). nodeAt (i - k) s′) same)
         (sibling (omega arith))

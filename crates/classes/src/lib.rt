@@ -32,7 +32,8 @@ fn class_of(es: &[u64], root: usize, i: usize) -> u64
 // The entry of node i in the class table of the face at the root. A node that uses a binder of the face above it is in no choice.
 fn entry_of(es: &[u64], root: usize, i: usize) -> u64
     requires { ⌜ Whole (now es) root ⌝ }
-    ensures { λ r. ⌜ Entry width (sizeFrom (now (es .entry)) root) (freeFrom (now (es .entry)) root) (sameFrom (now (es .entry)) root) i r ⌝ }
+    ensures { λ r. ⌜ Entry width (sizeFrom (now (es .entry)) root) (freeFrom (now (es .entry)) root)
+        (sameFrom (now (es .entry)) root) i r ⌝ }
 {
     let x = es[root];
     if size(x) as usize <= i {

@@ -32,17 +32,24 @@ use Rattle.faces.proofs.WalkMeaning.{walk-means}
 use Rattle.faces.proofs.FirstMeaning.{large-means}
 
 module _ (p : Problem) (w : WithinLimits p) where
-  large-in : (ns : List ℕ) (xs : List Face) → Recorded p ns xs → faces p ≡ some xs → largeIn (patternTokens p) (expressionTokens p) ns ≡ overlarge p
+  large-in : (ns : List ℕ) (xs : List Face) → Recorded p ns xs → faces p ≡ some xs
+      → largeIn (patternTokens p) (expressionTokens p) ns ≡ overlarge p
   unfolding largeIn overlarge
   large-in ns xs r e =
       ap (λ (fs : List ℕ). anyLarge (expressionTokens p) (map (firstNode (patternTokens p) ns) fs)) (functions-in p w)
       ∙ large-means p w ns xs r (functions p)
-      ∙ sym (ap (λ (o : Option (List Face)). isSome o && not (every (λ f. not (ltb maxFaceNodes (size (one (faceTerm (firstFace f (orNone o)) f))))) (functions p))) e)
+      ∙ sym
+      (ap
+      (λ (o : Option (List Face)). isSome o && not
+      (every (λ f. not (ltb maxFaceNodes (size (one (faceTerm (firstFace f (orNone o)) f))))) (functions p))) e)
 
   -- "if shapes agree"
   not-large : faces p ≡ none → overlarge p ≡ false
   unfolding overlarge
-  not-large e = ap (λ (o : Option (List Face)). isSome o && not (every (λ f. not (ltb maxFaceNodes (size (one (faceTerm (firstFace f (orNone o)) f))))) (functions p))) e
+  not-large e =
+      ap
+      (λ (o : Option (List Face)). isSome o && not
+      (every (λ f. not (ltb maxFaceNodes (size (one (faceTerm (firstFace f (orNone o)) f))))) (functions p))) e
 
   -- The checks of `meaning`, one after the other
   refused-12 : bothWays p ≡ true → checkProblem p ≡ refused 12
@@ -69,17 +76,22 @@ module _ (p : Problem) (w : WithinLimits p) where
         (afterWalk (patternTokens p) (expressionTokens p) (flatWalk (patternTokens p) (expressionTokens p))))
     unfolding verdict
     decided =
-        c .answer ∙ ap₂ (λ (b : Bool) (fs : List ℕ). choose b (checked.Refused 12) (choose (ltb maxFunctions (length fs)) (checked.Refused 13)
-        (afterWalk (patternTokens p) (expressionTokens p) (flatWalk (patternTokens p) (expressionTokens p))))) (both-in p w) (functions-in p w)
+        c .answer
+        ∙ ap₂ (λ (b : Bool) (fs : List ℕ). choose b (checked.Refused 12) (choose (ltb maxFunctions (length fs)) (checked.Refused 13)
+        (afterWalk (patternTokens p) (expressionTokens p)
+        (flatWalk (patternTokens p) (expressionTokens p))))) (both-in p w) (functions-in p w)
 
     module _ (apart : bothWays p ≡ false) (few : ltb maxFunctions (length (functions p)) ≡ false) where
-      after : (o : Option (List ℕ)) → flatWalk (patternTokens p) (expressionTokens p) ≡ o → r ≡ afterWalk (patternTokens p) (expressionTokens p) o
+      after : (o : Option (List ℕ)) → flatWalk (patternTokens p) (expressionTokens p) ≡ o
+          → r ≡ afterWalk (patternTokens p) (expressionTokens p) o
       after o e = decided ∙ choose-false _ _ apart ∙ choose-false _ _ few ∙ ap (afterWalk (patternTokens p) (expressionTokens p)) e
 
-      told : (ns : List ℕ) (xs : List Face) → flatWalk (patternTokens p) (expressionTokens p) ≡ some ns → faces p ≡ some xs → Recorded p ns xs
+      told : (ns : List ℕ) (xs : List Face) → flatWalk (patternTokens p) (expressionTokens p) ≡ some ns → faces p ≡ some xs
+          → Recorded p ns xs
           → overlarge p ≡ false → r ≡ checked.Faces (length ns) → Told p new (length ns)
       told ns xs e a q small y =
-          let front : take (length ns) new ≡ ns = ap (take (length ns)) (c .recorded ns e y) ∙ take-at ns (drop (length ns) old) (length ns) refl in
+          let front : take (length ns) new ≡ ns = ap (take (length ns)) (c .recorded ns e y)
+          ∙ take-at ns (drop (length ns) old) (length ns) refl in
           record {
             passes = passed apart few small;
             found = xs;
@@ -94,7 +106,8 @@ module _ (p : Problem) (w : WithinLimits p) where
           same-long (m ∷ ms) [] h = absurd h
           same-long (m ∷ ms) (y ∷ ys) h = ap suc (same-long ms ys (h .1))
 
-      walked : (o : Option (List ℕ)) (x : Option (List Face)) → flatWalk (patternTokens p) (expressionTokens p) ≡ o → faces p ≡ x → Both (Recorded p) o x → Says p new r
+      walked : (o : Option (List ℕ)) (x : Option (List Face)) → flatWalk (patternTokens p) (expressionTokens p) ≡ o → faces p ≡ x
+          → Both (Recorded p) o x → Says p new r
       walked none none e a q = subst (Says p new) (sym (after none e)) (passed apart few (not-large a), a)
       walked none (some xs) e a q = absurd q
       walked (some ns) none e a q = absurd q

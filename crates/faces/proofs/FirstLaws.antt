@@ -18,7 +18,8 @@ use Rattle.tokens.specs.Key.{at}
 use Rattle.faces.specs.FlatWalk.{expressionNode}
 use Rattle.metavariables.specs.Survey.{has, count}
 use Rattle.faces.specs.declared.first.Firsts.{Firsts}
-use Rattle.faces.specs.First.{applies, firstIn, absent, nodeOr, firstNode, firstsFrom, firstsOf, listed, Fits, Pushed, Listing, Listed, large, anyLarge}
+use Rattle.faces.specs.First.{applies, firstIn, absent, nodeOr, firstNode, firstsFrom, firstsOf, listed, Fits, Pushed, Listing}
+use Rattle.faces.specs.First.{Listed, large, anyLarge}
 
 -- One recorded face
 module _ (ps : List ℕ) (f n : ℕ) where
@@ -42,7 +43,8 @@ module _ (ps ns : List ℕ) (f k : ℕ) where
   first-none h = sym (ap (λ (l : List ℕ). nodeOr (firstIn ps f l)) (drop-of-length-le ns h))
 
   module _ (h : k < length ns) where
-    opened : firstNode ps (drop k ns) f ≡ nodeOr (choose (applies ps f (at ns k)) (some (expressionNode (at ns k))) (firstIn ps f (drop (suc k) ns)))
+    opened : firstNode ps (drop k ns) f
+        ≡ nodeOr (choose (applies ps f (at ns k)) (some (expressionNode (at ns k))) (firstIn ps f (drop (suc k) ns)))
     unfolding firstNode firstIn
     opened = ap (λ (l : List ℕ). nodeOr (firstIn ps f l)) (drop-cons ns k 0 h)
 
@@ -56,7 +58,8 @@ module _ (ps ns : List ℕ) (f k : ℕ) where
 -- One first face more
 pub pushed-list : (s : Firsts) (j : ℕ) → Fits s → s .count < 8 → take (s .count + 1) (set (s .nodes) (s .count) j) ≡ listed s ++ (j ∷ [])
 pushed-list s j r h =
-    ap (λ (n : ℕ). take n (set (s .nodes) (s .count) j)) (add-one (s .count)) ∙ take-suc-set (s .nodes) (s .count) j (omega (arith, r .array))
+    ap (λ (n : ℕ). take n (set (s .nodes) (s .count) j)) (add-one (s .count))
+    ∙ take-suc-set (s .nodes) (s .count) j (omega (arith, r .array))
 
 pub pushed-long : (s : Firsts) (j : ℕ) → Fits s → length (set (s .nodes) (s .count) j) ≡ 8
 pushed-long s j r = length-set (s .nodes) (s .count) j ∙ r .array
@@ -80,19 +83,23 @@ module _ (ps ns : List ℕ) (s m : ℕ) (r : Firsts) (l : Listing ps ns s m r) (
   listing-skip e =
       record {
         fits = l .fits;
-        whole = ap (λ (x : List ℕ). listed r ++ x) (firsts-later ∙ sym (firsts-from ∙ ap (map (firstNode ps ns)) (choose-false (m ∷ later) later e))) ∙ l .whole;
+        whole =
+            ap (λ (x : List ℕ). listed r ++ x)
+            (firsts-later ∙ sym (firsts-from ∙ ap (map (firstNode ps ns)) (choose-false (m ∷ later) later e))) ∙ l .whole;
       }
 
   opened-whole : has s m ≡ true → listed r ++ (firstNode ps ns m ∷ firstsFrom ps ns s (m + 1)) ≡ firstsOf ps ns s
   opened-whole e =
       ap (λ (x : List ℕ). listed r ++ x)
-      (ap (λ (x : List ℕ). firstNode ps ns m ∷ x) firsts-later ∙ sym (firsts-from ∙ ap (map (firstNode ps ns)) (choose-true (m ∷ later) later e)))
+      (ap (λ (x : List ℕ). firstNode ps ns m ∷ x) firsts-later
+      ∙ sym (firsts-from ∙ ap (map (firstNode ps ns)) (choose-true (m ∷ later) later e)))
       ∙ l .whole
 
   pub listing-room : has s m ≡ true → length (firstsOf ps ns s) ≤ 8 → r .count < 8
   listing-room e few =
       let a : length (listed r) ≡ r .count = length-take-le (r .count) (r .nodes) (omega (arith, l .fits .array, l .fits .count)) in
-      let b : length (listed r ++ (firstNode ps ns m ∷ firstsFrom ps ns s (m + 1))) ≡ length (firstsOf ps ns s) = ap length (opened-whole e) in
+      let b : length (listed r ++ (firstNode ps ns m ∷ firstsFrom ps ns s (m + 1))) ≡ length (firstsOf ps ns s) =
+      ap length (opened-whole e) in
       let c = length-append (listed r) (firstNode ps ns m ∷ firstsFrom ps ns s (m + 1)) in
       omega arith
 
@@ -148,11 +155,13 @@ module _ (es nodes : List ℕ) (end k : ℕ) (fits : end ≤ length nodes) where
     opened-large =
         let a : length (take end nodes) ≡ end = length-take-le end nodes fits in
         let b : k < length (take end nodes) = omega arith in
-        ap (anyLarge es) (drop-cons (take end nodes) k 0 b) ∙ ap (λ (j : ℕ). large es j || anyLarge es (drop (suc k) (take end nodes))) (getD-take end nodes k 0 h)
+        ap (anyLarge es) (drop-cons (take end nodes) k 0 b)
+        ∙ ap (λ (j : ℕ). large es j || anyLarge es (drop (suc k) (take end nodes))) (getD-take end nodes k 0 h)
 
     pub large-here : large es (getD nodes k 0) ≡ true → true ≡ anyLarge es (drop k (take end nodes))
     large-here e = sym (opened-large ∙ ap (λ (b : Bool). b || anyLarge es (drop (suc k) (take end nodes))) e)
 
     pub large-next : large es (getD nodes k 0) ≡ false → anyLarge es (drop (k + 1) (take end nodes)) ≡ anyLarge es (drop k (take end nodes))
     large-next e =
-        ap (λ (n : ℕ). anyLarge es (drop n (take end nodes))) (add-one k) ∙ sym (opened-large ∙ ap (λ (b : Bool). b || anyLarge es (drop (suc k) (take end nodes))) e)
+        ap (λ (n : ℕ). anyLarge es (drop n (take end nodes))) (add-one k)
+        ∙ sym (opened-large ∙ ap (λ (b : Bool). b || anyLarge es (drop (suc k) (take end nodes))) e)

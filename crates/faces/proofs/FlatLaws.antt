@@ -44,7 +44,8 @@ module _ (i j x y : ℕ) (ps es : List ℕ) where
   unfolding lockstep
   lockstep-differs f n = rw (f, n)
 
-  pub lockstep-same : isSlot x ≡ false → eqb (keyOf 0 x) (keyOf 0 y) ≡ true → lockstep 0 i j (x ∷ ps) (y ∷ es) ≡ lockstep 0 (suc i) (suc j) ps es
+  pub lockstep-same : isSlot x ≡ false → eqb (keyOf 0 x) (keyOf 0 y) ≡ true
+      → lockstep 0 i j (x ∷ ps) (y ∷ es) ≡ lockstep 0 (suc i) (suc j) ps es
   unfolding lockstep
   lockstep-same f e = rw (f, e)
 
@@ -85,7 +86,8 @@ module _ (ps es : List ℕ) where
         pub left-differs : isSlot (at ps i) ≡ false → eqb (keyOf 0 (at ps i)) (keyOf 0 (at es j)) ≡ false → left ps es i j ≡ none
         left-differs f n = opened ∙ lockstep-differs i j (at ps i) (at es j) (drop (suc i) ps) (drop (suc j) es) f n
 
-        pub left-same : isSlot (at ps i) ≡ false → eqb (keyOf 0 (at ps i)) (keyOf 0 (at es j)) ≡ true → left ps es i j ≡ left ps es (i + 1) (j + 1)
+        pub left-same : isSlot (at ps i) ≡ false → eqb (keyOf 0 (at ps i)) (keyOf 0 (at es j)) ≡ true
+            → left ps es i j ≡ left ps es (i + 1) (j + 1)
         unfolding left
         left-same f e = opened ∙ lockstep-same i j (at ps i) (at es j) (drop (suc i) ps) (drop (suc j) es) f e ∙ rw (add-one i, add-one j)
 
@@ -136,10 +138,12 @@ module _ (ps es old : List ℕ) where
       where
         made : (xs : List ℕ) → xs ≡ take n out → length (take n out) ≡ n → out ≡ xs ++ drop (length xs) old
         made xs e l =
-            sym (take-append-drop n out) ∙ ap₂ (λ (u v : List ℕ). u ++ v) (sym e) (w .kept ∙ ap (λ (m : ℕ). drop m old) (sym l ∙ ap length (sym e)))
+            sym (take-append-drop n out)
+            ∙ ap₂ (λ (u v : List ℕ). u ++ v) (sym e) (w .kept ∙ ap (λ (m : ℕ). drop m old) (sym l ∙ ap length (sym e)))
 
     module _ (hi : i < length ps) (hj : j < length es) where
-      pub walking-same : isSlot (at ps i) ≡ false → eqb (keyOf 0 (at ps i)) (keyOf 0 (at es j)) ≡ true → Walking ps es old out (i + 1) (j + 1) n
+      pub walking-same : isSlot (at ps i) ≡ false → eqb (keyOf 0 (at ps i)) (keyOf 0 (at es j)) ≡ true
+          → Walking ps es old out (i + 1) (j + 1) n
       walking-same f e =
           record {
             whole = w .whole ∙ ap (join (some (take n out))) (left-same ps es i j hi hj f e);
@@ -160,7 +164,9 @@ module _ (ps es old : List ℕ) where
           let after : drop (n + 1) out ≡ drop (n + 1) old =
           sym (drop-drop 1 n out) ∙ ap (drop 1) (w .kept) ∙ drop-drop 1 n old in
           record {
-            whole = w .whole ∙ ap (join (some (take n out))) (left-face ps es i j hi hj f s) ∙ sym (join-assoc (some (take n out)) (some (v ∷ [])) next)
+            whole =
+                w .whole ∙ ap (join (some (take n out))) (left-face ps es i j hi hj f s)
+                ∙ sym (join-assoc (some (take n out)) (some (v ∷ [])) next)
                 ∙ ap (λ (l : List ℕ). join (some l) next) front;
             kept = drop-set-lt (n + 1) out n v (omega arith) ∙ after;
             long = length-set out n v ∙ w .long;

@@ -50,7 +50,9 @@ moved table table′ more i i′ t e n =
       held = n .held;
       stands = record {
         after = n .stands .after ++ more;
-        split = e ∙ ap (λ (l : List ℕ). l ++ more) (n .stands .split) ∙ append-assoc (tokens (n .scope) (one (n .named))) (n .stands .after) more;
+        split =
+            e ∙ ap (λ (l : List ℕ). l ++ more) (n .stands .split)
+            ∙ append-assoc (tokens (n .scope) (one (n .named))) (n .stands .after) more;
       };
     }
 
@@ -68,12 +70,19 @@ at-node (suc levels) ctx sc (cons l c s) r m zero t e =
       context = ctx;
       term = q;
       held = record { readable = (r .0, r .1, tt); depths = m .depths; sizes = omega (arith, m .sizes) };
-      stands = record { after = tokens sc s; split = ap (λ (ts : List ℕ). tokenAt sc l c ∷ (ts ++ tokens sc s)) (sym (append-nil (tokens (enter l sc) c))) };
+      stands =
+          record {
+            after = tokens sc s;
+            split = ap (λ (ts : List ℕ). tokenAt sc l c ∷ (ts ++ tokens sc s)) (sym (append-nil (tokens (enter l sc) c)));
+          };
     }
 at-node (suc levels) ctx sc (cons l c s) r m (suc n) t e =
     by-test (ltb n (size (nameless (enter l sc) c)))
-    (λ y. below y (at-node levels (contextBelow l ctx) (enter l sc) c (r .1) (room-below levels sc l c s m) n t (sym (choose-true _ _ y) ∙ e)))
-    (λ y. later y (at-node (suc levels) ctx sc s (r .2) (room-later levels sc l c s m) (n - size (nameless (enter l sc) c)) t (sym (choose-false _ _ y) ∙ e)))
+    (λ y. below y
+    (at-node levels (contextBelow l ctx) (enter l sc) c (r .1) (room-below levels sc l c s m) n t (sym (choose-true _ _ y) ∙ e)))
+    (λ y. later y
+    (at-node (suc levels) ctx sc s (r .2) (room-later levels sc l c s m) (n - size (nameless (enter l sc) c)) t
+    (sym (choose-false _ _ y) ∙ e)))
   where
     tc : List ℕ
     tc = tokens (enter l sc) c
@@ -85,13 +94,17 @@ at-node (suc levels) ctx sc (cons l c s) r m (suc n) t e =
     long = nameless-size (enter l sc) c ∙ sym (tokens-length (enter l sc) c)
 
     below : ltb n (size (nameless (enter l sc) c)) ≡ true → AtNode tc n t → AtNode (tokenAt sc l c ∷ (tc ++ ts)) (suc n) t
-    below y k = moved tc (tokenAt sc l c ∷ (tc ++ ts)) ts n (suc n) t (drop-append-le n tc ts (omega (arith, long, ltb-true n (size (nameless (enter l sc) c)) y))) k
+    below y k =
+        moved tc (tokenAt sc l c ∷ (tc ++ ts)) ts n (suc n) t
+        (drop-append-le n tc ts (omega (arith, long, ltb-true n (size (nameless (enter l sc) c)) y))) k
 
-    later : ltb n (size (nameless (enter l sc) c)) ≡ false → AtNode ts (n - size (nameless (enter l sc) c)) t → AtNode (tokenAt sc l c ∷ (tc ++ ts)) (suc n) t
+    later : ltb n (size (nameless (enter l sc) c)) ≡ false → AtNode ts (n - size (nameless (enter l sc) c)) t
+        → AtNode (tokenAt sc l c ∷ (tc ++ ts)) (suc n) t
     later y k =
         let j : ℕ = n - size (nameless (enter l sc) c) in
         let d : n ≡ length tc + j = omega (arith, long, ltb-false n (size (nameless (enter l sc) c)) y) in
-        moved ts (tokenAt sc l c ∷ (tc ++ ts)) [] j (suc n) t (ap (λ (x : ℕ). drop x (tc ++ ts)) d ∙ drop-append-add tc ts j ∙ sym (append-nil (drop j ts))) k
+        moved ts (tokenAt sc l c ∷ (tc ++ ts)) [] j (suc n) t
+        (ap (λ (x : ℕ). drop x (tc ++ ts)) d ∙ drop-append-add tc ts j ∙ sym (append-nil (drop j ts))) k
 
 -- What the token of a node says
 module _ (table : List ℕ) (i : ℕ) (t : Term) (n : AtNode table i t) where
@@ -132,7 +145,9 @@ node-applies table i z cs f n =
     same (hole h) e = ap (isApplication f) e
 
     go : (l : Named) → namelessLabel (n .scope) l ≡ slot z → eqb (tagOf l) 6 && eqb f (payloadOf (n .scope) l) ≡ isApplication f z
-    go (own o) e = absurd (let y : own (meant (n .scope) o) ≡ slot z = sym (meant-label (n .scope) o) ∙ e in let w : _≡_ {A = ℕ} 0 1 = cc in omega arith)
+    go (own o) e =
+        absurd
+        (let y : own (meant (n .scope) o) ≡ slot z = sym (meant-label (n .scope) o) ∙ e in let w : _≡_ {A = ℕ} 0 1 = cc in omega arith)
     go (slot y) e = same y (cc)
 
 -- THE THEOREM: meaning's node numbers are the places of the tables

@@ -58,7 +58,8 @@ seen-top sc x = go (resolved sc 0 x)
     go : Resolved sc 0 x → see (levelFrom []) (length sc) (resolve sc 0 x) ≡ topVariable (resolve sc 0 x)
     go (isFree p q) = ap (see (levelFrom []) (length sc)) p ∙ sym (ap topVariable p)
     go (isBound j h p q) =
-        ap (see (levelFrom []) (length sc)) p ∙ choose-true (inside (0 + j)) _ (ltb-yes (0 + j) (length sc) (omega arith)) ∙ sym (ap topVariable p)
+        ap (see (levelFrom []) (length sc)) p ∙ choose-true (inside (0 + j)) _ (ltb-yes (0 + j) (length sc) (omega arith))
+        ∙ sym (ap topVariable p)
 
 top-label : (sc : List ℕ) (o : Own ℕ ℕ) → seenLabel [] (length sc) (namelessLabel sc (own o)) ≡ own (top (meant sc o))
 top-label sc (symbol n) = refl
@@ -112,7 +113,8 @@ keys-agree ctx ctx′ sc sc′ o o′ c c′ r m r′ m′ f f′ =
     ap₂ eqb (node-code ctx sc c r m o f) (node-code ctx′ sc′ c′ r′ m′ o′ f′) ∙ code-agrees (meant sc o) (meant sc′ o′)
 
 -- Labels that agree have as many children
-pub agree-trees : (ctx ctx′ : Context) (sc sc′ : List ℕ) (o o′ : Own ℕ ℕ) (c c′ : Forest Named) → NodeFits ctx (own o) c → NodeFits ctx′ (own o′) c′
+pub agree-trees : (ctx ctx′ : Context) (sc sc′ : List ℕ) (o o′ : Own ℕ ℕ) (c c′ : Forest Named) → NodeFits ctx (own o) c
+    → NodeFits ctx′ (own o′) c′
     → agrees (meant sc o) (own (meant sc′ o′)) ≡ true → trees c ≡ trees c′
 agree-trees ctx ctx′ sc sc′ o o′ c c′ f f′ e =
     trees-of ctx sc o c f ∙ ap (λ (x : Meant). arity (own (top x))) (own-eq sameVariable variable-eq (meant sc o) (meant sc′ o′) (true-T e)) ∙ sym (trees-of ctx′ sc′ o′ c′ f′)

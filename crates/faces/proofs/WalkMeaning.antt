@@ -43,16 +43,19 @@ module _ (look : ℕ → Option Term) (i : ℕ) (l : Nameless) (c s : Terms) (h 
   look-later m g =
       let e : suc i + size c + m ≡ i + suc (size c + m) = omega arith in
       let d : size c + m - size c ≡ m = omega arith in
-      ap look e ∙ h (suc (size c + m)) (omega arith) ∙ choose-false _ _ (le-ltb (size c + m) (size c) (omega arith)) ∙ ap (λ (k : ℕ). nodeAt k s) d
+      ap look e ∙ h (suc (size c + m)) (omega arith) ∙ choose-false _ _ (le-ltb (size c + m) (size c) (omega arith))
+      ∙ ap (λ (k : ℕ). nodeAt k s) d
 
 module _ (p e : ℕ → Option Term) where
-  append-recorded : (ns ns′ : List ℕ) (xs xs′ : List Face) → RecordedBy p e ns xs → RecordedBy p e ns′ xs′ → RecordedBy p e (ns ++ ns′) (xs ++ xs′)
+  append-recorded : (ns ns′ : List ℕ) (xs xs′ : List Face) → RecordedBy p e ns xs → RecordedBy p e ns′ xs′
+      → RecordedBy p e (ns ++ ns′) (xs ++ xs′)
   append-recorded [] ns′ [] xs′ r r′ = r′
   append-recorded [] ns′ (x ∷ xs) xs′ r r′ = absurd r
   append-recorded (n ∷ ns) ns′ [] xs′ r r′ = absurd r
   append-recorded (n ∷ ns) ns′ (x ∷ xs) xs′ r r′ = (r .0, append-recorded ns ns′ xs xs′ (r .1) r′)
 
-  join-both : (a b : Option (List ℕ)) (x y : Option (List Face)) → Both (RecordedBy p e) a x → Both (RecordedBy p e) b y → Both (RecordedBy p e) (join a b) (join x y)
+  join-both : (a b : Option (List ℕ)) (x y : Option (List Face)) → Both (RecordedBy p e) a x → Both (RecordedBy p e) b y
+      → Both (RecordedBy p e) (join a b) (join x y)
   join-both none b none y r r′ = tt
   join-both none b (some x) y r r′ = absurd r
   join-both (some a) b none y r r′ = absurd r
@@ -61,11 +64,13 @@ module _ (p e : ℕ → Option Term) where
   join-both (some a) (some b) (some x) none r r′ = absurd r′
   join-both (some a) (some b) (some x) (some y) r r′ = append-recorded a b x y r r′
 
-  guard-both : (t : Bool) (a : Option (List ℕ)) (x : Option (List Face)) → Both (RecordedBy p e) a x → Both (RecordedBy p e) (guard t a) (guard t x)
+  guard-both : (t : Bool) (a : Option (List ℕ)) (x : Option (List Face)) → Both (RecordedBy p e) a x
+      → Both (RecordedBy p e) (guard t a) (guard t x)
   guard-both true a x r = r
   guard-both false a x r = tt
 
-  meet-both : (k i j : ℕ) (l : Nameless) (c : Terms) (t : Term) (a : Option (List ℕ)) (x : Option (List Face)) → i < 65536 → p i ≡ some (l, c) → e j ≡ some t
+  meet-both : (k i j : ℕ) (l : Nameless) (c : Terms) (t : Term) (a : Option (List ℕ)) (x : Option (List Face)) → i < 65536
+      → p i ≡ some (l, c) → e j ≡ some t
       → Both (RecordedBy p e) a x → Both (RecordedBy p e) (meetCode i j l (t .0) a) (meet k j l c t x)
   meet-both k i j (own o) c t a x h lp le r = guard-both (agrees o (t .0)) a x r
   meet-both k i j (slot z) c t a x h lp le r =
@@ -73,14 +78,16 @@ module _ (p e : ℕ → Option Term) where
       let n : expressionNode (faceCode i j) ≡ j = omega arith in
       (record { slots = ap p m ∙ lp; node = n; term = le }, tt)
 
-  walk-both : (k i j : ℕ) (u v : Terms) → Looks p i u → Looks e j v → i + size u ≤ 65536 → Both (RecordedBy p e) (walkCodes i j u v) (walk k j u v)
+  walk-both : (k i j : ℕ) (u v : Terms) → Looks p i u → Looks e j v → i + size u ≤ 65536
+      → Both (RecordedBy p e) (walkCodes i j u v) (walk k j u v)
   walk-both k i j nil nil lp le h = tt
   walk-both k i j nil (cons l c s) lp le h = tt
   walk-both k i j (cons l c s) nil lp le h = tt
   walk-both k i j (cons l c s) (cons l′ c′ s′) lp le h =
       join-both (meetCode i j l l′ (walkCodes (suc i) (suc j) c c′)) (walkCodes (suc i + size c) (suc j + size c′) s s′)
       (meet k j l c (l′, c′) (walk (inner l k) (suc j) c c′)) (walk k (suc j + size c′) s s′)
-      (meet-both k i j l c (l′, c′) (walkCodes (suc i) (suc j) c c′) (walk (inner l k) (suc j) c c′) (omega arith) (look-here p i l c s lp) (look-here e j l′ c′ s′ le)
+      (meet-both k i j l c (l′, c′) (walkCodes (suc i) (suc j) c c′) (walk (inner l k) (suc j) c c′) (omega arith) (look-here p i l c s lp)
+      (look-here e j l′ c′ s′ le)
       (walk-both (inner l k) (suc i) (suc j) c c′ (look-below p i l c s lp) (look-below e j l′ c′ s′ le) (omega arith)))
       (walk-both k (suc i + size c) (suc j + size c′) s s′ (look-later p i l c s lp) (look-later e j l′ c′ s′ le) (omega arith))
 
@@ -88,7 +95,8 @@ both-none : {A B : Type 0} (R : A → B → Type 0) (a : Option A) (b : Option B
 both-none R none none r = (λ e. refl, λ e. refl)
 both-none R none (some b) r = absurd r
 both-none R (some a) none r = absurd r
-both-none R (some a) (some b) r = (λ e. absurd (let z : _≡_ {A = ℕ} 0 1 = cc in omega arith), λ e. absurd (let z : _≡_ {A = ℕ} 0 1 = cc in omega arith))
+both-none R (some a) (some b) r =
+    (λ e. absurd (let z : _≡_ {A = ℕ} 0 1 = cc in omega arith), λ e. absurd (let z : _≡_ {A = ℕ} 0 1 = cc in omega arith))
 
 both-some : {A B : Type 0} (R : A → B → Type 0) (a : Option A) (b : B) → Both R a (some b) → (x : A) × (a ≡ some x) × R x b
 both-some R none b r = absurd r
@@ -103,7 +111,8 @@ module _ (p : Problem) (w : WithinLimits p) where
   table-codes : flatWalk (patternTokens p) (expressionTokens p) ≡ walkCodes 0 0 (patterns p) (expressions p)
   unfolding patternTokens expressionTokens
   table-codes =
-      flat-trees maxDepth maxDepth (namedPatterns p) (namedExpressions p) (patterns-readable p w) (expressions-readable p w) (patterns-room p w) (expressions-room p w) (same-trees p)
+      flat-trees maxDepth maxDepth (namedPatterns p) (namedExpressions p) (patterns-readable p w) (expressions-readable p w)
+      (patterns-room p w) (expressions-room p w) (same-trees p)
 
   -- THE THEOREM: the walk on the tables fails just where a shape disagrees, and else records the faces in order
   pub walk-means : Means p (flatWalk (patternTokens p) (expressionTokens p)) (faces p)
@@ -111,11 +120,15 @@ module _ (p : Problem) (w : WithinLimits p) where
   walk-means =
       let at0 : (u : Terms) → Looks (λ i. nodeAt i u) 0 u = λ u m h. ap (λ (i : ℕ). nodeAt i u) (zero-add m) in
       subst (λ (o : Option (List ℕ)). Means p o (faces p)) (sym table-codes)
-      (walk-both (λ i. nodeAt i (patterns p)) (λ j. nodeAt j (expressions p)) 0 0 0 (patterns p) (expressions p) (at0 (patterns p)) (at0 (expressions p))
+      (walk-both (λ i. nodeAt i (patterns p)) (λ j. nodeAt j (expressions p)) 0 0 0 (patterns p) (expressions p) (at0 (patterns p))
+      (at0 (expressions p))
       (omega (arith, nodes-few p w, nameless-size [] (namedPatterns p))))
 
   pub walk-none : (flatWalk (patternTokens p) (expressionTokens p) ≡ none) ↔ (faces p ≡ none)
   walk-none = both-none (Recorded p) (flatWalk (patternTokens p) (expressionTokens p)) (faces p) walk-means
 
-  pub walk-some : (xs : List Face) → faces p ≡ some xs → (ns : List ℕ) × (flatWalk (patternTokens p) (expressionTokens p) ≡ some ns) × Recorded p ns xs
-  walk-some xs q = both-some (Recorded p) (flatWalk (patternTokens p) (expressionTokens p)) xs (subst (λ (o : Option (List Face)). Means p (flatWalk (patternTokens p) (expressionTokens p)) o) q walk-means)
+  pub walk-some : (xs : List Face) → faces p ≡ some xs
+      → (ns : List ℕ) × (flatWalk (patternTokens p) (expressionTokens p) ≡ some ns) × Recorded p ns xs
+  walk-some xs q =
+      both-some (Recorded p) (flatWalk (patternTokens p) (expressionTokens p)) xs
+      (subst (λ (o : Option (List Face)). Means p (flatWalk (patternTokens p) (expressionTokens p)) o) q walk-means)

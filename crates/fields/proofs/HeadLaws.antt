@@ -49,7 +49,8 @@ module _ (ctx : Context) (s : Bytes) where
   unfolding headOf
   head-cut z p = record { says = rw (ne-eqb (length s) 0 z, ← p .says); fits = tt }
 
-  pub head-misplaced : {t n r : ℕ} → (length s ≡ 0 → ⊥) → PartsDone s (parts.Field t n) → refused r ≡ kindOf ctx t → HeadDone ctx s (heads.Refused r)
+  pub head-misplaced : {t n r : ℕ} → (length s ≡ 0 → ⊥) → PartsDone s (parts.Field t n) → refused r ≡ kindOf ctx t
+      → HeadDone ctx s (heads.Refused r)
   unfolding headOf
   head-misplaced z p k = record { says = rw (ne-eqb (length s) 0 z, ← p .says, ← k); fits = tt }
 
@@ -127,19 +128,27 @@ module _ (levels : ℕ) (ctx : Context) (s : Bytes) where
       → ContentDone (kindFrom kind) (take (3 + n - 3) (drop 3 s)) (contents.Node node) → OpenDone levels ctx s (opens.Node node (3 + n))
   unfolding openRead
   open-node {kind} {n} node h z c =
-      let inner : Answer (Forest Named) = readFields (dueOf node) (readTerm (levels - 1) (contextBelow (labelOf node 0) ctx)) (drop (fixedOf node) (take n (drop 3 s))) in
-      let e : got (contentWith node (take n (drop 3 s))) ≡ contentOf (kindFrom kind) (take n (drop 3 s)) = rw (add-sub-cancel-left 3 n) at (c .says) in
+      let inner : Answer (Forest Named) =
+      readFields (dueOf node) (readTerm (levels - 1) (contextBelow (labelOf node 0) ctx)) (drop (fixedOf node) (take n (drop 3 s))) in
+      let e : got (contentWith node (take n (drop 3 s))) ≡ contentOf (kindFrom kind) (take n (drop 3 s)) =
+      rw (add-sub-cancel-left 3 n) at (c .says) in
       let d : DueFits (dueOf node) (fixedOf node) (length (take n (drop 3 s))) = rw (add-sub-cancel-left 3 n) at (c .fits) in
       record {
         says =
             read-content levels ctx s (sym (h .says)) z
             ∙ rw (← e) refl
-            ∙ ap (λ (x : Answer NamedTerm). after x (λ t. got (t, drop (3 + n) s))) (content-fields (readTerm (levels - 1)) ctx node (take n (drop 3 s)) d)
+            ∙ ap (λ (x : Answer NamedTerm). after x (λ t. got (t, drop (3 + n) s)))
+            (content-fields (readTerm (levels - 1)) ctx node (take n (drop 3 s)) d)
             ∙ after-after inner (λ f. got (labelOf node (trees f), f)) (λ t. got (t, drop (3 + n) s))
             ∙ rw (part-at (fixedOf node) n s) refl;
         fits = record {
           deep = positive levels z;
-          start = omega (arith, due-fixed (dueOf node) (fixedOf node) (length (take n (drop 3 s))) d, rw (add-sub-cancel-left 3 n) at (part-length 3 (3 + n) s (omega arith) (h .fits .0)));
+          start =
+              omega (
+                arith,
+                due-fixed (dueOf node) (fixedOf node) (length (take n (drop 3 s))) d,
+                rw (add-sub-cancel-left 3 n) at (part-length 3 (3 + n) s (omega arith) (h .fits .0)),
+              );
           within = h .fits .0;
           short = omega (arith, h .fits .1);
         };

@@ -106,7 +106,8 @@ module _ (w n : ℕ) (ok : ℕ → Bool) (eq : ℕ → ℕ → Bool) (ds : List 
           let f : ℕ = leadingZeros w d in
           let m : Member n ok eq i f = in-class i f (lowest-in w d p (class-small i)) in
           let own : In (marks w d) i =
-          to-class i i (record { node = m .node; may = m .may; later = omega arith; other = m .node; equal = e .same i (m .node) (m .may) }) in
+          to-class i i
+          (record { node = m .node; may = m .may; later = omega arith; other = m .node; equal = e .same i (m .node) (m .may) }) in
           let x : f ≡ i = omega (arith, m .later, lowest-min w d i (class-small i) own) in
           inr (subst (λ (x : ℕ). Lowest w d x) x (lowest-of w d p (class-small i)))
 

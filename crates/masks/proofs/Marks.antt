@@ -5,7 +5,8 @@ use mathlib.Core.Logic.{_⊎_, inl, inr}
 use mathlib.Core.Bool.{Bool, true, false}
 use mathlib.Core.List.{List, [], _∷_}
 use Prim.Native.Nat.{ℕ, zero, suc, _+_, _-_, _*_, _/_, _%_, _^_, _≤_, _<_}
-use native.Mathlib.Nat.{pow-suc, mul-assoc, mul-comm, one-mul, zero-add, add-comm, add-mul-div-right, mul-add-mod-self-right, div-eq-of-lt, zero-div}
+use native.Mathlib.Nat.{pow-suc, mul-assoc, mul-comm, one-mul, zero-add, add-comm, add-mul-div-right, mul-add-mod-self-right, div-eq-of-lt}
+use native.Mathlib.Nat.{zero-div}
 use native.Mathlib.Numerals.{add-one}
 use native.Mathlib.Omega.{arith}
 use lib.Dec.{eqb}

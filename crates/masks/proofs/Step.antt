@@ -257,7 +257,8 @@ module _ (w : ℕ) (ds : List ℕ) (t : Table w ds) where
         less = omega arith;
         most = λ u vu lu.
             ⊎-elim (λ (z : u ≡ 0). omega arith)
-            (λ (q : 0 < u). ⊎-elim (λ (s : Sub u d). greatest m d u sm s lu) (λ (k : u < bit w i). omega arith) (split-low w ds u m i lm vu q lu))
+            (λ (q : 0 < u). ⊎-elim (λ (s : Sub u d). greatest m d u sm s lu) (λ (k : u < bit w i). omega arith)
+            (split-low w ds u m i lm vu q lu))
             (eq-zero-or-pos u);
       }
 

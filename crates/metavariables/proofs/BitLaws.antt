@@ -40,7 +40,8 @@ has-one k m = by-test (eqb k m) same other
     above : k < m → odd (2 ^ m / 2 ^ k) ≡ false
     above h =
         let d : m ≡ suc (m - suc k) + k = omega arith in
-        let a : 2 ^ m / 2 ^ k ≡ 2 ^ suc (m - suc k) = ap (λ (i : ℕ). 2 ^ i / 2 ^ k) d ∙ ap (λ (n : ℕ). n / 2 ^ k) (pow-add 2 (suc (m - suc k)) k) ∙ shl-shr (2 ^ suc (m - suc k)) k in
+        let a : 2 ^ m / 2 ^ k ≡ 2 ^ suc (m - suc k) = ap (λ (i : ℕ). 2 ^ i / 2 ^ k) d
+        ∙ ap (λ (n : ℕ). n / 2 ^ k) (pow-add 2 (suc (m - suc k)) k) ∙ shl-shr (2 ^ suc (m - suc k)) k in
         odd-no (2 ^ m / 2 ^ k) (omega (arith, a, pow-suc 2 (m - suc k)))
 
     below : m < k → odd (2 ^ m / 2 ^ k) ≡ false
@@ -71,18 +72,21 @@ same-long : (b : Bool) (x y : ℕ) (xs ys : List ℕ) → length xs ≡ length y
 same-long true x y xs ys e = ap suc e
 same-long false x y xs ys e = e
 
-keep-shift : (p q : ℕ → Bool) (k n : ℕ) → ((m : ℕ) → p (suc m) ≡ q m) → length (keep p (countFrom (suc k) n)) ≡ length (keep q (countFrom k n))
+keep-shift : (p q : ℕ → Bool) (k n : ℕ) → ((m : ℕ) → p (suc m) ≡ q m)
+    → length (keep p (countFrom (suc k) n)) ≡ length (keep q (countFrom k n))
 keep-shift p q k zero h = refl
 keep-shift p q k (suc n) h =
     let xs : List ℕ = keep p (countFrom (suc (suc k)) n) in
-    ap (λ (b : Bool). length (choose b (suc k ∷ xs) xs)) (h k) ∙ same-long (q k) (suc k) k xs (keep q (countFrom (suc k) n)) (keep-shift p q (suc k) n h)
+    ap (λ (b : Bool). length (choose b (suc k ∷ xs) xs)) (h k)
+    ∙ same-long (q k) (suc k) k xs (keep q (countFrom (suc k) n)) (keep-shift p q (suc k) n h)
 
 -- A number of w bits is 0 where none is set
 no-bit : (w s : ℕ) → s < 2 ^ w → every (λ m. not (has s m)) (upTo w) ≡ eqb s 0
 no-bit zero s h = sym (eq-eqb s 0 (omega arith))
 no-bit (suc w) s h =
     ap₂ (λ (a b : Bool). not a && b) (has-lowest s)
-    (every-shift (λ m. not (has s m)) (λ m. not (has (s / 2) m)) 0 w (λ m. ap not (has-half s m)) ∙ no-bit w (s / 2) (omega (arith, pow-suc 2 w)))
+    (every-shift (λ m. not (has s m)) (λ m. not (has (s / 2) m)) 0 w (λ m. ap not (has-half s m))
+    ∙ no-bit w (s / 2) (omega (arith, pow-suc 2 w)))
     ∙ by-test (odd s) set clear
   where
     set : odd s ≡ true → (not (odd s) && eqb (s / 2) 0) ≡ eqb s 0
@@ -111,13 +115,16 @@ keep-same p q (x ∷ xs) h =
 pub meets-and : (w s t : ℕ) → bitAnd s t < 2 ^ w → not (eqb (bitAnd s t) 0) ≡ meets w s t
 unfolding meets
 meets-and w s t h =
-    ap not (sym (no-bit w (bitAnd s t) h) ∙ every-same (λ m. not (has (bitAnd s t) m)) (λ m. not (has s m && has t m)) (upTo w) (λ m i. ap not (has-and s t m)))
+    ap not
+    (sym (no-bit w (bitAnd s t) h)
+    ∙ every-same (λ m. not (has (bitAnd s t) m)) (λ m. not (has s m && has t m)) (upTo w) (λ m i. ap not (has-and s t m)))
 
 -- The count of ones
 pub ones-count : (w s : ℕ) → s < 2 ^ w → ones s ≡ count w s
 unfolding count ones
 ones-count zero s h = let e : s ≡ 0 = omega arith in ap ones e
-ones-count (suc w) s h = ones-step s ∙ ap (λ (n : ℕ). s % 2 + n) (ones-count w (s / 2) (omega (arith, pow-suc 2 w))) ∙ by-test (odd s) set clear
+ones-count (suc w) s h =
+    ones-step s ∙ ap (λ (n : ℕ). s % 2 + n) (ones-count w (s / 2) (omega (arith, pow-suc 2 w))) ∙ by-test (odd s) set clear
   where
     rest : length (keep (has s) (countFrom 1 w)) ≡ length (keep (has (s / 2)) (upTo w))
     rest = keep-shift (has s) (has (s / 2)) 0 w (has-half s)
@@ -125,11 +132,13 @@ ones-count (suc w) s h = ones-step s ∙ ap (λ (n : ℕ). s % 2 + n) (ones-coun
     set : odd s ≡ true → s % 2 + length (keep (has (s / 2)) (upTo w)) ≡ length (keep (has s) (upTo (suc w)))
     set e =
         let z : s % 2 ≡ 1 = eqb-true (s % 2) 1 e in
-        let y : length (keep (has s) (upTo (suc w))) ≡ suc (length (keep (has s) (countFrom 1 w))) = ap length (choose-true (0 ∷ keep (has s) (countFrom 1 w)) (keep (has s) (countFrom 1 w)) (has-lowest s ∙ e)) in
+        let y : length (keep (has s) (upTo (suc w))) ≡ suc (length (keep (has s) (countFrom 1 w))) =
+        ap length (choose-true (0 ∷ keep (has s) (countFrom 1 w)) (keep (has s) (countFrom 1 w)) (has-lowest s ∙ e)) in
         omega (arith, rest)
 
     clear : odd s ≡ false → s % 2 + length (keep (has (s / 2)) (upTo w)) ≡ length (keep (has s) (upTo (suc w)))
     clear e =
         let z = eqb-false (s % 2) 1 e in
-        let y : length (keep (has s) (upTo (suc w))) ≡ length (keep (has s) (countFrom 1 w)) = ap length (choose-false (0 ∷ keep (has s) (countFrom 1 w)) (keep (has s) (countFrom 1 w)) (has-lowest s ∙ e)) in
+        let y : length (keep (has s) (upTo (suc w))) ≡ length (keep (has s) (countFrom 1 w)) =
+        ap length (choose-false (0 ∷ keep (has s) (countFrom 1 w)) (keep (has s) (countFrom 1 w)) (has-lowest s ∙ e)) in
         omega (arith, rest)

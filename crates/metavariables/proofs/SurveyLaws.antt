@@ -44,7 +44,8 @@ module _ (s g x : ℕ) where
   marked-no n k l = sym (ap (λ (b : Bool). (b && eqb k (payloadIn x)) || has s k) (ne-eqb (tagIn x) g n))
 
 -- One token more
-numbers-cons : (g x : ℕ) (xs : List ℕ) (k : ℕ) → isIn k (numbers g (x ∷ xs)) ≡ (eqb (tagIn x) g && eqb k (payloadIn x)) || isIn k (numbers g xs)
+numbers-cons : (g x : ℕ) (xs : List ℕ) (k : ℕ)
+    → isIn k (numbers g (x ∷ xs)) ≡ (eqb (tagIn x) g && eqb k (payloadIn x)) || isIn k (numbers g xs)
 unfolding numbers
 numbers-cons g x xs k = go (eqb (tagIn x) g)
   where
@@ -95,12 +96,16 @@ module _ (s : ℕ) (fits : s < 2 ^ 32) where
 module _ (ps : List ℕ) (s : Occurring) (v : Surveyed ps s) where
   pub functions-set : keep (has (s .functions)) (upTo metavariableCount) ≡ functionsIn ps
   unfolding functionsIn
-  functions-set = keep-same (has (s .functions)) (λ m. isIn m (numbers 6 ps)) (upTo metavariableCount) (λ m i. v .functions m (upTo-mem metavariableCount m i))
+  functions-set =
+      keep-same (has (s .functions)) (λ m. isIn m (numbers 6 ps)) (upTo metavariableCount)
+      (λ m i. v .functions m (upTo-mem metavariableCount m i))
 
   pub both-set : meets metavariableCount (s .functions) (s .plain) ≡ bothIn ps
   unfolding meets bothIn
   both-set =
-      ap not (every-same (λ m. not (has (s .functions) m && has (s .plain) m)) (λ m. not (isIn m (numbers 6 ps) && isIn m (numbers 5 ps))) (upTo metavariableCount)
+      ap not
+      (every-same (λ m. not (has (s .functions) m && has (s .plain) m)) (λ m. not (isIn m (numbers 6 ps) && isIn m (numbers 5 ps)))
+      (upTo metavariableCount)
       (λ m i. let h = upTo-mem metavariableCount m i in ap₂ (λ (a b : Bool). not (a && b)) (v .functions m h) (v .plain m h)))
 
   pub count-set : count metavariableCount (s .functions) ≡ length (functionsIn ps)

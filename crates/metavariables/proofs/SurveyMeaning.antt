@@ -27,7 +27,8 @@ numbers-append g [] ys = refl
 numbers-append g (x ∷ xs) ys = go (eqb (tagIn x) g) (numbers-append g xs ys)
   where
     go : (b : Bool) → numbers g (xs ++ ys) ≡ numbers g xs ++ numbers g ys
-        → choose b (payloadIn x ∷ numbers g (xs ++ ys)) (numbers g (xs ++ ys)) ≡ choose b (payloadIn x ∷ numbers g xs) (numbers g xs) ++ numbers g ys
+        → choose b (payloadIn x ∷ numbers g (xs ++ ys)) (numbers g (xs ++ ys))
+        ≡ choose b (payloadIn x ∷ numbers g xs) (numbers g xs) ++ numbers g ys
     go true e = ap (λ (l : List ℕ). payloadIn x ∷ l) e
     go false e = e
 
@@ -37,8 +38,11 @@ module _ (g : ℕ) (sc : List ℕ) (l : Named) (c s : Forest Named) (room : leng
   node-numbers : numbers g (tokens sc (cons l c s)) ≡ choose (eqb (tagOf l) g) (payloadOf sc l ∷ (xs ++ ys)) (xs ++ ys)
   unfolding numbers tokens
   node-numbers =
-      let e : numbers g (tokens (enter l sc) c ++ tokens sc s) ≡ xs ++ ys = numbers-append g (tokens (enter l sc) c) (tokens sc s) ∙ ap₂ _++_ below later in
-      ap₂ (λ (t m : ℕ). choose (eqb t g) (m ∷ numbers g (tokens (enter l sc) c ++ tokens sc s)) (numbers g (tokens (enter l sc) c ++ tokens sc s))) (tag-at sc l c room small) (payload-at sc l c room small)
+      let e : numbers g (tokens (enter l sc) c ++ tokens sc s) ≡ xs ++ ys = numbers-append g (tokens (enter l sc) c) (tokens sc s)
+      ∙ ap₂ _++_ below later in
+      ap₂
+      (λ (t m : ℕ). choose (eqb t g) (m ∷ numbers g (tokens (enter l sc) c ++ tokens sc s))
+      (numbers g (tokens (enter l sc) c ++ tokens sc s))) (tag-at sc l c room small) (payload-at sc l c room small)
       ∙ ap (λ (r : List ℕ). choose (eqb (tagOf l) g) (payloadOf sc l ∷ r) r) e
 
 applied-append : (u v : Terms) → applied u ++ applied v ≡ map (λ (a : ℕ × ℕ). a .0) (applications u ++ applications v)
@@ -46,7 +50,8 @@ applied-append u v = sym (map-append (λ (a : ℕ × ℕ). a .0) (applications u
 
 -- What one node adds to the functions and to the other metavariables; a metavariable has nothing below it
 applied-label : (ctx : Context) (sc : List ℕ) (l : Named) (c : Forest Named) (u v : Terms) → NodeFits ctx l c → (c ≡ nil → u ≡ nil)
-    → choose (eqb (tagOf l) 6) (payloadOf sc l ∷ (applied u ++ applied v)) (applied u ++ applied v) ≡ applied (cons (namelessLabel sc l) u v)
+    → choose (eqb (tagOf l) 6) (payloadOf sc l ∷ (applied u ++ applied v)) (applied u ++ applied v)
+    ≡ applied (cons (namelessLabel sc l) u v)
 unfolding payloadOf
 applied-label ctx sc (own (symbol n)) c u v f h = applied-append u v
 applied-label ctx sc (own (variable x)) c u v f h = applied-append u v
@@ -67,22 +72,28 @@ plain-label ctx sc (slot (metavariable m)) c u v f h = ap (λ (t : Terms). m ∷
 plain-label ctx sc (slot (function g n)) c u v f h = refl
 plain-label ctx sc (slot (hole i)) c u v f h = ap (λ (t : Terms). plain t ++ plain v) (h (f .2))
 
-applied-numbers : (levels : ℕ) (ctx : Context) (sc : List ℕ) (u : Forest Named) → Readable levels ctx u → Room levels sc u → numbers 6 (tokens sc u) ≡ applied (nameless sc u)
+applied-numbers : (levels : ℕ) (ctx : Context) (sc : List ℕ) (u : Forest Named) → Readable levels ctx u → Room levels sc u
+    → numbers 6 (tokens sc u) ≡ applied (nameless sc u)
 unfolding numbers tokens
 applied-numbers levels ctx sc nil r m = refl
 applied-numbers zero ctx sc (cons l c s) r m = absurd r
 applied-numbers (suc levels) ctx sc (cons l c s) r m =
-    node-numbers 6 sc l c s (room-depth levels sc l c s m) (room-size levels sc l c s m) (applied (nameless (enter l sc) c)) (applied (nameless sc s))
-    (applied-numbers levels (contextBelow l ctx) (enter l sc) c (r .1) (room-below levels sc l c s m)) (applied-numbers (suc levels) ctx sc s (r .2) (room-later levels sc l c s m))
+    node-numbers 6 sc l c s (room-depth levels sc l c s m) (room-size levels sc l c s m) (applied (nameless (enter l sc) c))
+    (applied (nameless sc s))
+    (applied-numbers levels (contextBelow l ctx) (enter l sc) c (r .1) (room-below levels sc l c s m))
+    (applied-numbers (suc levels) ctx sc s (r .2) (room-later levels sc l c s m))
     ∙ applied-label ctx sc l c (nameless (enter l sc) c) (nameless sc s) (r .0) (ap (nameless (enter l sc)))
 
-plain-numbers : (levels : ℕ) (ctx : Context) (sc : List ℕ) (u : Forest Named) → Readable levels ctx u → Room levels sc u → numbers 5 (tokens sc u) ≡ plain (nameless sc u)
+plain-numbers : (levels : ℕ) (ctx : Context) (sc : List ℕ) (u : Forest Named) → Readable levels ctx u → Room levels sc u
+    → numbers 5 (tokens sc u) ≡ plain (nameless sc u)
 unfolding numbers tokens
 plain-numbers levels ctx sc nil r m = refl
 plain-numbers zero ctx sc (cons l c s) r m = absurd r
 plain-numbers (suc levels) ctx sc (cons l c s) r m =
-    node-numbers 5 sc l c s (room-depth levels sc l c s m) (room-size levels sc l c s m) (plain (nameless (enter l sc) c)) (plain (nameless sc s))
-    (plain-numbers levels (contextBelow l ctx) (enter l sc) c (r .1) (room-below levels sc l c s m)) (plain-numbers (suc levels) ctx sc s (r .2) (room-later levels sc l c s m))
+    node-numbers 5 sc l c s (room-depth levels sc l c s m) (room-size levels sc l c s m) (plain (nameless (enter l sc) c))
+    (plain (nameless sc s))
+    (plain-numbers levels (contextBelow l ctx) (enter l sc) c (r .1) (room-below levels sc l c s m))
+    (plain-numbers (suc levels) ctx sc s (r .2) (room-later levels sc l c s m))
     ∙ plain-label ctx sc l c (nameless (enter l sc) c) (nameless sc s) (r .0) (ap (nameless (enter l sc)))
 
 -- The tokens of a problem that can be read

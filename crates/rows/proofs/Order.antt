@@ -42,7 +42,8 @@ below-ordered p (suc n) = go (p n) (below-ordered p n)
 all-ordered : (p : ℕ → ℕ → Bool) (top f n : ℕ) → Ordered EarlierMasks (allFrom p top f n)
 all-ordered p top f zero = more (λ y m. absurd (List·Memᴰ·not-nil m)) empty
 all-ordered p top f (suc n) =
-    fronted-ordered Descends EarlierMasks (λ x y u v h. first h) (λ x u v h. next h) (below (p f) top) (allFrom p top (suc f) n) (below-ordered (p f) top) (all-ordered p top (suc f) n)
+    fronted-ordered Descends EarlierMasks (λ x y u v h. first h) (λ x u v h. next h) (below (p f) top) (allFrom p top (suc f) n)
+    (below-ordered (p f) top) (all-ordered p top (suc f) n)
 
 earlier-other : {r s : MaskRow} → EarlierMasks r s → r ≡ s → ⊥
 earlier-other (first {u} {v} h) e = let q : u ≡ v = cc in omega arith

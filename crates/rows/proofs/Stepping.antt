@@ -34,17 +34,23 @@ below-split : (p : ℕ → Bool) (n m : ℕ) → m < n → p m ≡ true → (bef
 unfolding below
 below-split p zero m h e = absurd (omega arith)
 below-split p (suc n) m h e =
-    ⊎-elim (λ (q : suc m ≡ suc n). let z : m ≡ n = omega arith in ([], ap (λ (b : Bool). cond b (n ∷ below p n) (below p n)) (ap p (sym z) ∙ e) ∙ ap {B = List ℕ} (λ x. x ∷ below p x) (sym z)))
+    ⊎-elim
+    (λ (q : suc m ≡ suc n). let z : m
+    ≡ n =
+    omega arith in
+    ([], ap (λ (b : Bool). cond b (n ∷ below p n) (below p n)) (ap p (sym z) ∙ e) ∙ ap {B = List ℕ} (λ x. x ∷ below p x) (sym z)))
     (λ (q : suc m < suc n). go (p n) (below-split p n m (omega arith) e)) (eq-or-lt-of-le h)
   where
-    go : (b : Bool) → (before : List ℕ) × (below p n ≡ before ++ (m ∷ below p m)) → (before : List ℕ) × (cond b (n ∷ below p n) (below p n) ≡ before ++ (m ∷ below p m))
+    go : (b : Bool) → (before : List ℕ) × (below p n ≡ before ++ (m ∷ below p m))
+        → (before : List ℕ) × (cond b (n ∷ below p n) (below p n) ≡ before ++ (m ∷ below p m))
     go true (xs, q) = (n ∷ xs, ap {B = List ℕ} (λ r. n ∷ r) q)
     go false r = r
 
 spread-append : (rs : List MaskRow) (xs ys : List ℕ) → spread rs (xs ++ ys) ≡ spread rs xs ++ spread rs ys
 spread-append rs [] ys = refl
 spread-append rs (x ∷ xs) ys =
-    ap (λ (u : List MaskRow). map (λ r. x ∷ r) rs ++ u) (spread-append rs xs ys) ∙ sym (append-assoc (map (λ r. x ∷ r) rs) (spread rs xs) (spread rs ys))
+    ap (λ (u : List MaskRow). map (λ r. x ∷ r) rs ++ u) (spread-append rs xs ys)
+    ∙ sym (append-assoc (map (λ r. x ∷ r) rs) (spread rs xs) (spread rs ys))
 
 spread-split : (rs before later : List MaskRow) (ms : MaskRow) (m : ℕ) (xs ys : List ℕ) → rs ≡ before ++ (ms ∷ later)
     → spread rs (xs ++ (m ∷ ys)) ≡ (spread rs xs ++ map (λ r. m ∷ r) before) ++ ((m ∷ ms) ∷ (map (λ r. m ∷ r) later ++ spread rs ys))
@@ -59,7 +65,8 @@ spread-split rs before later ms m xs ys e =
 
 module _ (p : ℕ → ℕ → Bool) (top : ℕ) where
   -- A row of choices splits the list of all rows.
-  row-split : (f : ℕ) (ms : MaskRow) → Masks p top f (length ms) ms → (before : List MaskRow) × (allFrom p top f (length ms) ≡ before ++ (ms ∷ rowsAfter p top f ms))
+  row-split : (f : ℕ) (ms : MaskRow) → Masks p top f (length ms) ms
+      → (before : List MaskRow) × (allFrom p top f (length ms) ≡ before ++ (ms ∷ rowsAfter p top f ms))
   unfolding rowsAfter
   row-split f [] q = ([], refl)
   row-split f (m ∷ ms) q =
@@ -70,14 +77,16 @@ module _ (p : ℕ → ℕ → Bool) (top : ℕ) where
       (spread rs xs ++ map (λ r. m ∷ r) b, ap (spread rs) d ∙ spread-split rs b (rowsAfter p top (suc f) ms) ms m xs (below (p f) m) e)
 
   -- So what follows a row in the list is the list of the rows after it.
-  pub rows-after : (f n : ℕ) (before later : List MaskRow) (row : MaskRow) → allFrom p top f n ≡ before ++ (row ∷ later) → later ≡ rowsAfter p top f row
+  pub rows-after : (f n : ℕ) (before later : List MaskRow) (row : MaskRow) → allFrom p top f n ≡ before ++ (row ∷ later)
+      → later ≡ rowsAfter p top f row
   rows-after f n before later row e =
       let m : row ∈ allFrom p top f n = rw e (Memᴰ·append-right before (List·Memᴰ·head refl)) in
       let q : Masks p top f n row = all-are p top f n row .0 m in
       let l : n ≡ length row = sym (q .long) in
       go (row-split f row (rw l at q)) (ap (allFrom p top f) l)
     where
-      go : (b : List MaskRow) × (allFrom p top f (length row) ≡ b ++ (row ∷ rowsAfter p top f row)) → allFrom p top f n ≡ allFrom p top f (length row)
+      go : (b : List MaskRow) × (allFrom p top f (length row) ≡ b ++ (row ∷ rowsAfter p top f row))
+          → allFrom p top f n ≡ allFrom p top f (length row)
           → later ≡ rowsAfter p top f row
       go (b, d) l = split-once row before later b (rowsAfter p top f row) (rw e at (all-once p top f n)) (sym e ∙ l ∙ d)
 
@@ -178,7 +187,8 @@ module _ (p : ℕ → ℕ → Bool) (top : ℕ) (first : ℕ → ℕ) (n : ℕ) 
   -- the mask of function j is still the given one
   pub carried-at : (old row : MaskRow) (j : ℕ) → j < n → Carried old row (suc j) → getD old j 0 ≡ getD row j 0
   carried-at old row j h w =
-      sym (getD-take (suc j) old j 0 (omega arith)) ∙ ap (λ (l : List ℕ). getD l j 0) (sym (w .kept)) ∙ getD-take (suc j) row j 0 (omega arith)
+      sym (getD-take (suc j) old j 0 (omega arith)) ∙ ap (λ (l : List ℕ). getD l j 0) (sym (w .kept))
+      ∙ getD-take (suc j) row j 0 (omega arith)
 
   carried-kept : (old row : MaskRow) (j : ℕ) → Carried old row (suc j) → take j row ≡ take j old
   carried-kept old row j w = sym (take-take j (suc j) row (omega arith)) ∙ ap (take j) (w .kept) ∙ take-take j (suc j) old (omega arith)
@@ -198,7 +208,8 @@ module _ (p : ℕ → ℕ → Bool) (top : ℕ) (first : ℕ → ℕ) (n : ℕ) 
   pub carried-end : (old row : MaskRow) → Carried old row 0 → rowsAfter p top 0 old ≡ []
   carried-end old row w = w .done
 
-module _ (p : ℕ → ℕ → Bool) (top : ℕ) (first : ℕ → ℕ) (n : ℕ) (starts : (f : ℕ) → f < n → below (p f) top ≡ first f ∷ below (p f) (first f)) where
+module _ (p : ℕ → ℕ → Bool) (top : ℕ) (first : ℕ → ℕ) (n : ℕ)
+    (starts : (f : ℕ) → f < n → below (p f) top ≡ first f ∷ below (p f) (first f)) where
   all-firsts : (k f : ℕ) → f + k ≤ n → allFrom p top f k ≡ firstsFrom first n f k ∷ rowsAfter p top f (firstsFrom first n f k)
   unfolding rowsAfter
   all-firsts zero f h = refl
@@ -206,8 +217,10 @@ module _ (p : ℕ → ℕ → Bool) (top : ℕ) (first : ℕ → ℕ) (n : ℕ) 
       let x : ℕ = first f in
       let r : MaskRow = firstsFrom first n (suc f) k in
       ap (spread (allFrom p top (suc f) k)) (starts f (omega arith))
-      ∙ ap (λ (y : List MaskRow). map (λ s. x ∷ s) y ++ spread (allFrom p top (suc f) k) (below (p f) x)) (all-firsts k (suc f) (omega arith))
-      ∙ ap (λ (y : ℕ). (x ∷ r) ∷ (map (λ s. x ∷ s) (rowsAfter p top (suc f) r) ++ spread (allFrom p top (suc f) y) (below (p f) x))) (sym (length-firsts first n (suc f) k))
+      ∙ ap (λ (y : List MaskRow). map (λ s. x ∷ s) y ++ spread (allFrom p top (suc f) k) (below (p f) x))
+      (all-firsts k (suc f) (omega arith))
+      ∙ ap (λ (y : ℕ). (x ∷ r) ∷ (map (λ s. x ∷ s) (rowsAfter p top (suc f) r) ++ spread (allFrom p top (suc f) y) (below (p f) x)))
+      (sym (length-firsts first n (suc f) k))
 
   -- The first of all rows.
   pub first-of-all : (row : MaskRow) → Fresh first n row 0 → allFrom p top 0 n ≡ row ∷ rowsAfter p top 0 row
@@ -217,7 +230,8 @@ module _ (p : ℕ → ℕ → Bool) (top : ℕ) (first : ℕ → ℕ) (n : ℕ) 
       all-firsts n 0 (omega arith) ∙ ap (λ (q : MaskRow). q ∷ rowsAfter p top 0 q) (sym e)
 
   -- Another choice of function j: that is the next row.
-  pub carried-step : (old row : MaskRow) (j x : ℕ) → j < n → Carried p top first n old row (suc j) → below (p j) (getD row j 0) ≡ x ∷ below (p j) x
+  pub carried-step : (old row : MaskRow) (j x : ℕ) → j < n → Carried p top first n old row (suc j)
+      → below (p j) (getD row j 0) ≡ x ∷ below (p j) x
       → rowsAfter p top 0 old ≡ set row j x ∷ rowsAfter p top 0 (set row j x)
   carried-step old row j x h w b =
       let l : j < length old = omega (arith, w .was) in
@@ -227,10 +241,12 @@ module _ (p : ℕ → ℕ → Bool) (top : ℕ) (first : ℕ → ℕ) (n : ℕ) 
       let ld : length (drop (suc j) old) ≡ k = length-drop (suc j) old ∙ ap (λ (m : ℕ). m - suc j) (w .was) in
       let lt : 0 + length (take j old) ≡ j = omega (arith, length-take-le j old (omega arith)) in
       let here : StepsTo p top j (getD old j 0 ∷ drop (suc j) old) (x ∷ r) =
-      step-carry p top j (getD old j 0) x (drop (suc j) old) r (lr ∙ sym ld) (w .done) (rw (carried-at p top first n old row j h w) b) (rw ld (all-firsts k (suc j) (omega arith))) in
+      step-carry p top j (getD old j 0) x (drop (suc j) old) r (lr ∙ sym ld) (w .done) (rw (carried-at p top first n old row j h w) b)
+      (rw ld (all-firsts k (suc j) (omega arith))) in
       let under : StepsTo p top 0 (take j old ++ getD old j 0 ∷ drop (suc j) old) (take j old ++ x ∷ r) =
       steps-under p top (take j old) (getD old j 0 ∷ drop (suc j) old) (x ∷ r) 0 (ap suc (lr ∙ sym ld)) (rw lt here) in
       let a : old ≡ take j old ++ getD old j 0 ∷ drop (suc j) old = split-at old j 0 l in
       let c : set row j x ≡ take j old ++ x ∷ r =
-      set-split row j x (omega (arith, w .fresh .long)) ∙ ap₂ {C = List ℕ} (λ u v. u ++ x ∷ v) (carried-kept p top first n old row j w) (w .fresh .firsts) in
+      set-split row j x (omega (arith, w .fresh .long))
+      ∙ ap₂ {C = List ℕ} (λ u v. u ++ x ∷ v) (carried-kept p top first n old row j w) (w .fresh .firsts) in
       ap (rowsAfter p top 0) a ∙ under ∙ ap (λ (q : MaskRow). q ∷ rowsAfter p top 0 q) (sym c)

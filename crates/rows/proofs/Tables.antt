@@ -16,7 +16,8 @@ use Rattle.masks.proofs.Order.{below-mem, mem-below}
 use Rattle.masks.proofs.Step.{first-choice, next-below, test-valid}
 use Rattle.rows.specs.Rows.{MaskRow, classesAt, choicesAt, maskRows, Tables, Steps}
 use Rattle.rows.proofs.Order.{allFrom, all-once, all-are}
-use Rattle.rows.proofs.Stepping.{rowsAfter, rows-after, firstsFrom, firsts-at, Fresh, fresh-all, Carried, first-of-all, carried-at, carried-step, carried-end}
+use Rattle.rows.proofs.Stepping.{rowsAfter, rows-after, firstsFrom, firsts-at, Fresh, fresh-all, Carried, first-of-all, carried-at}
+use Rattle.rows.proofs.Stepping.{carried-step, carried-end}
 
 -- Whether a mask is a choice of function k, and the function's first choice.
 abbrev pub passesAt : List ℕ → ℕ → ℕ → Bool
@@ -33,10 +34,12 @@ all-rows : (ds : List ℕ) → maskRows ds ≡ allFrom (passesAt ds) (2 ^ width)
 unfolding maskRows choicesAt
 all-rows ds = refl
 
-starts : (ds : List ℕ) → Tables ds → (k : ℕ) → k < maxFunctions → below (passesAt ds k) (2 ^ width) ≡ firstAt ds k ∷ below (passesAt ds k) (firstAt ds k)
+starts : (ds : List ℕ) → Tables ds → (k : ℕ) → k < maxFunctions
+    → below (passesAt ds k) (2 ^ width) ≡ firstAt ds k ∷ below (passesAt ds k) (firstAt ds k)
 starts ds t k h = next-below width (classesAt ds k) (2 ^ width) (firstAt ds k) (first-choice width (classesAt ds k) (t .each k h))
 
-after : (ds : List ℕ) (before later : List MaskRow) (row : MaskRow) → maskRows ds ≡ before ++ (row ∷ later) → later ≡ rowsAfter (passesAt ds) (2 ^ width) 0 row
+after : (ds : List ℕ) (before later : List MaskRow) (row : MaskRow) → maskRows ds ≡ before ++ (row ∷ later)
+    → later ≡ rowsAfter (passesAt ds) (2 ^ width) 0 row
 after ds before later row e = rows-after (passesAt ds) (2 ^ width) 0 maxFunctions before later row (sym (all-rows ds) ∙ e)
 
 -- Main theorems. A mask is a choice of function k just when it passes the test, being small enough.
@@ -49,9 +52,13 @@ pub row-mem : (ds : List ℕ) (row : MaskRow) → row ∈ maskRows ds → (k : �
 unfolding choicesAt
 row-mem ds row m k h = all-are (passesAt ds) (2 ^ width) 0 maxFunctions row .0 (rw (all-rows ds) at m) .choice k k (omega arith) h
 
-pub mem-row : (ds : List ℕ) (row : MaskRow) → length row ≡ maxFunctions → ((k : ℕ) → k < maxFunctions → getD row k 0 ∈ choicesAt ds k) → row ∈ maskRows ds
+pub mem-row : (ds : List ℕ) (row : MaskRow) → length row ≡ maxFunctions → ((k : ℕ) → k < maxFunctions → getD row k 0 ∈ choicesAt ds k)
+    → row ∈ maskRows ds
 unfolding choicesAt
-mem-row ds row l c = rw (all-rows ds) (all-are (passesAt ds) (2 ^ width) 0 maxFunctions row .1 (record { long = l; choice = λ k j e h. let z : j ≡ k = omega arith in rw z (c k h) }))
+mem-row ds row l c =
+    rw (all-rows ds)
+    (all-are (passesAt ds) (2 ^ width) 0 maxFunctions row .1
+    (record { long = l; choice = λ k j e h. let z : j ≡ k = omega arith in rw z (c k h) }))
 
 -- Each row stands in the list once.
 pub maskRows-once : (ds : List ℕ) → Distinct (maskRows ds)
@@ -62,7 +69,8 @@ pub first-row : (ds : List ℕ) (row : MaskRow) → Tables ds → Fresh (firstAt
 first-row ds row t w = ap placeOf (all-rows ds ∙ first-of-all (passesAt ds) (2 ^ width) (firstAt ds) maxFunctions (starts ds t) row w)
 
 -- ... so that whatever row is the first has the first choice of each function.
-pub first-at : (ds : List ℕ) (row : MaskRow) → Tables ds → placeOf (maskRows ds) ≡ at row → (k : ℕ) → k < maxFunctions → getD row k 0 ≡ firstAt ds k
+pub first-at : (ds : List ℕ) (row : MaskRow) → Tables ds → placeOf (maskRows ds) ≡ at row → (k : ℕ) → k < maxFunctions
+    → getD row k 0 ≡ firstAt ds k
 first-at ds row t e k h =
     let d = first-row ds (firstsFrom (firstAt ds) maxFunctions 0 maxFunctions) t (fresh-all (firstAt ds) maxFunctions) in
     let q : row ≡ firstsFrom (firstAt ds) maxFunctions 0 maxFunctions = cc in
@@ -71,7 +79,8 @@ first-at ds row t e k h =
 
 -- The mask of a function that the step has come to, where it is not empty, is a choice that another follows.
 pub not-last : (ds : List ℕ) (old row : MaskRow) (j : ℕ) → Tables ds → old ∈ maskRows ds → j < maxFunctions
-    → Carried (passesAt ds) (2 ^ width) (firstAt ds) maxFunctions old row (suc j) → 0 < getD row j 0 → NotLast width (classesAt ds j) (getD row j 0)
+    → Carried (passesAt ds) (2 ^ width) (firstAt ds) maxFunctions old row (suc j) → 0 < getD row j 0
+    → NotLast width (classesAt ds j) (getD row j 0)
 unfolding choicesAt
 not-last ds old row j t m h w some =
     let e : getD old j 0 ≡ getD row j 0 = carried-at (passesAt ds) (2 ^ width) (firstAt ds) maxFunctions old row j h w in
@@ -79,11 +88,14 @@ not-last ds old row j t m h w some =
     record { table = t .each j h; valid = test-valid width (classesAt ds j) (getD row j 0) (rw e at v); some = some }
 
 -- The step is made at the last function with a choice left, and the later functions start anew.
-pub steps-on : (ds : List ℕ) (old row : MaskRow) (j x : ℕ) → Tables ds → j < maxFunctions → Carried (passesAt ds) (2 ^ width) (firstAt ds) maxFunctions old row (suc j)
+pub steps-on : (ds : List ℕ) (old row : MaskRow) (j x : ℕ) → Tables ds → j < maxFunctions
+    → Carried (passesAt ds) (2 ^ width) (firstAt ds) maxFunctions old row (suc j)
     → Next width (classesAt ds j) (getD row j 0) x → Steps ds old true (set row j x)
 unfolding Steps
 steps-on ds old row j x t h w nx before later e =
-    let d = after ds before later old e ∙ carried-step (passesAt ds) (2 ^ width) (firstAt ds) maxFunctions (starts ds t) old row j x h w (next-below width (classesAt ds j) (getD row j 0) x nx) in
+    let d = after ds before later old e
+    ∙ carried-step (passesAt ds) (2 ^ width) (firstAt ds) maxFunctions (starts ds t) old row j x h w
+    (next-below width (classesAt ds j) (getD row j 0) x nx) in
     record { goes = λ q. ap placeOf d; ends = λ q. absurd (true≢false q); clear = λ q. absurd (true≢false q) }
 
 -- Past the last there is no row left.

@@ -26,13 +26,15 @@ unfolding namesIn
 names-at names zero h = absurd (omega arith)
 names-at names (suc i) h = let w : suc i - 1 ≡ i = omega arith in rw w
 
-pub level-step : (names : List ℕ) (i x : ℕ) → 0 < i → (getD names (i - 1) 0 ≡ x → ⊥) → levelOf (namesIn names (i - 1)) x ≡ levelOf (namesIn names i) x
+pub level-step : (names : List ℕ) (i x : ℕ) → 0 < i → (getD names (i - 1) 0 ≡ x → ⊥)
+    → levelOf (namesIn names (i - 1)) x ≡ levelOf (namesIn names i) x
 unfolding levelOf
 level-step names i x h z = rw (names-at names i h, levelOf, ne-eqb x (getD names (i - 1) 0) (λ e. z (sym e)))
 
 pub level-here : (names : List ℕ) (i x : ℕ) → 0 < i → getD names (i - 1) 0 ≡ x → i - 1 + 1 ≡ levelOf (namesIn names i) x
 unfolding levelOf
-level-here names i x h e = rw (names-at names i h, levelOf, eq-eqb x (getD names (i - 1) 0) (sym e), names-length names (i - 1)) (omega arith)
+level-here names i x h e =
+    rw (names-at names i h, levelOf, eq-eqb x (getD names (i - 1) 0) (sym e), names-length names (i - 1)) (omega arith)
 
 pub level-none : (names : List ℕ) (i x : ℕ) → i ≤ 0 → 0 ≡ levelOf (namesIn names i) x
 unfolding levelOf namesIn

@@ -111,7 +111,8 @@ impl Site {
     // The token of a node that stands here, with so many nodes in all and so many children.
     pub fn token(self, node: Node, size: usize, count: usize) -> u64
         requires { ⌜ (self .scope .depth ≤ 32) × (size < 65536) × (count < 65536) ⌝ }
-        ensures { λ r. ⌜ r ≡ tokenOf (tagOf (labelOf node count)) (self .scope .depth) size (payloadOf (siteScope self) (labelOf node count)) ⌝ }
+        ensures { λ r. ⌜ r
+            ≡ tokenOf (tagOf (labelOf node count)) (self .scope .depth) size (payloadOf (siteScope self) (labelOf node count)) ⌝ }
     {
         token(
             node.tag(),

@@ -28,11 +28,21 @@ put-tail a o x h =
     ap (λ (l : List ℕ). take a o ++ (x ++ l)) (post-is a (length o) o h ∙ drop-length o) ∙ ap (λ (l : List ℕ). take a o ++ l) (append-nil x)
 
 -- Two rows of tokens, the second in the part after the first
-pub rows-joined : (T U o p x : List ℕ) → p ≡ T ++ drop (length T) o → x ≡ U ++ drop (length U) (take (length p - length T) (drop (length T) p))
+pub rows-joined : (T U o p x : List ℕ) → p ≡ T ++ drop (length T) o
+    → x ≡ U ++ drop (length U) (take (length p - length T) (drop (length T) p))
     → putMid (length T) (length p - length T) p x ≡ (T ++ U) ++ drop (length (T ++ U)) o
 rows-joined T U o p x hp hx =
     put-tail (length T) p x (omega (arith, ap length hp, length-append T (drop (length T) o)))
-    ∙ rw (hx, rest-all (length T) p, hp, take-append-seam T (drop (length T) o), drop-append-seam T (drop (length T) o), drop-drop (length U) (length T) o, length-append T U, append-assoc)
+    ∙ rw (
+      hx,
+      rest-all (length T) p,
+      hp,
+      take-append-seam T (drop (length T) o),
+      drop-append-seam T (drop (length T) o),
+      drop-drop (length U) (length T) o,
+      length-append T U,
+      append-assoc,
+    )
 
 -- A head before what stands in the part after it
 pub head-put : (o x : List ℕ) (t : ℕ) → 1 ≤ length o → set (putMid 1 (length o - 1) o x) 0 t ≡ t ∷ x

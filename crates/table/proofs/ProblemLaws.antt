@@ -19,7 +19,8 @@ use Rattle.meaning.specs.Read.{Answer, refused, got, after, Parts, inPattern, i
 use Rattle.tokens.specs.Token.{tokens, patternTokens, expressionTokens}
 use Rattle.fields.specs.Heads.{PartsDone}
 use Rattle.terms.specs.Reading.{Space, Written, termAnswer, TermDone}
-use Rattle.table.specs.Whole.{Spaces, TopDone, patternRow, expressionRow, pairedOf, pairAnswer, PairDone, ReadFits, listedOf, problemAnswer, ProblemDone}
+use Rattle.table.specs.Whole.{Spaces, TopDone, patternRow, expressionRow, pairedOf, pairAnswer, PairDone, ReadFits, listedOf}
+use Rattle.table.specs.Whole.{problemAnswer, ProblemDone}
 use Rattle.terms.specs.declared.term.Term.{Term}
 use Rattle.terms.specs.declared.term.Term.the-variants as terms
 use Rattle.table.specs.declared.answer.Read.{Read}
@@ -84,7 +85,8 @@ pair-read o p x y t later (got z) e hf hd hm hp d j =
 
 -- The returns of `read_pair`
 module _ (s o x : List ℕ) where
-  pub pair-refused : {r : ℕ} (p p′ y : List ℕ) → TermDone [] s (readTerm maxDepth inPattern s) o p (terms.Refused r) → PairDone (readPair s) o p′ x y (pairs.Refused r)
+  pub pair-refused : {r : ℕ} (p p′ y : List ℕ) → TermDone [] s (readTerm maxDepth inPattern s) o p (terms.Refused r)
+      → PairDone (readPair s) o p′ x y (pairs.Refused r)
   unfolding readPair pairAnswer Written termAnswer expressionOf
   pair-refused {r} p p′ y d = go (readTerm maxDepth inPattern s) (d .answer)
     where
@@ -108,7 +110,8 @@ module _ (s o x : List ℕ) where
       (omega (arith, t .bytesAre, within .room)) (t .nodesAre) (t .row) (rw part at f) j)
 
 -- Room for constraints
-pair-room : (s : Bytes) (c : Constraint) → readPair s ≡ got c → (3 * length (patternRow c) ≤ length s) × (3 * length (expressionRow c) ≤ length s)
+pair-room : (s : Bytes) (c : Constraint) → readPair s ≡ got c
+    → (3 * length (patternRow c) ≤ length s) × (3 * length (expressionRow c) ≤ length s)
 unfolding readPair
 pair-room s c h =
     let p = after-inv (readTerm maxDepth inPattern s) _ h in
@@ -135,7 +138,8 @@ pub pair-took : (s o p x y : List ℕ) (m n : ℕ) → PairDone (readPair s) o p
 unfolding pairAnswer Written
 pair-took s o p x y m n d = go (readPair s) refl (d .answer) (d .patternTable) (d .expressionTable)
   where
-    go : (a : Answer Constraint) → readPair s ≡ a → pairs.Read m n ≡ pairAnswer a → Written patternRow a o p → Written expressionRow a x y → PairTook s o p x y m n
+    go : (a : Answer Constraint) → readPair s ≡ a → pairs.Read m n ≡ pairAnswer a → Written patternRow a o p → Written expressionRow a x y
+        → PairTook s o p x y m n
     go (refused r) e h w v = absurd (let z : _≡_ {A = ℕ} 0 1 = cc in omega arith)
     go (got c) e h w v =
         let hm : m ≡ length (patternRow c) = cc in
@@ -189,12 +193,29 @@ problem-room (suc left) s p h =
     let room = pair-room (t .0 .content) (c .0) (c .1) in
     rw (← w)
     (record {
-      patterns = omega (arith, f, i .patterns, room .0, ap length (patterns-joined (c .0) (l .0)), length-append (patternRow (c .0)) (patternTokens (l .0)));
-      expressions = omega (arith, f, i .expressions, room .1, ap length (expressions-joined (c .0) (l .0)), length-append (expressionRow (c .0)) (expressionTokens (l .0)));
+      patterns =
+          omega (
+            arith,
+            f,
+            i .patterns,
+            room .0,
+            ap length (patterns-joined (c .0) (l .0)),
+            length-append (patternRow (c .0)) (patternTokens (l .0)),
+          );
+      expressions =
+          omega (
+            arith,
+            f,
+            i .expressions,
+            room .1,
+            ap length (expressions-joined (c .0) (l .0)),
+            length-append (expressionRow (c .0)) (expressionTokens (l .0)),
+          );
       count = omega (arith, f, i .count);
     }))
 
-pub problem-fits : (left : ℕ) (s o p x y : List ℕ) (r : Read) → ProblemDone (readConstraints left s) o p x y r → length s < 3 * 65536 → ReadFits r
+pub problem-fits : (left : ℕ) (s o p x y : List ℕ) (r : Read) → ProblemDone (readConstraints left s) o p x y r → length s < 3 * 65536
+    → ReadFits r
 unfolding problemAnswer
 problem-fits left s o p x y r d l = go (readConstraints left s) refl r (d .answer)
   where
@@ -209,7 +230,8 @@ unfolding readConstraints
 constraints-none zero s z = rw (eq-eqb (length s) 0 z)
 constraints-none (suc left) s z = rw (eq-eqb (length s) 0 z)
 
-constraints-cut : (left : ℕ) (s : Bytes) {r : ℕ} → (length s ≡ 0 → ⊥) → constraintHead left s ≡ refused r → readConstraints left s ≡ refused r
+constraints-cut : (left : ℕ) (s : Bytes) {r : ℕ} → (length s ≡ 0 → ⊥) → constraintHead left s ≡ refused r
+    → readConstraints left s ≡ refused r
 unfolding readConstraints
 constraints-cut zero s z h = rw (ne-eqb (length s) 0 z, h)
 constraints-cut (suc left) s z h = rw (ne-eqb (length s) 0 z, h)
@@ -227,21 +249,38 @@ problem-joined : (o p p′ x y y′ : List ℕ) (c : Constraint) (a : Answer Pro
     → ProblemDone a (take (length p - m) (drop m p)) p′ (take (length y - n) (drop n y)) y′ inner → r ≡ listedOf m n inner
     → ProblemDone (after a (λ cs. got (c ∷ cs))) o (putMid m (length p - m) p p′) x (putMid n (length y - n) y y′) r
 unfolding problemAnswer Written
-problem-joined o p p′ x y y′ c (refused q) inner hm hn hp hy d j = record { answer = j ∙ rw (d .answer); patternTable = tt; expressionTable = tt }
+problem-joined o p p′ x y y′ c (refused q) inner hm hn hp hy d j =
+    record { answer = j ∙ rw (d .answer); patternTable = tt; expressionTable = tt }
 problem-joined o p p′ x y y′ c (got cs) inner hm hn hp hy d j =
     record {
-      answer = j ∙ rw (d .answer, problemAnswer, hm, hn, patterns-joined c cs, expressions-joined c cs, length-append (patternRow c) (patternTokens cs), length-append (expressionRow c) (expressionTokens cs), add-one);
+      answer =
+          j
+          ∙ rw (
+            d .answer,
+            problemAnswer,
+            hm,
+            hn,
+            patterns-joined c cs,
+            expressions-joined c cs,
+            length-append (patternRow c) (patternTokens cs),
+            length-append (expressionRow c) (expressionTokens cs),
+            add-one,
+          );
       patternTable = rw (patterns-joined c cs, hm) (rows-joined (patternRow c) (patternTokens cs) o p p′ hp (rw hm at (d .patternTable)));
-      expressionTable = rw (expressions-joined c cs, hn) (rows-joined (expressionRow c) (expressionTokens cs) x y y′ hy (rw hn at (d .expressionTable)));
+      expressionTable =
+          rw (expressions-joined c cs, hn) (rows-joined (expressionRow c) (expressionTokens cs) x y y′ hy (rw hn at (d .expressionTable)));
     }
 
 -- The returns of `read_constraints`
 module _ (left : ℕ) (s o x : List ℕ) where
   pub problem-none : length s ≡ 0 → ProblemDone (readConstraints left s) o o x x (answers.Problem 0 0 0)
   unfolding problemAnswer Written patternTokens expressionTokens tokens
-  problem-none z = let e = constraints-none left s z in record { answer = rw (e, problemAnswer); patternTable = rw (e, Written); expressionTable = rw (e, Written) }
+  problem-none z =
+      let e = constraints-none left s z in
+      record { answer = rw (e, problemAnswer); patternTable = rw (e, Written); expressionTable = rw (e, Written) }
 
-  pub problem-cut : {r : ℕ} → (length s ≡ 0 → ⊥) → TopDone left s (tops.Refused r) → ProblemDone (readConstraints left s) o o x x (answers.Refused r)
+  pub problem-cut : {r : ℕ} → (length s ≡ 0 → ⊥) → TopDone left s (tops.Refused r)
+      → ProblemDone (readConstraints left s) o o x x (answers.Refused r)
   unfolding problemAnswer Written
   problem-cut z h =
       let e = constraints-cut left s z (sym (h .says)) in
@@ -249,22 +288,27 @@ module _ (left : ℕ) (s o x : List ℕ) where
 
   top-step : {n : ℕ} → (length s ≡ 0 → ⊥) → TopDone left s (tops.Content n)
       → readConstraints left s
-      ≡ after (readPair (take (3 + n - 3) (drop 3 s))) (λ c. after (readConstraints (left - 1) (take (length s - (3 + n)) (drop (3 + n) s))) (λ cs. got (c ∷ cs)))
+      ≡ after (readPair (take (3 + n - 3) (drop 3 s)))
+      (λ c. after (readConstraints (left - 1) (take (length s - (3 + n)) (drop (3 + n) s))) (λ cs. got (c ∷ cs)))
   top-step {n} z h = constraints-step left s z (h .fits .1) (sym (h .says)) ∙ rw (add-sub-cancel-left 3 n, rest-all (3 + n) s)
 
   pub problem-first : {n r : ℕ} (p p′ y y′ : List ℕ) → (length s ≡ 0 → ⊥) → TopDone left s (tops.Content n)
-      → PairDone (readPair (take (3 + n - 3) (drop 3 s))) o p x y (pairs.Refused r) → ProblemDone (readConstraints left s) o p′ x y′ (answers.Refused r)
+      → PairDone (readPair (take (3 + n - 3) (drop 3 s))) o p x y (pairs.Refused r)
+      → ProblemDone (readConstraints left s) o p′ x y′ (answers.Refused r)
   unfolding problemAnswer Written pairAnswer
   problem-first {n} {r} p p′ y y′ z h d = rw (top-step z h) (go (readPair (take (3 + n - 3) (drop 3 s))) (d .answer))
     where
       go : (a : Answer Constraint) → pairs.Refused r ≡ pairAnswer a
-          → ProblemDone (after a (λ c. after (readConstraints (left - 1) (take (length s - (3 + n)) (drop (3 + n) s))) (λ cs. got (c ∷ cs)))) o p′ x y′ (answers.Refused r)
+          → ProblemDone
+          (after a (λ c. after (readConstraints (left - 1) (take (length s - (3 + n)) (drop (3 + n) s))) (λ cs. got (c ∷ cs)))) o p′ x y′
+          (answers.Refused r)
       go (refused w) e = record { answer = cc; patternTable = tt; expressionTable = tt }
       go (got w) e = absurd (let v : _≡_ {A = ℕ} 0 1 = cc in omega arith)
 
   pub problem-listed : {n m k : ℕ} (p p′ y y′ : List ℕ) (inner r : Read) → (length s ≡ 0 → ⊥) → TopDone left s (tops.Content n)
       → PairDone (readPair (take (3 + n - 3) (drop 3 s))) o p x y (pairs.Read m k)
-      → ProblemDone (readConstraints (left - 1) (take (length s - (3 + n)) (drop (3 + n) s))) (take (length p - m) (drop m p)) p′ (take (length y - k) (drop k y)) y′ inner
+      → ProblemDone (readConstraints (left - 1) (take (length s - (3 + n)) (drop (3 + n) s))) (take (length p - m) (drop m p)) p′
+      (take (length y - k) (drop k y)) y′ inner
       → r ≡ listedOf m k inner
       → ProblemDone (readConstraints left s) o (putMid m (length p - m) p p′) x (putMid k (length y - k) y y′) r
   problem-listed {n} {m} {k} p p′ y y′ inner r z h d f j =
@@ -282,7 +326,12 @@ module _ (n : ℕ) (s : Bytes) (fits : 3 + n ≤ length s) where
   part-space r = record { table = omega (arith, content-length, r .table, fits) }
 
   pub content-spaces : {m k : ℕ} → Spaces (length s) m k → Spaces (length (take (3 + n - 3) (drop 3 s))) m k
-  content-spaces r = record { pattern = part-space (r .pattern); expression = part-space (r .expression); small = omega (arith, content-length, r .small, fits) }
+  content-spaces r =
+      record {
+        pattern = part-space (r .pattern);
+        expression = part-space (r .expression);
+        small = omega (arith, content-length, r .small, fits);
+      }
 
   pub constraints-length : length (take (length s - (3 + n)) (drop (3 + n) s)) ≡ length s - (3 + n)
   constraints-length = part-length (3 + n) (length s) s (fits) (omega arith)
@@ -294,17 +343,27 @@ module _ (n : ℕ) (s : Bytes) (fits : 3 + n ≤ length s) where
       record { table = omega (arith, constraints-length, b, h, r .table, fits) }
 
   pub constraints-spaces : (m k : ℕ) (p y : List ℕ) → 3 * m ≤ n → 3 * k ≤ n → Spaces (length s) (length p) (length y)
-      → Spaces (length (take (length s - (3 + n)) (drop (3 + n) s))) (length (take (length p - m) (drop m p))) (length (take (length y - k) (drop k y)))
+      → Spaces (length (take (length s - (3 + n)) (drop (3 + n) s))) (length (take (length p - m) (drop m p)))
+      (length (take (length y - k) (drop k y)))
   constraints-spaces m k p y h g r =
-      record { pattern = rest-space m p h (r .pattern); expression = rest-space k y g (r .expression); small = omega (arith, constraints-length, r .small) }
+      record {
+        pattern = rest-space m p h (r .pattern);
+        expression = rest-space k y g (r .expression);
+        small = omega (arith, constraints-length, r .small);
+      }
 
 -- The whole input: the returns of `read`
 pub problem-over : (s o x : List ℕ) → 4096 < length s → ProblemDone (readProblem s) o o x x (answers.Refused 1)
 unfolding readProblem maxInput problemAnswer Written
 problem-over s o x h =
-    record { answer = rw (lt-ltb 4096 (length s) h); patternTable = rw (lt-ltb 4096 (length s) h) tt; expressionTable = rw (lt-ltb 4096 (length s) h) tt }
+    record {
+      answer = rw (lt-ltb 4096 (length s) h);
+      patternTable = rw (lt-ltb 4096 (length s) h) tt;
+      expressionTable = rw (lt-ltb 4096 (length s) h) tt;
+    }
 
-pub problem-within : (s o p x y : List ℕ) (r : Read) → length s ≤ 4096 → ProblemDone (readConstraints 16 s) o p x y r → ProblemDone (readProblem s) o p x y r
+pub problem-within : (s o p x y : List ℕ) (r : Read) → length s ≤ 4096 → ProblemDone (readConstraints 16 s) o p x y r
+    → ProblemDone (readProblem s) o p x y r
 unfolding readProblem maxInput maxConstraints
 problem-within s o p x y r h d = rw (le-ltb 4096 (length s) h) d
 
@@ -327,13 +386,23 @@ pub record TablesOf (s o p x y : List ℕ) (m n k : ℕ) : Type 0 where
   pub patternTable : p ≡ patternTokens problem ++ drop m o
   pub expressionTable : y ≡ expressionTokens problem ++ drop n x
 
-pub read-accepted : (s o p x y : List ℕ) {m n k : ℕ} → ProblemDone (readProblem s) o p x y (answers.Problem m n k) → TablesOf s o p x y m n k
+pub read-accepted : (s o p x y : List ℕ) {m n k : ℕ} → ProblemDone (readProblem s) o p x y (answers.Problem m n k)
+    → TablesOf s o p x y m n k
 unfolding problemAnswer Written
 read-accepted s o p x y {m} {n} {k} d = go (readProblem s) refl (d .answer) (d .patternTable) (d .expressionTable)
   where
-    go : (a : Answer Problem) → readProblem s ≡ a → answers.Problem m n k ≡ problemAnswer a → Written patternTokens a o p → Written expressionTokens a x y → TablesOf s o p x y m n k
+    go : (a : Answer Problem) → readProblem s ≡ a → answers.Problem m n k ≡ problemAnswer a → Written patternTokens a o p
+        → Written expressionTokens a x y → TablesOf s o p x y m n k
     go (refused z) e h w v = absurd (let u : _≡_ {A = ℕ} 0 1 = cc in omega arith)
     go (got q) e h w v =
         let hm : m ≡ length (patternTokens q) = cc in
         let hn : n ≡ length (expressionTokens q) = cc in
-        record { problem = q; reads = e; patternNodes = hm; expressionNodes = hn; constraints = cc; patternTable = rw hm w; expressionTable = rw hn v }
+        record {
+          problem = q;
+          reads = e;
+          patternNodes = hm;
+          expressionNodes = hn;
+          constraints = cc;
+          patternTable = rw hm w;
+          expressionTable = rw hn v;
+        }

@@ -74,7 +74,8 @@ ReadFits (answers.Problem patterns expressions count) = (patterns < 65536) × (e
 
 abbrev pub listedOf : ℕ → ℕ → Read → Read
 listedOf pattern expression (answers.Refused r) = answers.Refused r
-listedOf pattern expression (answers.Problem patterns expressions count) = answers.Problem (pattern + patterns) (expression + expressions) (count + 1)
+listedOf pattern expression (answers.Problem patterns expressions count) =
+    answers.Problem (pattern + patterns) (expression + expressions) (count + 1)
 
 unfoldable pub problemAnswer : Answer Problem → Read
 problemAnswer (refused r) = answers.Refused r

@@ -62,7 +62,8 @@ fn paired(nodes: usize, due: usize, expression: Term) -> Pair
 
 fn read_pair(s: &[u8], patterns: &mut [u64], expressions: &mut [u64]) -> Pair
     requires { ⌜ Spaces (length (now s)) (length (now patterns)) (length (now expressions)) ⌝ }
-    ensures { λ r. ⌜ PairDone (readPair (now (s .entry))) (now (patterns .entry)) (now (patterns .exit)) (now (expressions .entry)) (now (expressions .exit)) r ⌝ }
+    ensures { λ r. ⌜ PairDone (readPair (now (s .entry))) (now (patterns .entry)) (now (patterns .exit)) (now (expressions .entry))
+        (now (expressions .exit)) r ⌝ }
 {
     match read_pattern(s, patterns) {
         Term::Refused(r) => Pair::Refused(r),
@@ -90,7 +91,8 @@ fn listed(pattern: usize, expression: usize, later: Read) -> Read
 
 fn read_constraints(s: &[u8], left: usize, patterns: &mut [u64], expressions: &mut [u64]) -> Read
     requires { ⌜ Spaces (length (now s)) (length (now patterns)) (length (now expressions)) ⌝ }
-    ensures { λ r. ⌜ ProblemDone (readConstraints left (now (s .entry))) (now (patterns .entry)) (now (patterns .exit)) (now (expressions .entry)) (now (expressions .exit)) r ⌝ }
+    ensures { λ r. ⌜ ProblemDone (readConstraints left (now (s .entry))) (now (patterns .entry)) (now (patterns .exit))
+        (now (expressions .entry)) (now (expressions .exit)) r ⌝ }
 {
     if s.len() == 0 {
         return Read::Problem(0, 0, 0);
@@ -119,7 +121,8 @@ fn read_constraints(s: &[u8], left: usize, patterns: &mut [u64], expressions: &m
 // Any bytes: document 01's refusal, or the problem's tokens at the front of the two tables.
 pub fn read(bytes: &[u8], patterns: &mut [u64], expressions: &mut [u64]) -> Read
     requires { ⌜ (tableRoom ≤ length (now patterns)) × (tableRoom ≤ length (now expressions)) ⌝ }
-    ensures { λ r. ⌜ ProblemDone (readProblem (now (bytes .entry))) (now (patterns .entry)) (now (patterns .exit)) (now (expressions .entry)) (now (expressions .exit)) r ⌝ }
+    ensures { λ r. ⌜ ProblemDone (readProblem (now (bytes .entry))) (now (patterns .entry)) (now (patterns .exit))
+        (now (expressions .entry)) (now (expressions .exit)) r ⌝ }
 {
     if MAX_INPUT < bytes.len() {
         return Read::Refused(1);

@@ -34,7 +34,8 @@ Fine read = (s : Bytes) (x : NamedTerm × Bytes) → read s ≡ got x → Within
 
 -- Inner fields take their bytes from the content
 module _ (read : Reader) (fine : Fine read) where
-  graft-room : (s : Bytes) (x : NamedTerm × Bytes) (f : Forest Named) → read s ≡ got x → 3 * size f ≤ length (x .1) → 3 * size (graft (x .0) f) ≤ length s
+  graft-room : (s : Bytes) (x : NamedTerm × Bytes) (f : Forest Named) → read s ≡ got x → 3 * size f ≤ length (x .1)
+      → 3 * size (graft (x .0) f) ≤ length s
   graft-room s x f e h = omega (arith, fine s x e .room)
 
   exactly-room : (n : ℕ) (s : Bytes) (f : Forest Named) → readExactly n read s ≡ got f → 3 * size f ≤ length s
@@ -146,7 +147,9 @@ term-fine (suc levels) ctx s x e =
     let c = after-inv (readContent (readTerm levels) ctx (b .0)) _ (b .2) in
     let q = head-read ctx s (a .0) (a .1) in
     let w : (c .0, a .0 .later) ≡ x = got-is (c .2) in
-    let room = content-room (readTerm levels) (term-fine levels) ctx (length (a .0 .content)) (b .0) (c .0) (content-in (a .0 .kind) (a .0 .content) (b .0) (b .1)) (c .1) in
+    let room =
+    content-room (readTerm levels) (term-fine levels) ctx (length (a .0 .content)) (b .0) (c .0)
+    (content-in (a .0 .kind) (a .0 .content) (b .0) (b .1)) (c .1) in
     let short : length (a .0 .content) ≤ q .size = rw (q .inside) (simp length-take (omega arith)) in
     let left : length (a .0 .later) ≡ length s - (3 + q .size) = rw (q .after) (length-drop (3 + q .size) s) in
     let taken : length s - length (a .0 .later) ≡ 3 + q .size = omega (arith, left, q .fits) in

@@ -19,7 +19,8 @@ use Rattle.meaning.specs.Read.{Answer, refused, got, after, Context, Reader, co
 use Rattle.tokens.specs.Token.{tokens}
 use Rattle.fields.specs.Heads.{labelOf, fixedOf, dueOf, readFields, openRead, OpenFits, OpenDone}
 use Rattle.sites.specs.Site.{siteScope}
-use Rattle.terms.specs.Reading.{Space, Written, termAnswer, TermDone, fieldsAnswer, FieldsDone, nextOf, FieldsFit, nodeToken, Closed, joinedOf, TermFits}
+use Rattle.terms.specs.Reading.{Space, Written, termAnswer, TermDone, fieldsAnswer, FieldsDone, nextOf, FieldsFit, nodeToken, Closed}
+use Rattle.terms.specs.Reading.{joinedOf, TermFits}
 use Rattle.terms.specs.declared.term.Term.{Term}
 use Rattle.terms.specs.declared.term.Term.the-variants as terms
 use Rattle.fields.specs.declared.node.Node.{Node}
@@ -51,7 +52,8 @@ all-bound read fine (suc n) zero s h l = let z : length s ≡ 0 = omega arith in
 all-bound read fine (suc n) (suc m) s h l = ap (choose (eqb (length s) 0) (got nil)) (go (λ r. all-bound read fine n m r) (read s) refl)
   where
     go : ((r : Bytes) → length r ≤ n → length r ≤ m → readAll n read r ≡ readAll m read r) → (a : Answer (NamedTerm × Bytes)) → read s ≡ a
-        → after a (λ x. after (readAll n read (x .1)) (λ f. got (graft (x .0) f))) ≡ after a (λ x. after (readAll m read (x .1)) (λ f. got (graft (x .0) f)))
+        → after a (λ x. after (readAll n read (x .1)) (λ f. got (graft (x .0) f)))
+        ≡ after a (λ x. after (readAll m read (x .1)) (λ f. got (graft (x .0) f)))
     go ih (refused r) e = refl
     go ih (got x) e = let w = fine s x e in rw (ih (x .1) (omega (arith, w .room)) (omega (arith, w .room)))
 
@@ -101,7 +103,8 @@ module _ (read : Reader) (fine : Fine read) (s : Bytes) where
   exactly-step zero z = absurd (z refl)
   exactly-step (suc n) z = let w : suc n - 1 ≡ n = omega arith in rw w
 
-  next-field : (due later : Due) → nextOf due (length s) ≡ nexts.Field later → readFields due read s ≡ after (read s) (fieldsFrom later read)
+  next-field : (due later : Due) → nextOf due (length s) ≡ nexts.Field later
+      → readFields due read s ≡ after (read s) (fieldsFrom later read)
   unfolding readFields
   next-field dues.All later h =
       by-choice (eqb (length s) 0) nexts.Done (nexts.Field dues.All) h
@@ -151,7 +154,8 @@ took-fits read fine sc s before after {k} {m} d =
 pub term-fits : (read : Reader) → Fine read → (sc s before after : List ℕ) (r : Term)
     → TermDone sc s (read s) before after r → length s < 3 * 65536 → TermFits r
 term-fits read fine sc s before after (terms.Refused q) d l = tt
-term-fits read fine sc s before after (terms.Took k m) d l = let w = took-fits read fine sc s before after d in omega (arith, w .nodes, w .within)
+term-fits read fine sc s before after (terms.Took k m) d l =
+    let w = took-fits read fine sc s before after d in omega (arith, w .nodes, w .within)
 
 pub fields-fit : (read : Reader) → Fine read → (sc : List ℕ) (due : Due) (s before after : List ℕ) (r : Fields)
     → FieldsDone sc (readFields due read s) before after r → length s < 3 * 65535 → FieldsFit r
@@ -164,14 +168,16 @@ fields-fit read fine sc due s before after r d l = go (readFields due read s) re
         let w = fields-room read fine due s f e in
         rw h (omega (arith, w, tokens-length sc f), omega (arith, w, trees-size f))
 
-pub later-part : (read : Reader) → Fine read → (sc : List ℕ) (s : Bytes) (before after : List ℕ) {k m : ℕ} (t : Took sc s (read s) before after k m)
+pub later-part : (read : Reader) → Fine read
+    → (sc : List ℕ) (s : Bytes) (before after : List ℕ) {k m : ℕ} (t : Took sc s (read s) before after k m)
     → take (length s - k) (drop k s) ≡ t .later
 later-part read fine sc s before after {k} t =
     let w = fine s (t .term, t .later) (t .reads) in
     rest-all k s ∙ ap (λ (n : ℕ). drop n s) (t .bytesAre) ∙ sym (w .rest)
 
 -- The fields after the first, joined to it
-fields-grafted : (sc o p x : List ℕ) (t : NamedTerm) (a : Answer (Forest Named)) (inner : Fields) {m : ℕ} {r : Fields} → m ≡ length (tokens sc (one t))
+fields-grafted : (sc o p x : List ℕ) (t : NamedTerm) (a : Answer (Forest Named)) (inner : Fields) {m : ℕ} {r : Fields}
+    → m ≡ length (tokens sc (one t))
     → p ≡ tokens sc (one t) ++ drop (length (tokens sc (one t))) o → inner ≡ fieldsAnswer sc a
     → Written (tokens sc) a (take (length p - m) (drop m p)) x → r ≡ joinedOf m inner
     → FieldsDone sc (after a (λ f. got (graft t f))) o (putMid m (length p - m) p x) r
@@ -213,7 +219,8 @@ module _ (read : Reader) (fine : Fine read) (sc : List ℕ) (due : Due) (s o : L
       let t = took sc s (read s) o p k m d in
       let part = later-part read fine sc s o p t in
       rw (next-field read fine s due later h, t .reads)
-      (fields-grafted sc o p x (t .term) (readFields later read (t .later)) inner (t .nodesAre) (t .row) (rw part at (f .answer)) (rw part at (f .table)) j)
+      (fields-grafted sc o p x (t .term) (readFields later read (t .later)) inner (t .nodesAre) (t .row) (rw part at (f .answer))
+      (rw part at (f .table)) j)
 
 label-enter : (n : Node) (count : ℕ) (sc : List ℕ) → enter (labelOf n count) sc ≡ enter (labelOf n 0) sc
 label-enter (nodes.Symbol x) count sc = refl
@@ -230,7 +237,13 @@ node-tokens : (x : Site) (n : Node) (f : Forest Named)
     ≡ nodeToken x n (length (tokens (enter (labelOf n 0) (siteScope x)) f) + 1) (trees f) ∷ tokens (enter (labelOf n 0) (siteScope x)) f
 unfolding tokens
 node-tokens x n f =
-    rw (label-enter n (trees f) (siteScope x), append-nil (tokens (enter (labelOf n 0) (siteScope x)) f), names-length (x .scope .names) (x .scope .depth), tokens-length (enter (labelOf n 0) (siteScope x)) f, add-one)
+    rw (
+      label-enter n (trees f) (siteScope x),
+      append-nil (tokens (enter (labelOf n 0) (siteScope x)) f),
+      names-length (x .scope .names) (x .scope .depth),
+      tokens-length (enter (labelOf n 0) (siteScope x)) f,
+      add-one,
+    )
 
 -- A node after its inner fields
 term-headed : (site : Site) (n : Node) (s o x : List ℕ) (end : ℕ) (a : Answer (Forest Named)) (inner : Fields) (o′ : List ℕ) (r : Term)
@@ -249,19 +262,22 @@ term-headed site n s o x end (got f) inner o′ r ho he e v c =
     ap (drop (length (tokens sc f))) (rest-all 1 o) ∙ drop-drop (length (tokens sc f)) 1 o ∙ rw one-more in
     record {
       answer = c .answer ∙ rw e (rw (node-tokens site n f, ← taken, add-one));
-      table = c .table ∙ rw e (head-put o x (nodeToken site n (length (tokens sc f) + 1) (trees f)) ho ∙ rw (node-tokens site n f, v, rest));
+      table =
+          c .table ∙ rw e (head-put o x (nodeToken site n (length (tokens sc f) + 1) (trees f)) ho ∙ rw (node-tokens site n f, v, rest));
     }
 
 -- The returns of `read_term`
 module _ (site : Site) (levels : ℕ) (ctx : Context) (s o : List ℕ) where
-  pub term-refused : {r : ℕ} → OpenDone levels ctx s (opens.Refused r) → TermDone (siteScope site) s (readTerm levels ctx s) o o (terms.Refused r)
+  pub term-refused : {r : ℕ} → OpenDone levels ctx s (opens.Refused r)
+      → TermDone (siteScope site) s (readTerm levels ctx s) o o (terms.Refused r)
   unfolding openRead termAnswer Written
   term-refused h = record { answer = rw (h .says, termAnswer); table = rw (h .says, Written) tt }
 
   pub term-closed : {levels′ : ℕ} {ctx′ : Context} {sc′ : List ℕ} (n : Node) (end : ℕ) (x o′ : List ℕ) (inner : Fields) (r : Term)
       → OpenDone levels ctx s (opens.Node n end) → 1 ≤ length o
       → levels′ ≡ levels - 1 → ctx′ ≡ contextBelow (labelOf n 0) ctx → sc′ ≡ enter (labelOf n 0) (siteScope site)
-      → FieldsDone sc′ (readFields (dueOf n) (readTerm levels′ ctx′) (take (end - (3 + fixedOf n)) (drop (3 + fixedOf n) s))) (take (length o - 1) (drop 1 o)) x inner
+      → FieldsDone sc′ (readFields (dueOf n) (readTerm levels′ ctx′) (take (end - (3 + fixedOf n)) (drop (3 + fixedOf n) s)))
+      (take (length o - 1) (drop 1 o)) x inner
       → Closed site n end inner (putMid 1 (length o - 1) o x) o′ r
       → TermDone (siteScope site) s (readTerm levels ctx s) o o′ r
   unfolding openRead
@@ -270,7 +286,8 @@ module _ (site : Site) (levels : ℕ) (ctx : Context) (s o : List ℕ) where
       (term-headed site n s o x end _ inner o′ r ho (h .fits .within) (rw (hl, hc, hs) at (f .answer)) (rw (hl, hc, hs) at (f .table)) c)
 
 -- Room for what is read inside: the calls of `read_term` and of `read_fields`
-pub inner-less : {levels fixed end : ℕ} (s : Bytes) → OpenFits levels (length s) fixed end → 2 * length (take (end - (3 + fixed)) (drop (3 + fixed) s)) + 1 < 2 * length s
+pub inner-less : {levels fixed end : ℕ} (s : Bytes) → OpenFits levels (length s) fixed end
+    → 2 * length (take (end - (3 + fixed)) (drop (3 + fixed) s)) + 1 < 2 * length s
 inner-less {levels} {fixed} {end} s h = omega (arith, part-length (3 + fixed) end s (h .start) (h .within), h .start, h .within)
 
 pub open-room : {levels fixed end : ℕ} (s o : List ℕ) → OpenFits levels (length s) fixed end → Space (length s) (length o) → 1 ≤ length o
@@ -283,7 +300,8 @@ inner-space {levels} {fixed} {end} s o h r =
     let b = part-length 1 (length o) o (open-room s o h r) (omega arith) in
     record { table = omega (arith, a, b, h .start, h .within, r .table) }
 
-pub inner-short : {levels fixed end : ℕ} (s : Bytes) → OpenFits levels (length s) fixed end → length (take (end - (3 + fixed)) (drop (3 + fixed) s)) < 65536
+pub inner-short : {levels fixed end : ℕ} (s : Bytes) → OpenFits levels (length s) fixed end
+    → length (take (end - (3 + fixed)) (drop (3 + fixed) s)) < 65536
 inner-short {levels} {fixed} {end} s h = omega (arith, part-length (3 + fixed) end s (h .start) (h .within), h .short)
 
 pub later-less : {k m : ℕ} (s : Bytes) → TookFits s k m → length (take (length s - k) (drop k s)) + 3 ≤ length s

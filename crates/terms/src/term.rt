@@ -88,7 +88,8 @@ fn joined(nodes: usize, later: Fields) -> Fields
 
 pub fn read_term(s: &[u8], site: Site, out: &mut [u64]) -> Term
     requires { ⌜ Room site (length (now s)) (length (now out)) ⌝ }
-    ensures { λ r. ⌜ TermDone (siteScope site) (now (s .entry)) (readTerm (site .levels) (siteContext site) (now (s .entry))) (now (out .entry)) (now (out .exit)) r ⌝ }
+    ensures { λ r. ⌜ TermDone (siteScope site) (now (s .entry)) (readTerm (site .levels) (siteContext site) (now (s .entry)))
+        (now (out .entry)) (now (out .exit)) r ⌝ }
 {
     let context = site.context;
     match open_term(s, context, site.levels) {
@@ -103,7 +104,8 @@ pub fn read_term(s: &[u8], site: Site, out: &mut [u64]) -> Term
 
 fn read_fields(s: &[u8], due: Due, site: Site, out: &mut [u64]) -> Fields
     requires { ⌜ Inner site (length (now s)) (length (now out)) ⌝ }
-    ensures { λ r. ⌜ FieldsDone (siteScope site) (readFields due (readTerm (site .levels) (siteContext site)) (now (s .entry))) (now (out .entry)) (now (out .exit)) r ⌝ }
+    ensures { λ r. ⌜ FieldsDone (siteScope site) (readFields due (readTerm (site .levels) (siteContext site)) (now (s .entry)))
+        (now (out .entry)) (now (out .exit)) r ⌝ }
 {
     match next_due(due, s.len()) {
         Next::Done => Fields::Read(0, 0),
@@ -128,7 +130,8 @@ pub fn read_pattern(s: &[u8], out: &mut [u64]) -> Term
 
 pub fn read_expression(s: &[u8], out: &mut [u64]) -> Term
     requires { ⌜ Space (length (now s)) (length (now out)) ⌝ }
-    ensures { λ r. ⌜ TermDone [] (now (s .entry)) (readTerm maxDepth inExpression (now (s .entry))) (now (out .entry)) (now (out .exit)) r ⌝ }
+    ensures { λ r. ⌜ TermDone [] (now (s .entry)) (readTerm maxDepth inExpression (now (s .entry))) (now (out .entry))
+        (now (out .exit)) r ⌝ }
 {
     read_term(s, Site::top(Context::Expression), out)
 }

@@ -118,7 +118,8 @@ abbrev pub Ranked : View ℕ → Type 0
 Ranked nil = Unit {0}
 Ranked (cons l c s) = (Coded l × (trees c ≡ arity l)) × Ranked c × Ranked s
 
-pub codes-injective : (u v : View ℕ) (xs ys : List ℕ) → trees u ≡ trees v → Ranked u → Ranked v → codes u ++ xs ≡ codes v ++ ys → (u ≡ v) × (xs ≡ ys)
+pub codes-injective : (u v : View ℕ) (xs ys : List ℕ) → trees u ≡ trees v → Ranked u → Ranked v → codes u ++ xs ≡ codes v ++ ys
+    → (u ≡ v) × (xs ≡ ys)
 codes-injective nil nil xs ys n a b e = (refl, e)
 codes-injective nil (cons l c s) xs ys n a b e = absurd (omega arith)
 codes-injective (cons l c s) nil xs ys n a b e = absurd (omega arith)
@@ -148,10 +149,12 @@ module _ (root : List ℕ) where
           → keyOfVariable (length root) (length sc) x (levelOf sc x) ≡ codeOfSeen (see (levelFrom root) k (bound j))
       split j g q (yes y) =
           let z : length sc - levelOf sc x ≡ j = omega arith in
-          key-inside _ _ _ _ (λ e. omega arith) (omega arith) ∙ ap (λ (i : ℕ). 4 * i + 1) z ∙ sym (ap codeOfSeen (choose-true _ _ (ltb-yes j k y)))
+          key-inside _ _ _ _ (λ e. omega arith) (omega arith) ∙ ap (λ (i : ℕ). 4 * i + 1) z
+          ∙ sym (ap codeOfSeen (choose-true _ _ (ltb-yes j k y)))
       split j g q (no y) =
           let z : levelOf sc x ≡ levelFrom root (j - k) = omega arith in
-          key-outside _ _ _ _ (λ e. omega arith) (omega arith) ∙ ap (λ (i : ℕ). 4 * i + 2) z ∙ sym (ap codeOfSeen (choose-false _ _ (ltb-no j k (omega arith))))
+          key-outside _ _ _ _ (λ e. omega arith) (omega arith) ∙ ap (λ (i : ℕ). 4 * i + 2) z
+          ∙ sym (ap codeOfSeen (choose-false _ _ (ltb-no j k (omega arith))))
 
       go : Resolved sc 0 x → keyOfVariable (length root) (length sc) x (levelOf sc x) ≡ codeOfSeen (see (levelFrom root) k (resolve sc 0 x))
       go (isFree p q) = key-free _ _ _ _ q ∙ sym (ap (λ (v : Variable). codeOfSeen (see (levelFrom root) k v)) p)
@@ -159,7 +162,8 @@ module _ (root : List ℕ) where
           let z : 0 + j ≡ j = omega arith in
           split j g q (decLt j k) ∙ sym (ap (λ (v : Variable). codeOfSeen (see (levelFrom root) k v)) (p ∙ ap bound z))
 
-  module _ (ctx : Context) (k : ℕ) (sc : List ℕ) (n : ℕ) (deep : length sc ≡ k + length root) (room : length sc < 256) (small : n < 65536) where
+  module _ (ctx : Context) (k : ℕ) (sc : List ℕ) (n : ℕ) (deep : length sc ≡ k + length root) (room : length sc < 256)
+      (small : n < 65536) where
     pub label-code : (l : Named) (c : Forest Named) → NodeFits ctx l c
         → keyOf (length root) (tokenOf (tagOf l) (length sc) n (payloadOf sc l)) ≡ code (seenLabel k (namelessLabel sc l))
     unfolding payloadOf keyOfPayload
@@ -178,14 +182,16 @@ module _ (root : List ℕ) where
     label-code (slot (hole i)) c f = key-token 10 (length sc) n i (omega arith) room small (length root)
 
 -- The keys of a forest's tokens are the codes of its view
-pub keys-codes : (root : List ℕ) (k levels : ℕ) (ctx : Context) (sc : List ℕ) (u : Forest Named) → length sc ≡ k + length root → Readable levels ctx u
+pub keys-codes : (root : List ℕ) (k levels : ℕ) (ctx : Context) (sc : List ℕ) (u : Forest Named) → length sc ≡ k + length root
+    → Readable levels ctx u
     → length sc + levels ≤ 256 → size u < 65536 → keys (length root) (tokens sc u) ≡ codes (viewFrom root k (nameless sc u))
 unfolding tokens
 keys-codes root k levels ctx sc nil deep r room small = refl
 keys-codes root k zero ctx sc (cons l c s) deep r room small = absurd r
 keys-codes root k (suc levels) ctx sc (cons l c s) deep r room small =
     let el = label-code root ctx k sc (suc (size c)) deep (omega arith) (omega arith) l c (r .0) in
-    let ec = keys-codes root (inner (namelessLabel sc l) k) levels (contextBelow l ctx) (enter l sc) c (enter-deep k (length root) sc l deep) (r .1)
+    let ec =
+    keys-codes root (inner (namelessLabel sc l) k) levels (contextBelow l ctx) (enter l sc) c (enter-deep k (length root) sc l deep) (r .1)
     (omega (arith, enter-room sc l)) (omega arith) in
     let es = keys-codes root k (suc levels) ctx sc s deep (r .2) room (omega arith) in
     ap₂ _∷_ el (map-append (keyOf (length root)) (tokens (enter l sc) c) (tokens sc s) ∙ ap₂ _++_ ec es)

@@ -21,7 +21,9 @@ example-expressions = refl
 -- Under two binders of the name 2, the application of the variables 2 and 3: the first belongs to the inner binder, at level 2, the
 -- second is free
 shadowed :
-    tokens [] (cons (own (binder 9 2)) (cons (own (binder 9 2)) (cons (own (application 2)) (cons (own (variable 2)) nil (cons (own (variable 3)) nil nil)) nil) nil) nil)
+    tokens []
+    (cons (own (binder 9 2))
+    (cons (own (binder 9 2)) (cons (own (application 2)) (cons (own (variable 2)) nil (cons (own (variable 3)) nil nil)) nil) nil) nil)
     ≡ tokenOf 4 0 5 (9 + 65536 * 2) ∷ tokenOf 4 1 4 (9 + 65536 * 2) ∷ tokenOf 3 2 3 2 ∷ tokenOf 2 2 1 (2 + 65536 * 2) ∷ tokenOf 2 2 1 3 ∷ []
 unfolding tokens payloadOf levelOf
 shadowed = refl

@@ -39,7 +39,8 @@ term-codes : (levels : ℕ) (ctx : Context) (sc : List ℕ) (t : NamedTerm) → 
     → keys (length sc) (tokens sc (one t)) ≡ codes (view (levelFrom sc) (one (namelessTerm sc t)))
 term-codes levels ctx sc t h = keys-codes sc 0 levels ctx sc (one t) (omega arith) (h .readable) (h .depths) (h .sizes)
 
-term-ranked : (levels : ℕ) (ctx : Context) (sc : List ℕ) (t : NamedTerm) → Held levels ctx sc t → Ranked (view (levelFrom sc) (one (namelessTerm sc t)))
+term-ranked : (levels : ℕ) (ctx : Context) (sc : List ℕ) (t : NamedTerm) → Held levels ctx sc t
+    → Ranked (view (levelFrom sc) (one (namelessTerm sc t)))
 term-ranked levels ctx sc t h = readable-ranked sc 0 levels ctx sc (one t) (h .readable)
 
 -- A term in a table
@@ -47,7 +48,8 @@ pub some-levels : (levels : ℕ) (ctx : Context) (t : NamedTerm) → Readable le
 some-levels zero ctx t r = absurd r
 some-levels (suc levels) ctx t r = omega arith
 
-module _ (levels : ℕ) (ctx : Context) (table : List ℕ) (a : ℕ) (sc : List ℕ) (t : NamedTerm) (h : Held levels ctx sc t) (s : Stands table a sc t) where
+module _ (levels : ℕ) (ctx : Context) (table : List ℕ) (a : ℕ) (sc : List ℕ) (t : NamedTerm) (h : Held levels ctx sc t)
+    (s : Stands table a sc t) where
   stands-at : at table a ≡ tokenOf (tagOf (t .0)) (length sc) (size (one t)) (payloadOf sc (t .0))
   unfolding tokens
   stands-at =
@@ -60,11 +62,13 @@ module _ (levels : ℕ) (ctx : Context) (table : List ℕ) (a : ℕ) (sc : List 
 
   pub stands-depth : depthIn (at table a) ≡ length sc
   stands-depth =
-      ap depthIn stands-at ∙ depth-token (tagOf (t .0)) (length sc) (size (one t)) (payloadOf sc (t .0)) (tag-room (t .0)) root-room (h .sizes)
+      ap depthIn stands-at
+      ∙ depth-token (tagOf (t .0)) (length sc) (size (one t)) (payloadOf sc (t .0)) (tag-room (t .0)) root-room (h .sizes)
 
   pub stands-size : sizeIn (at table a) ≡ size (one t)
   stands-size =
-      ap sizeIn stands-at ∙ size-token (tagOf (t .0)) (length sc) (size (one t)) (payloadOf sc (t .0)) (tag-room (t .0)) root-room (h .sizes)
+      ap sizeIn stands-at
+      ∙ size-token (tagOf (t .0)) (length sc) (size (one t)) (payloadOf sc (t .0)) (tag-room (t .0)) root-room (h .sizes)
 
   pub stands-part : part table a ≡ tokens sc (one t)
   stands-part = ap₂ take stands-size (s .split) ∙ take-at (tokens sc (one t)) (s .after) (size (one t)) (tokens-length sc (one t))
@@ -73,7 +77,8 @@ module _ (levels : ℕ) (ctx : Context) (table : List ℕ) (a : ℕ) (sc : List 
   unfolding keysAt
   stands-keys = ap₂ keys stands-depth stands-part
 
-  stands-uses : (p : ℕ → Variable → Bool) (d : ℕ) → Told p d (length sc) → usesAt table a d ≡ not (allVariables p 0 (one (namelessTerm sc t)))
+  stands-uses : (p : ℕ → Variable → Bool) (d : ℕ) → Told p d (length sc)
+      → usesAt table a d ≡ not (allVariables p 0 (one (namelessTerm sc t)))
   unfolding usesAt
   stands-uses p d told =
       ap₂ (anyReaches d) stands-depth stands-part
@@ -82,7 +87,8 @@ module _ (levels : ℕ) (ctx : Context) (table : List ℕ) (a : ℕ) (sc : List 
 -- Main theorems
 
 -- Equal keys are equal views
-pub keys-equal : (levels levels′ : ℕ) (ctx ctx′ : Context) (sc sc′ : List ℕ) (t u : NamedTerm) → Held levels ctx sc t → Held levels′ ctx′ sc′ u
+pub keys-equal : (levels levels′ : ℕ) (ctx ctx′ : Context) (sc sc′ : List ℕ) (t u : NamedTerm) → Held levels ctx sc t
+    → Held levels′ ctx′ sc′ u
     → (keys (length sc) (tokens sc (one t)) ≡ keys (length sc′) (tokens sc′ (one u)))
     ↔ Equal (levelFrom sc) (levelFrom sc′) (namelessTerm sc t) (namelessTerm sc′ u)
 keys-equal levels levels′ ctx ctx′ sc sc′ t u h h′ = (
@@ -94,7 +100,8 @@ keys-equal levels levels′ ctx ctx′ sc sc′ t u h h′ = (
   λ e. term-codes levels ctx sc t h ∙ ap codes e ∙ sym (term-codes levels′ ctx′ sc′ u h′),
 )
 
-module _ (levels : ℕ) (ctx : Context) (table : List ℕ) (a : ℕ) (sc : List ℕ) (t : NamedTerm) (h : Held levels ctx sc t) (s : Stands table a sc t) where
+module _ (levels : ℕ) (ctx : Context) (table : List ℕ) (a : ℕ) (sc : List ℕ) (t : NamedTerm) (h : Held levels ctx sc t)
+    (s : Stands table a sc t) where
   -- What the functions of `same` ask of a node
   pub stands-inside : Inside table a
   stands-inside =
@@ -123,7 +130,8 @@ module _ (levels : ℕ) (ctx : Context) (table : List ℕ) (a : ℕ) (sc : List 
       (λ q. n .0 (sym e ∙ q), λ q. e ∙ n .1 q)
 
 -- What `same` answers
-pub same-means : (levels levels′ : ℕ) (ctx ctx′ : Context) (table : List ℕ) (a b : ℕ) (sc sc′ : List ℕ) (t u : NamedTerm) → Held levels ctx sc t
+pub same-means : (levels levels′ : ℕ) (ctx ctx′ : Context) (table : List ℕ) (a b : ℕ) (sc sc′ : List ℕ) (t u : NamedTerm)
+    → Held levels ctx sc t
     → Held levels′ ctx′ sc′ u → Stands table a sc t → Stands table b sc′ u
     → (sameAt table a b ≡ true) ↔ Equal (levelFrom sc) (levelFrom sc′) (namelessTerm sc t) (namelessTerm sc′ u)
 unfolding sameAt

@@ -80,7 +80,8 @@ module _ (levels : ℕ) (sc : List ℕ) (l : Named) (c s : Forest Named) (h : Ro
   room-later = record { depths = h .depths; sizes = omega (arith, h .sizes) }
 
 -- Each token counts itself
-tokens-counted : (levels : ℕ) (ctx : Context) (sc : List ℕ) (u : Forest Named) → Readable levels ctx u → Room levels sc u → All (λ x. 1 ≤ sizeIn x) (tokens sc u)
+tokens-counted : (levels : ℕ) (ctx : Context) (sc : List ℕ) (u : Forest Named) → Readable levels ctx u → Room levels sc u
+    → All (λ x. 1 ≤ sizeIn x) (tokens sc u)
 unfolding tokens
 tokens-counted levels ctx sc nil r h = tt
 tokens-counted zero ctx sc (cons l c s) r h = absurd r
@@ -98,7 +99,10 @@ all-at P (x ∷ xs) a (suc k) h = all-at P xs (a .1) k (omega arith)
 
 tokens-table : (levels : ℕ) (ctx : Context) (u : Forest Named) → Readable levels ctx u → Room levels [] u → Table (tokens [] u)
 tokens-table levels ctx u r h =
-    record { counted = all-at (λ x. 1 ≤ sizeIn x) (tokens [] u) (tokens-counted levels ctx [] u r h); small = omega (arith, tokens-length [] u, h .sizes) }
+    record {
+      counted = all-at (λ x. 1 ≤ sizeIn x) (tokens [] u) (tokens-counted levels ctx [] u r h);
+      small = omega (arith, tokens-length [] u, h .sizes);
+    }
 
 module _ (p : Problem) (w : WithinLimits p) where
   pub patterns-room : Room maxDepth [] (namedPatterns p)

@@ -59,7 +59,8 @@ some-then : {A B : Type 0} (o : Option A) (f : A → B) → isSome (andThen o (�
 some-then none f = refl
 some-then (some a) f = refl
 
-both-then : {A B : Type 0} (o : Option A) (f : A → Option B) (b : Bool) → ((a : A) → isSome (f a) ≡ b) → isSome (andThen o f) ≡ isSome o && b
+both-then : {A B : Type 0} (o : Option A) (f : A → Option B) (b : Bool) → ((a : A) → isSome (f a) ≡ b)
+    → isSome (andThen o f) ≡ isSome o && b
 both-then none f b h = refl
 both-then (some a) f b h = h a
 
@@ -87,7 +88,8 @@ not-all false b c = refl
 any-append : (d r : ℕ) (xs ys : List ℕ) → anyReaches d r (xs ++ ys) ≡ anyReaches d r xs || anyReaches d r ys
 unfolding anyReaches
 any-append d r [] ys = refl
-any-append d r (x ∷ xs) ys = ap (λ (b : Bool). reaches d r x || b) (any-append d r xs ys) ∙ sym (or-assoc (reaches d r x) (anyReaches d r xs) (anyReaches d r ys))
+any-append d r (x ∷ xs) ys =
+    ap (λ (b : Bool). reaches d r x || b) (any-append d r xs ys) ∙ sym (or-assoc (reaches d r x) (anyReaches d r xs) (anyReaches d r ys))
 
 -- A test of variables that fails where the level lies above d and is at most r
 abbrev pub Told : (ℕ → Variable → Bool) → ℕ → ℕ → Type 0
@@ -105,19 +107,24 @@ module _ (p : ℕ → Variable → Bool) (d r : ℕ) (told : Told p d r) where
         reaches-level d r (tokenOf 2 e n q) (tag-token 2 e n q (omega arith) room small) level
         (sym (ap (λ (i : ℕ). i / 65536) (payload-token 2 e n q (omega arith) room small) ∙ a))
 
-  label-reaches : (ctx : Context) (k : ℕ) (sc : List ℕ) (n : ℕ) → length sc ≡ k + r → length sc < 256 → n < 65536 → (l : Named) (c : Forest Named)
+  label-reaches : (ctx : Context) (k : ℕ) (sc : List ℕ) (n : ℕ) → length sc ≡ k + r → length sc < 256 → n < 65536
+      → (l : Named) (c : Forest Named)
       → NodeFits ctx l c → reaches d r (tokenOf (tagOf l) (length sc) n (payloadOf sc l)) ≡ not (testLabel p k (namelessLabel sc l))
   unfolding payloadOf testLabel
-  label-reaches ctx k sc n deep room small (own (symbol m)) c f = other-reaches (length sc) n room small 1 m (omega arith) (λ z. omega arith)
-  label-reaches ctx k sc n deep room small (own (variable x)) c f = variable-reaches (length sc) n room small x (levelOf sc x) (f .0) ∙ told k sc x deep
-  label-reaches ctx k sc n deep room small (own (application m)) c f = other-reaches (length sc) n room small 3 m (omega arith) (λ z. omega arith)
+  label-reaches ctx k sc n deep room small (own (symbol m)) c f =
+      other-reaches (length sc) n room small 1 m (omega arith) (λ z. omega arith)
+  label-reaches ctx k sc n deep room small (own (variable x)) c f =
+      variable-reaches (length sc) n room small x (levelOf sc x) (f .0) ∙ told k sc x deep
+  label-reaches ctx k sc n deep room small (own (application m)) c f =
+      other-reaches (length sc) n room small 3 m (omega arith) (λ z. omega arith)
   label-reaches ctx k sc n deep room small (own (binder b x)) c f =
       other-reaches (length sc) n room small 4 (b + 65536 * x) (omega arith) (λ z. omega arith)
   label-reaches ctx k sc n deep room small (slot (metavariable m)) c f = other-reaches (length sc) n room small 5 m (omega arith) (λ z. omega arith)
   label-reaches ctx k sc n deep room small (slot (function g a)) c f = other-reaches (length sc) n room small 6 g (omega arith) (λ z. omega arith)
   label-reaches ctx k sc n deep room small (slot (hole i)) c f = other-reaches (length sc) n room small 10 i (omega arith) (λ z. omega arith)
 
-  pub tokens-reach : (k levels : ℕ) (ctx : Context) (sc : List ℕ) (u : Forest Named) → length sc ≡ k + r → Readable levels ctx u → length sc + levels ≤ 256
+  pub tokens-reach : (k levels : ℕ) (ctx : Context) (sc : List ℕ) (u : Forest Named) → length sc ≡ k + r → Readable levels ctx u
+      → length sc + levels ≤ 256
       → size u < 65536 → anyReaches d r (tokens sc u) ≡ not (allVariables p k (nameless sc u))
   unfolding tokens anyReaches allVariables
   tokens-reach k levels ctx sc nil deep f room small = refl
@@ -128,7 +135,8 @@ module _ (p : ℕ → Variable → Bool) (d r : ℕ) (told : Told p d r) where
       (omega (arith, enter-room sc l)) (omega arith) in
       let es = tokens-reach k (suc levels) ctx sc s deep (f .2) room (omega arith) in
       ap₂ _||_ el (any-append d r (tokens (enter l sc) c) (tokens sc s) ∙ ap₂ _||_ ec es)
-      ∙ not-all (testLabel p k (namelessLabel sc l)) (allVariables p (inner (namelessLabel sc l) k) (nameless (enter l sc) c)) (allVariables p k (nameless sc s))
+      ∙ not-all (testLabel p k (namelessLabel sc l)) (allVariables p (inner (namelessLabel sc l) k) (nameless (enter l sc) c))
+      (allVariables p k (nameless sc s))
 
 -- Whether a level lies between two depths, and whether an index belongs to one of the binders between
 module _ (d r level : ℕ) where
@@ -154,7 +162,8 @@ module _ (n k j : ℕ) where
 pub told-closed : (r : ℕ) → Told isClosedVariable 0 r
 told-closed r k sc x deep = go (resolved sc 0 x)
   where
-    split : (j : ℕ) → j < length sc → levelOf sc x + j ≡ length sc → Dec (j < k) → ltb 0 (levelOf sc x) && leb (levelOf sc x) r ≡ not (ltb j k)
+    split : (j : ℕ) → j < length sc → levelOf sc x + j ≡ length sc → Dec (j < k)
+        → ltb 0 (levelOf sc x) && leb (levelOf sc x) r ≡ not (ltb j k)
     split j g q (yes y) = level-below 0 r (levelOf sc x) (omega arith) ∙ sym (ap not (ltb-yes j k y))
     split j g q (no y) = level-between 0 r (levelOf sc x) (omega arith) (omega arith) ∙ sym (ap not (ltb-no j k (omega arith)))
 

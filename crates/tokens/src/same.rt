@@ -7,7 +7,8 @@ ghost use mathlib.Core.Path.{_≡_};
 ghost use Prim.Native.Nat.{_+_, _-_, _*_, _<_, _≤_, min};
 ghost use lib.ListN.{length};
 ghost use lib.Dec.{eqb};
-ghost use Rattle.tokens.specs.Key.{keyOfVariable, keyOfPayload, keyOf, keys, nodes, sameList, sameAt, Inside, reaches, anyReaches, usesAt, closedAt};
+ghost use Rattle.tokens.specs.Key.{keyOfVariable, keyOfPayload, keyOf, keys, nodes, sameList, sameAt, Inside, reaches, anyReaches};
+ghost use Rattle.tokens.specs.Key.{usesAt, closedAt};
 
 // A bound variable's de Bruijn index. No term's table has a level past the depth; should one, the answer is 0.
 fn index(depth: u64, level: u64) -> u64

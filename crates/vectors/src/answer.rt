@@ -22,34 +22,21 @@ fn print_number(n: u64) {
     io::print_decimal(STDOUT_FILENO, n);
 }
 
+fn end_line() {
+    print(b"\n");
+}
+
 // A line that is no input.
 pub fn bad(line: &[u8]) {
     print(b"bad line: ");
     print(line);
-    print(b"\n");
-}
-
-pub fn no_kind(label: &[u8]) {
-    print(label);
-    print(b": no such kind\n");
-}
-
-pub fn too_long() {
-    print(b"the input is too long\n");
+    end_line();
 }
 
 fn print_refused(r: u8) {
     print(b": refused ");
     print_number(r as u64);
-    print(b"\n");
-}
-
-fn print_rows(agree: bool) {
-    if agree {
-        print(b", rows\n");
-    } else {
-        print(b", no rows\n");
-    }
+    end_line();
 }
 
 fn print_accepted(a: Standing) {
@@ -58,6 +45,15 @@ fn print_accepted(a: Standing) {
     print(b" and ");
     print_number(a.expressions as u64);
     print_rows(a.agree);
+    end_line();
+}
+
+fn print_rows(agree: bool) {
+    if agree {
+        print(b", rows");
+    } else {
+        print(b", no rows");
+    }
 }
 
 pub fn show_problem(label: &[u8], bytes: &[u8]) {
@@ -80,7 +76,7 @@ fn print_term(label: &[u8], term: Term) {
             print_number(bytes as u64);
             print(b", nodes ");
             print_number(nodes as u64);
-            print(b"\n");
+            end_line();
         }
     }
 }

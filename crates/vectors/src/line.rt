@@ -52,7 +52,7 @@ fn show_input(kind: u8, label: &[u8], bytes: &[u8])
         84 => answer::show_pattern(label, bytes),
         69 => answer::show_expression(label, bytes),
         66 => answer::show_body(label, bytes),
-        _ => answer::no_kind(label),
+        _ => answer::bad(label),
     }
 }
 

@@ -1,8 +1,8 @@
 // Reads inputs from standard input, a line for each, and prints the label of each with what the matcher answers. The file `stdout` is
 // worked out by hand from document 01. A line is
 //     KIND HEX LABEL
-// where KIND is P for a problem, and T, E, B for a pattern, an expression, a body by itself; HEX is the input's bytes, two upper-case digits
-// for each; and one space stands between the parts. Any other line is printed as a bad one.
+// where KIND is P for a problem, and T, E, B for a pattern, an expression, a body by itself; HEX is the input's bytes, two upper-case
+// digits for each; and one space stands between the parts. Any other line is printed as a bad one.
 mod answer;
 mod line;
 
@@ -41,7 +41,7 @@ fn main() {
     let mut input = io::large_buffer();
     let n = io::read_full(0, &mut input);
     if MOST < n {
-        answer::too_long();
+        answer::bad(b"the input is too long");
         return;
     }
     show_all(&input[..n]);

@@ -10,7 +10,8 @@ use Rattle.table.specs.Whole.{ProblemDone}
 use Rattle.table.specs.declared.answer.Read.{Read}
 use Rattle.table.specs.declared.answer.Read.the-variants as answers
 use borrow.Author.Needs.{needs}
-use Rattle.accept.proofs.AcceptanceLaws.{AreBytes, are-bytes, pattern-ready, expression-ready, few-tokens, patterns-inside, expressions-inside, accepts-refused, accepts-checked}
+use Rattle.accept.proofs.AcceptanceLaws.{AreBytes, are-bytes, pattern-ready, expression-ready, few-tokens, patterns-inside}
+use Rattle.accept.proofs.AcceptanceLaws.{expressions-inside, accepts-refused, accepts-checked}
 use Rattle.accept.proofs.accept.Statement.{statement}
 use Rattle.accept.proofs.accept.Tie as tie
 
@@ -47,7 +48,12 @@ module _ (c : tie.After-p) where
   k = c .p .given .0 .1 .1 .0
 
   bytes : AreBytes s
-  bytes = are-bytes s (λ i. omega (arith, c .before .before .before .before .before .before .before .before .before .before .before .before .shared-slice-known .given i))
+  bytes =
+      are-bytes s
+      (λ i. omega (
+        arith,
+        c .before .before .before .before .before .before .before .before .before .before .before .before .shared-slice-known .given i,
+      ))
 
   done : ProblemDone (readProblem s) o p x y (answers.Problem m n k)
   done = subst (λ (a : Read). ProblemDone (readProblem s) o p x y a) (c .p .given .1) (after .read .ensures)
@@ -103,7 +109,8 @@ returns : tie.Need-returns
 returns c =
     let start = c .before .before .before .before .before .before .before .before .before .before .before .before .before .before in
     let after = c .before .before .before .before .before .before .before in
-    accepts-refused (start .args .problem .now) (start .args .ps .now) (after .read .last .1 .0) (start .args .es .now) (after .read .last .1 .1 .0)
+    accepts-refused (start .args .problem .now) (start .args .ps .now) (after .read .last .1 .0) (start .args .es .now)
+    (after .read .last .1 .1 .0)
     (start .args .faces .now) (rw (c .before .r .given .1) at (after .read .ensures))
 
 same-length-3 : tie.Need-same-length-3

@@ -26,7 +26,8 @@ returns : tie.Need-returns
 returns c =
     let s = c .before .before .before .before .before .before .before .before .before .before .before .args in
     let found = c .before .before .before .before .before .before .check in
-    checks-refused (s .ps .now) (s .es .now) (s .faces .now) (found .last .1 .1 .0) (found .result) (found .ensures) (c .before .found .given .0 .0) (c .before .found .given .1)
+    checks-refused (s .ps .now) (s .es .now) (s .faces .now) (found .last .1 .1 .0) (found .result) (found .ensures)
+    (c .before .found .given .0 .0) (c .before .found .given .1)
 
 same-length-2 : tie.Need-same-length-2
 same-length-2 c = search needs
@@ -36,7 +37,8 @@ returns-2 c =
     let s = c .before .before .before .before .before .before .before .before .before .before .args in
     let found = c .before .before .before .before .before .check in
     let survey = c .before .before .survey in
-    checks-none (s .ps .now) (s .es .now) (s .faces .now) (found .last .1 .1 .0) (found .result) (found .ensures) (survey .result) (survey .ensures)
+    checks-none (s .ps .now) (s .es .now) (s .faces .now) (found .last .1 .1 .0) (found .result) (found .ensures) (survey .result)
+    (survey .ensures)
     (c .enum-told .given .1)
 
 same-length-3 : tie.Need-same-length-3
@@ -47,7 +49,8 @@ returns-3 c =
     let s = c .before .before .before .before .before .before .before .before .before .before .before .args in
     let found = c .before .before .before .before .before .before .check in
     let survey = c .before .before .before .survey in
-    checks-faces (s .ps .now) (s .es .now) (s .faces .now) (found .last .1 .1 .0) (found .result) (found .ensures) (survey .result) (survey .ensures)
+    checks-faces (s .ps .now) (s .es .now) (s .faces .now) (found .last .1 .1 .0) (found .result) (found .ensures) (survey .result)
+    (survey .ensures)
     (c .before .found2 .given .0 .0) (c .before .found2 .given .1)
 
 pub checked-spec : {M : Type 1} → statement M

@@ -36,8 +36,12 @@ loop-again : tie.Need-loop-again Inv-loop μ-loop
 loop-again c =
     let ds = c .before .before .before .before .before .before .before .args .ds .now in
     let step = c .before .before .before .next-row in
-    let more : step .result .more ≡ true = not-false (step .result .more) (c .before .if1 .left) in
-    (omega arith, step-in ds (c .before .before .before .before .before .loop .reached) (step .result .row) (subst (λ (m : Bool). Steps ds (c .before .before .before .before .before .loop .reached) m (step .result .row)) more (step .ensures)) (c .before .before .before .before .before .loop .inv .1))
+    let more : step .result .more ≡ true = not-false (step .result .more) (c .before .if1 .left) in (
+      omega arith,
+      step-in ds (c .before .before .before .before .before .loop .reached) (step .result .row)
+          (subst (λ (m : Bool). Steps ds (c .before .before .before .before .before .loop .reached) m (step .result .row)) more (step .ensures))
+          (c .before .before .before .before .before .loop .inv .1),
+    )
 
 returns-2 : tie.Need-returns-2 Inv-loop μ-loop
 returns-2 c = search needs

@@ -28,8 +28,12 @@ size-requires c κs = search needs
 
 loop-holds : tie.Need-loop-holds Inv-loop μ-loop
 loop-holds c =
-    let s = c .before .before .before in
-    (omega arith, omega (arith, c .size .ensures), c .size .ensures, grown-none width (sameFrom (s .args .es .now) (s .args .root)) (s .args .i))
+    let s = c .before .before .before in (
+      omega arith,
+      omega (arith, c .size .ensures),
+      c .size .ensures,
+      grown-none width (sameFrom (s .args .es .now) (s .args .root)) (s .args .i),
+    )
 
 add-same : tie.Need-add-same Inv-loop μ-loop
 add-same c = search needs
@@ -71,7 +75,8 @@ loop-again c =
 returns : tie.Need-returns Inv-loop μ-loop
 returns c =
     let at = c .before in
-    let e : at .loop .k ≡ sizeFrom (at .before .before .before .before .args .es .now) (at .before .before .before .before .args .root) = omega (arith, at .loop .inv .2) in
+    let e : at .loop .k ≡ sizeFrom (at .before .before .before .before .args .es .now) (at .before .before .before .before .args .root) =
+    omega (arith, at .loop .inv .2) in
     rw e at (at .loop .inv .3)
 
 pub class-of-spec : {M : Type 1} → statement M

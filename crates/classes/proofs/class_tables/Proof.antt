@@ -73,13 +73,15 @@ loop-again c =
     let at = c .before .before .before .before .before .loop in
     let x : List ℕ = c .before .before .face-classes .last .1 .1 .0 in
     let end : at .k * width + width ≤ length (at .ds) = omega (arith, at .inv .2) in
-    let kept : length x ≡ length (take ((at .k * width + width) - at .k * width) (drop (at .k * width) (at .ds))) = c .before .before .face-classes .kept .1 .1 .0 in
+    let kept : length x ≡ length (take ((at .k * width + width) - at .k * width) (drop (at .k * width) (at .ds))) =
+    c .before .before .face-classes .kept .1 .1 .0 in
     let n : length x ≡ width = kept ∙ part-length (at .k * width) (at .k * width + width) (at .ds) (omega arith) end ∙ part (at .k) in
     let l = same-len-mid (at .k * width) ((at .k * width + width) - at .k * width) (at .ds) x kept in (
       omega arith,
       at .inv .1,
       l ∙ at .inv .2,
-      filled-more (s .args .es .now) (s .args .t2) (at .ds) x (at .k) (at .inv .3) (less-few (at .k) (s .args .count) (omega arith) (s .pre .0 .few)) n l
+      filled-more (s .args .es .now) (s .args .t2) (at .ds) x (at .k) (at .inv .3)
+          (less-few (at .k) (s .args .count) (omega arith) (s .pre .0 .few)) n l
           (c .before .before .face-classes .ensures),
     )
 
@@ -93,7 +95,8 @@ returns c =
     let s = c .before .before .before .before .before .before .before .before in
     let at = c .before .loop in
     let e : at .k ≡ s .args .count = omega arith in
-    filled-all (s .args .es .now) (s .args .t2) (at .ds) (s .args .count) (subst (λ (k : ℕ). Filled (s .args .es .now) (s .args .t2) k (at .ds)) e (at .inv .3))
+    filled-all (s .args .es .now) (s .args .t2) (at .ds) (s .args .count)
+    (subst (λ (k : ℕ). Filled (s .args .es .now) (s .args .t2) k (at .ds)) e (at .inv .3))
 
 pub class-tables-spec : {M : Type 1} → statement M
 class-tables-spec =

@@ -34,8 +34,12 @@ loop-less c = omega (arith, c .before .loop .inv .1)
 loop-again : tie.Need-loop-again Inv-loop μ-loop
 loop-again c =
     let at = c .before .loop in
-    let less : at .i < length (at .ds) = omega arith in
-    (omega (arith, length-set (at .ds) (at .i) 0), length-set (at .ds) (at .i) 0 ∙ at .inv .1, cleared-more (at .ds) (at .i) less (at .inv .2))
+    let less : at .i < length (at .ds) = omega arith in (
+      omega (arith, length-set (at .ds) (at .i) 0),
+      length-set (at .ds) (at .i) 0
+          ∙ at .inv .1,
+      cleared-more (at .ds) (at .i) less (at .inv .2),
+    )
 
 same-length : tie.Need-same-length Inv-loop μ-loop
 same-length c = search needs

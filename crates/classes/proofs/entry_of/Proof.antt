@@ -13,8 +13,11 @@ use Rattle.classes.proofs.entry_of.Tie as tie
 -- what the test of binders in between finds
 found : (c : tie.After-uses-between)
     → c .uses-between .result
-    ≡ usesAt (c .before .before .before .before .before .before .args .es .now) (c .before .before .before .before .before .before .args .root + c .before .before .before .before .before .before .args .i)
-    (depthIn (getD (c .before .before .before .before .before .before .args .es .now) (c .before .before .before .before .before .before .args .root) 0))
+    ≡ usesAt (c .before .before .before .before .before .before .args .es .now)
+    (c .before .before .before .before .before .before .args .root + c .before .before .before .before .before .before .args .i)
+    (depthIn
+    (getD (c .before .before .before .before .before .before .args .es .now)
+    (c .before .before .before .before .before .before .args .root) 0))
 found c =
     let s = c .before .before .before .before .before .before .args in
     c .uses-between .ensures ∙ ap (usesAt (s .es .now) (s .root + s .i)) (c .before .depth .ensures)
@@ -55,7 +58,9 @@ class-of-requires c κs = search needs
 returns-3 : tie.Need-returns-3
 returns-3 c =
     let s = c .before .before .before .before .before .before .before .before in
-    entry-free (s .args .es .now) (s .args .root) (s .args .i) (c .class-of .result) (omega (arith, c .before .before .before .before .before .size .ensures)) (sym (found (c .before .before)) ∙ c .before .if2 .left) (c .class-of .ensures)
+    entry-free (s .args .es .now) (s .args .root) (s .args .i) (c .class-of .result)
+    (omega (arith, c .before .before .before .before .before .size .ensures)) (sym (found (c .before .before)) ∙ c .before .if2 .left)
+    (c .class-of .ensures)
 
 pub entry-of-spec : {M : Type 1} → statement M
 entry-of-spec =

@@ -14,7 +14,8 @@ use Rattle.classes.proofs.face_classes.Statement.{statement}
 use Rattle.classes.proofs.face_classes.Tie as tie
 
 abbrev Inv-loop : tie.InvT-loop
-Inv-loop es root out₀ i₀ out i = (i ≤ width) × (length out ≡ width) × Made width (sizeFrom es root) (freeFrom es root) (sameFrom es root) out i
+Inv-loop es root out₀ i₀ out i =
+    (i ≤ width) × (length out ≡ width) × Made width (sizeFrom es root) (freeFrom es root) (sameFrom es root) out i
 
 abbrev μ-loop : tie.MeasureT-loop
 μ-loop es root out₀ i₀ out i = width - i
@@ -24,7 +25,8 @@ loop-holds c =
     let s = c .before .before in (
       omega arith,
       s .pre .1,
-      made-none width (sizeFrom (s .args .es .now) (s .args .root)) (freeFrom (s .args .es .now) (s .args .root)) (sameFrom (s .args .es .now) (s .args .root)) (s .args .out .now),
+      made-none width (sizeFrom (s .args .es .now) (s .args .root)) (freeFrom (s .args .es .now) (s .args .root))
+          (sameFrom (s .args .es .now) (s .args .root)) (s .args .out .now),
     )
 
 entry-of-requires : tie.Need-entry-of-requires Inv-loop μ-loop
@@ -51,7 +53,8 @@ loop-again c =
     let d : ℕ = c .entry-of .result in (
       omega arith,
       length-set (at .loop .out) (at .loop .i) d ∙ at .loop .inv .1,
-      made-more width (sizeFrom es root) (freeFrom es root) (sameFrom es root) (at .loop .out) (at .loop .i) d (omega (arith, at .loop .inv .1)) (at .loop .inv .2) (c .entry-of .ensures),
+      made-more width (sizeFrom es root) (freeFrom es root) (sameFrom es root) (at .loop .out) (at .loop .i) d
+          (omega (arith, at .loop .inv .1)) (at .loop .inv .2) (c .entry-of .ensures),
     )
 
 same-length : tie.Need-same-length Inv-loop μ-loop

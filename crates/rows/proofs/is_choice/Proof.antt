@@ -37,7 +37,8 @@ returns c =
     let ds : List ℕ = s .args .ds .now in
     let k : ℕ = s .args .k in
     let m : ℕ = s .args .m in
-    let e : c .is-choice .result ≡ passesAt ds k m = c .is-choice .ensures ∙ ap (λ (n : ℕ). test width (take n (drop (k * width) ds)) m) (part k) in
+    let e : c .is-choice .result ≡ passesAt ds k m = c .is-choice .ensures
+    ∙ ap (λ (n : ℕ). test width (take n (drop (k * width) ds)) m) (part k) in
     rw e (mask-choice ds k m (s .fits .m .fits))
 
 pub is-choice-spec : {M : Type 1} → statement M

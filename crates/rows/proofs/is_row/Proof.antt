@@ -39,7 +39,8 @@ returns c =
     let at = c .before .before .before in
     let s = at .before .before in (
       λ e. absurd (false≢true e),
-      λ m. sym (not-true (c .before .is-choice .result) (c .if1 .taken)) ∙ c .before .is-choice .ensures .1 (row-mem (s .args .ds .now) (s .args .t2) m (at .loop .k) (omega arith)),
+      λ m. sym (not-true (c .before .is-choice .result) (c .if1 .taken))
+          ∙ c .before .is-choice .ensures .1 (row-mem (s .args .ds .now) (s .args .t2) m (at .loop .k) (omega arith)),
     )
 
 add-k : tie.Need-add-k Inv-loop μ-loop
@@ -52,8 +53,10 @@ loop-less c = omega arith
 loop-again : tie.Need-loop-again Inv-loop μ-loop
 unfolding maxFunctions
 loop-again c =
-    let at = c .before .before .before in
-    (omega arith, below-more _ _ (at .loop .inv .1) (c .before .is-choice .ensures .0 (not-false (c .before .is-choice .result) (c .if1 .left))))
+    let at = c .before .before .before in (
+      omega arith,
+      below-more _ _ (at .loop .inv .1) (c .before .is-choice .ensures .0 (not-false (c .before .is-choice .result) (c .if1 .left))),
+    )
 
 returns-2 : tie.Need-returns-2 Inv-loop μ-loop
 unfolding maxFunctions

@@ -20,7 +20,8 @@ abbrev μ-loop : tie.MeasureT-loop
 
 -- the invariant, seen from the function that the turn is about
 before : (c : tie.At-loop Inv-loop μ-loop) → 0 < c .loop .k
-    → Carried (passesAt (c .before .before .args .ds .now)) (2 ^ width) (firstAt (c .before .before .args .ds .now)) maxFunctions (c .before .before .args .row) (c .loop .next) (suc (c .loop .k - 1))
+    → Carried (passesAt (c .before .before .args .ds .now)) (2 ^ width) (firstAt (c .before .before .args .ds .now)) maxFunctions
+    (c .before .before .args .row) (c .loop .next) (suc (c .loop .k - 1))
 before c h = let e : c .loop .k ≡ suc (c .loop .k - 1) = omega arith in rw e at (c .loop .inv .1)
 
 loop-holds : tie.Need-loop-holds Inv-loop μ-loop
@@ -49,7 +50,8 @@ next-choice-requires c κs =
       s .pre .0 .long,
       (
         omega arith,
-        not-last (s .args .ds .now) (s .args .row) (at .loop .next) (at .loop .k - 1) (s .pre .0) (s .pre .1 .0) (omega arith) (before at (omega arith)) (omega arith),
+        not-last (s .args .ds .now) (s .args .row) (at .loop .next) (at .loop .k - 1) (s .pre .0) (s .pre .1 .0) (omega arith)
+            (before at (omega arith)) (omega arith),
       ),
     )
 
@@ -66,7 +68,8 @@ unfolding maxFunctions
 returns c =
     let at = c .before .before .before in
     let s = at .before .before in
-    steps-on (s .args .ds .now) (s .args .row) (at .loop .next) (at .loop .k - 1) (c .next-choice .result) (s .pre .0) (omega arith) (before at (omega arith)) (c .next-choice .ensures)
+    steps-on (s .args .ds .now) (s .args .row) (at .loop .next) (at .loop .k - 1) (c .next-choice .result) (s .pre .0) (omega arith)
+    (before at (omega arith)) (c .next-choice .ensures)
 
 mul-next-2 : tie.Need-mul-next-2 Inv-loop μ-loop
 unfolding maxFunctions
@@ -96,7 +99,8 @@ loop-again c =
     let few : at .loop .k - 1 < maxFunctions = omega arith in (
       omega arith,
       rw (first-at ds (s .args .t2) (s .pre .0) (s .pre .1 .1) (at .loop .k - 1) few)
-          (carried-more (passesAt ds) (2 ^ width) (firstAt ds) maxFunctions (s .args .row) (at .loop .next) (at .loop .k - 1) few (before at (omega arith)) (search needs)),
+          (carried-more (passesAt ds) (2 ^ width) (firstAt ds) maxFunctions (s .args .row) (at .loop .next) (at .loop .k - 1) few
+          (before at (omega arith)) (search needs)),
     )
 
 returns-2 : tie.Need-returns-2 Inv-loop μ-loop

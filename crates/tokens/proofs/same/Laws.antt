@@ -12,7 +12,8 @@ use lib.Dec.{eqb, ltb, leb}
 use borrow.Author.Tests.{eq-eqb, ne-eqb, lt-ltb, le-ltb, eqb-true, eqb-false, not-true, not-false}
 use Rattle.meaning.proofs.Lists.{choose-true, choose-false, T-true, true-T, not-T, and-T, by-test}
 use Rattle.tokens.specs.Token.{tagIn, depthIn, sizeIn, payloadIn}
-use Rattle.tokens.specs.Key.{upperHalf, lowerHalf, keyOfVariable, keyOfPayload, keyOf, keys, at, nodes, keysAt, sameList, sameAt, Inside, reaches, anyReaches}
+use Rattle.tokens.specs.Key.{upperHalf, lowerHalf, keyOfVariable, keyOfPayload, keyOf, keys, at, nodes, keysAt, sameList, sameAt}
+use Rattle.tokens.specs.Key.{Inside, reaches, anyReaches, usesAt}
 
 -- The three keys of a variable, and the keys of a payload
 module _ (d depth name level : ℕ) where
@@ -156,7 +157,8 @@ length-keys : (d n : ℕ) (t : List ℕ) (a : ℕ) → a + n ≤ length t → le
 length-keys d n t a h = simp (length-map, length-take, length-drop) (omega arith)
 
 -- m and n are the sizes, d and e the depths of two nodes, and found whether the first l pairs agree, as the code has them
-module _ (t : List ℕ) (a b m n d e l : ℕ) (found : Bool) (is-m : m ≡ sizeIn (at t a)) (is-n : n ≡ sizeIn (at t b)) (is-d : d ≡ depthIn (at t a))
+module _ (t : List ℕ) (a b m n d e l : ℕ) (found : Bool) (is-m : m ≡ sizeIn (at t a)) (is-n : n ≡ sizeIn (at t b))
+    (is-d : d ≡ depthIn (at t a))
     (is-e : e ≡ depthIn (at t b)) (is-l : l ≡ min m n) (is-found : found ≡ sameList (keys d (nodes t a l)) (keys e (nodes t b l))) where
   abbrev keysA : ℕ → List ℕ
   keysA k = keys d (nodes t a k)
@@ -169,7 +171,8 @@ module _ (t : List ℕ) (a b m n d e l : ℕ) (found : Bool) (is-m : m ≡ sizeI
   same-keys = cc
 
   pub same-refused : not found ≡ true → false ≡ sameAt t a b
-  same-refused h = sym (same-keys ∙ other-sameList _ _ (λ z. true≢false (sym (same-sameList _ _ (first z)) ∙ sym is-found ∙ not-true found h)))
+  same-refused h =
+      sym (same-keys ∙ other-sameList _ _ (λ z. true≢false (sym (same-sameList _ _ (first z)) ∙ sym is-found ∙ not-true found h)))
     where
       first : keysA m ≡ keysB n → keysA l ≡ keysB l
       first z = sym (keys-cut d l m t a (omega arith)) ∙ ap (take l) z ∙ keys-cut e l n t b (omega arith)
@@ -189,3 +192,15 @@ module _ (t : List ℕ) (a b m n d e l : ℕ) (found : Bool) (is-m : m ≡ sizeI
           let fa : a + m ≤ length t = omega (arith, ia .ends) in
           let fb : b + n ≤ length t = omega (arith, ib .ends) in
           other-sameList _ _ (λ z. eqb-false m n g (sym (length-keys d m t a fa) ∙ ap length z ∙ length-keys e n t b fb)) ∙ sym g
+
+-- Which outer binders a subterm uses, by its size m and its depth r as the code has them
+pub uses-judged : (t : List ℕ) (a d m r : ℕ) (found : Bool) → m ≡ sizeIn (at t a) → r ≡ depthIn (at t a)
+    → found ≡ anyReaches d r (nodes t a m) → found ≡ usesAt t a d
+unfolding usesAt
+uses-judged t a d m r found is-m is-r is-found = is-found ∙ ap₂ (λ (j i : ℕ). anyReaches d j (nodes t a i)) is-r is-m
+
+-- A token's key out of its parts
+pub key-judged : (d x kind depth load key : ℕ) → kind ≡ tagIn x → depth ≡ depthIn x → load ≡ payloadIn x
+    → key ≡ keyOfPayload d kind depth load → kind + 256 * key ≡ keyOf d x
+unfolding keyOf
+key-judged d x kind depth load key is-kind is-depth is-load is-key = cc

@@ -12,7 +12,8 @@ any-large-requires : tie.Need-any-large-requires
 any-large-requires c κs = search needs
 
 returns : tie.Need-returns
-returns c = c .any-large .ensures ∙ ap (anyLarge (c .before .before .before .before .before .args .es .now)) (c .before .first-faces .ensures .list)
+returns c =
+    c .any-large .ensures ∙ ap (anyLarge (c .before .before .before .before .before .args .es .now)) (c .before .first-faces .ensures .list)
 
 pub over-limit-spec : {M : Type 1} → statement M
 over-limit-spec = tie.close (tie.spec first-faces-requires any-large-requires returns)

@@ -32,7 +32,8 @@ returns : tie.Need-returns Inv-loop μ-loop
 returns c =
     let a = c .before .before .before in
     let s = a .before .before .before in
-    large-here (s .args .es .now) (s .args .firsts .nodes) (s .args .firsts .count) (a .loop .k) (omega (arith, s .pre .array, s .pre .count)) (c .before .before .loop-test .taken)
+    large-here (s .args .es .now) (s .args .firsts .nodes) (s .args .firsts .count) (a .loop .k)
+    (omega (arith, s .pre .array, s .pre .count)) (c .before .before .loop-test .taken)
     (sym (c .before .large .ensures) ∙ c .if1 .taken) ∙ a .loop .inv
 
 add-k : tie.Need-add-k Inv-loop μ-loop
@@ -45,14 +46,16 @@ loop-again : tie.Need-loop-again Inv-loop μ-loop
 loop-again c =
     let a = c .before .before .before in
     let s = a .before .before .before in
-    large-next (s .args .es .now) (s .args .firsts .nodes) (s .args .firsts .count) (a .loop .k) (omega (arith, s .pre .array, s .pre .count)) (c .before .before .loop-test .taken)
+    large-next (s .args .es .now) (s .args .firsts .nodes) (s .args .firsts .count) (a .loop .k)
+    (omega (arith, s .pre .array, s .pre .count)) (c .before .before .loop-test .taken)
     (sym (c .before .large .ensures) ∙ c .if1 .left) ∙ a .loop .inv
 
 returns-2 : tie.Need-returns-2 Inv-loop μ-loop
 returns-2 c =
     let a = c .before in
     let s = a .before .before .before in
-    large-end (s .args .es .now) (s .args .firsts .nodes) (s .args .firsts .count) (a .loop .k) (omega (arith, s .pre .array, s .pre .count)) (c .loop-test .left) ∙ a .loop .inv
+    large-end (s .args .es .now) (s .args .firsts .nodes) (s .args .firsts .count) (a .loop .k)
+    (omega (arith, s .pre .array, s .pre .count)) (c .loop-test .left) ∙ a .loop .inv
 
 pub any-large-spec : {M : Type 1} → statement M
 any-large-spec =

@@ -24,7 +24,8 @@ payload-requires c κs = search needs
 returns-2 : tie.Need-returns-2
 returns-2 c =
     let a = c .before .before .before .before .before .before .args in
-    applies-six (a .ps .now) (a .f) (a .n) (c .before .before .tag .result) (c .before .before .tag .ensures) (c .payload .result) (c .payload .ensures) (c .before .if2 .taken)
+    applies-six (a .ps .now) (a .f) (a .n) (c .before .before .tag .result) (c .before .before .tag .ensures) (c .payload .result)
+    (c .payload .ensures) (c .before .if2 .taken)
 
 returns-3 : tie.Need-returns-3
 returns-3 c =

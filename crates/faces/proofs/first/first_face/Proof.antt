@@ -31,7 +31,8 @@ returns : tie.Need-returns Inv-loop μ-loop
 returns c =
     let a = c .before .before .before .before in
     let s = a .before .before .before .args in
-    first-found (s .ps .now) (s .faces .now) (s .f) (a .loop .k) (c .before .before .before .loop-test .taken) (sym (c .before .applies .ensures) ∙ c .if1 .taken) ∙ a .loop .inv
+    first-found (s .ps .now) (s .faces .now) (s .f) (a .loop .k) (c .before .before .before .loop-test .taken)
+    (sym (c .before .applies .ensures) ∙ c .if1 .taken) ∙ a .loop .inv
 
 add-k : tie.Need-add-k Inv-loop μ-loop
 add-k c = search needs
@@ -43,7 +44,8 @@ loop-again : tie.Need-loop-again Inv-loop μ-loop
 loop-again c =
     let a = c .before .before .before .before in
     let s = a .before .before .before .args in
-    first-next (s .ps .now) (s .faces .now) (s .f) (a .loop .k) (c .before .before .before .loop-test .taken) (sym (c .before .applies .ensures) ∙ c .if1 .left) ∙ a .loop .inv
+    first-next (s .ps .now) (s .faces .now) (s .f) (a .loop .k) (c .before .before .before .loop-test .taken)
+    (sym (c .before .applies .ensures) ∙ c .if1 .left) ∙ a .loop .inv
 
 returns-2 : tie.Need-returns-2 Inv-loop μ-loop
 returns-2 c =

@@ -16,21 +16,26 @@ first-face-requires c κs = search needs
 pushed-requires : tie.Need-pushed-requires
 pushed-requires c κs =
     let a = c .before .before .before .before .before .args in
-    let p = c .before .before .before .before .before .pre in
-    (p .0 .fits, listing-room (a .ps .now) (a .faces .now) (a .functions) (a .m) (a .firsts) (p .0) (p .1) (sym (c .before .before .in-set .ensures) ∙ c .before .if1 .taken) (p .2))
+    let p = c .before .before .before .before .before .pre in (
+      p .0 .fits,
+      listing-room (a .ps .now) (a .faces .now) (a .functions) (a .m) (a .firsts) (p .0) (p .1)
+          (sym (c .before .before .in-set .ensures) ∙ c .before .if1 .taken) (p .2),
+    )
 
 returns : tie.Need-returns
 returns c =
     let a = c .before .before .before .before .before .before .args in
     let p = c .before .before .before .before .before .before .pre in
-    listing-push (a .ps .now) (a .faces .now) (a .functions) (a .m) (a .firsts) (p .0) (p .1) (sym (c .before .before .before .in-set .ensures) ∙ c .before .before .if1 .taken) (c .pushed .result)
+    listing-push (a .ps .now) (a .faces .now) (a .functions) (a .m) (a .firsts) (p .0) (p .1)
+    (sym (c .before .before .before .in-set .ensures) ∙ c .before .before .if1 .taken) (c .pushed .result)
     (subst (λ (j : ℕ). Pushed (a .firsts) j (c .pushed .result)) (c .before .first-face .ensures) (c .pushed .ensures))
 
 returns-2 : tie.Need-returns-2
 returns-2 c =
     let a = c .before .before .before .before .args in
     let p = c .before .before .before .before .pre in
-    listing-skip (a .ps .now) (a .faces .now) (a .functions) (a .m) (a .firsts) (p .0) (p .1) (sym (c .before .in-set .ensures) ∙ c .if1 .left)
+    listing-skip (a .ps .now) (a .faces .now) (a .functions) (a .m) (a .firsts) (p .0) (p .1)
+    (sym (c .before .in-set .ensures) ∙ c .if1 .left)
 
 pub looked-up-spec : {M : Type 1} → statement M
 looked-up-spec =

@@ -5,7 +5,8 @@ use Prim.Native.Nat.{_-_}
 use native.Mathlib.Omega.{arith}
 use lib.ListN.{length}
 use borrow.Author.Tests.{not-true, not-false}
-use Rattle.faces.proofs.FlatLaws.{Walking, left-out, left-differs, walking-start, walking-same, walking-face, walked-disagree, walked-end}
+use Rattle.faces.proofs.FlatLaws.{Walking, left-out, left-differs, walking-start, walking-same, walking-face, walked-disagree}
+use Rattle.faces.proofs.FlatLaws.{walked-end}
 use borrow.Author.Needs.{needs}
 use Rattle.faces.proofs.walk.walk.Statement.{statement}
 use Rattle.faces.proofs.walk.walk.Tie as tie
@@ -17,7 +18,9 @@ abbrev μ-loop : tie.MeasureT-loop
 μ-loop ps es out₀ i₀ j₀ n₀ out i j n = length ps - i
 
 loop-holds : tie.Need-loop-holds Inv-loop μ-loop
-loop-holds c = walking-start (c .before .before .before .args .ps .now) (c .before .before .before .args .es .now) (c .before .before .before .args .out .now)
+loop-holds c =
+    walking-start (c .before .before .before .args .ps .now) (c .before .before .before .args .es .now)
+    (c .before .before .before .args .out .now)
 
 same-length : tie.Need-same-length Inv-loop μ-loop
 same-length c = search needs
@@ -26,7 +29,8 @@ returns : tie.Need-returns Inv-loop μ-loop
 returns c =
     let a = c .before .before in
     let s = a .before .before .before .before in
-    walked-disagree (s .args .ps .now) (s .args .es .now) (s .args .out .now) (a .loop .out) (a .loop .i) (a .loop .j) (a .loop .n) (a .loop .inv) (left-out (s .args .ps .now) (s .args .es .now) (a .loop .i) (a .loop .j) (c .before .loop-test .taken) (c .if1 .taken))
+    walked-disagree (s .args .ps .now) (s .args .es .now) (s .args .out .now) (a .loop .out) (a .loop .i) (a .loop .j) (a .loop .n)
+    (a .loop .inv) (left-out (s .args .ps .now) (s .args .es .now) (a .loop .i) (a .loop .j) (c .before .loop-test .taken) (c .if1 .taken))
 
 mul-x : tie.Need-mul-x Inv-loop μ-loop
 mul-x c = search needs
@@ -80,7 +84,10 @@ loop-again : tie.Need-loop-again Inv-loop μ-loop
 loop-again c =
     let a = c .before .before .before .before .before .before .before .before in
     let s = a .before .before .before .before in
-    let w = walking-face (s .args .ps .now) (s .args .es .now) (s .args .out .now) (a .loop .out) (a .loop .i) (a .loop .j) (a .loop .n) (a .loop .inv) (c .before .before .before .before .before .before .before .loop-test .taken) (omega arith) (s .pre .1 .1) (sym (c .before .before .before .is-slot .ensures) ∙ c .before .before .if2 .taken)
+    let w =
+    walking-face (s .args .ps .now) (s .args .es .now) (s .args .out .now) (a .loop .out) (a .loop .i) (a .loop .j) (a .loop .n)
+    (a .loop .inv) (c .before .before .before .before .before .before .before .loop-test .taken) (omega arith) (s .pre .1 .1)
+    (sym (c .before .before .before .is-slot .ensures) ∙ c .before .before .if2 .taken)
     (s .pre .0 .counted (a .loop .i) (c .before .before .before .before .before .before .before .loop-test .taken)) in
     rw (c .before .size .ensures, c .size2 .ensures) w
 
@@ -94,8 +101,12 @@ returns-2 : tie.Need-returns-2 Inv-loop μ-loop
 returns-2 c =
     let a = c .before .before .before .before .before .before .before .before in
     let s = a .before .before .before .before in
-    walked-disagree (s .args .ps .now) (s .args .es .now) (s .args .out .now) (a .loop .out) (a .loop .i) (a .loop .j) (a .loop .n) (a .loop .inv) (left-differs (s .args .ps .now) (s .args .es .now) (a .loop .i) (a .loop .j) (c .before .before .before .before .before .before .before .loop-test .taken) (omega arith)
-    (sym (c .before .before .before .is-slot .ensures) ∙ c .before .before .if2 .left) (sym (c .before .same-node .ensures) ∙ not-true _ (c .if3 .taken)))
+    walked-disagree (s .args .ps .now) (s .args .es .now) (s .args .out .now) (a .loop .out) (a .loop .i) (a .loop .j) (a .loop .n)
+    (a .loop .inv)
+    (left-differs (s .args .ps .now) (s .args .es .now) (a .loop .i) (a .loop .j)
+    (c .before .before .before .before .before .before .before .loop-test .taken) (omega arith)
+    (sym (c .before .before .before .is-slot .ensures) ∙ c .before .before .if2 .left)
+    (sym (c .before .same-node .ensures) ∙ not-true _ (c .if3 .taken)))
 
 add-i-2 : tie.Need-add-i-2 Inv-loop μ-loop
 add-i-2 c = search needs
@@ -110,8 +121,10 @@ loop-again-2 : tie.Need-loop-again-2 Inv-loop μ-loop
 loop-again-2 c =
     let a = c .before .before .before .before .before .before .before .before in
     let s = a .before .before .before .before in
-    walking-same (s .args .ps .now) (s .args .es .now) (s .args .out .now) (a .loop .out) (a .loop .i) (a .loop .j) (a .loop .n) (a .loop .inv) (c .before .before .before .before .before .before .before .loop-test .taken) (omega arith)
-    (sym (c .before .before .before .is-slot .ensures) ∙ c .before .before .if2 .left) (sym (c .before .same-node .ensures) ∙ not-false _ (c .if3 .left))
+    walking-same (s .args .ps .now) (s .args .es .now) (s .args .out .now) (a .loop .out) (a .loop .i) (a .loop .j) (a .loop .n)
+    (a .loop .inv) (c .before .before .before .before .before .before .before .loop-test .taken) (omega arith)
+    (sym (c .before .before .before .is-slot .ensures) ∙ c .before .before .if2 .left)
+    (sym (c .before .same-node .ensures) ∙ not-false _ (c .if3 .left))
 
 same-length-3 : tie.Need-same-length-3 Inv-loop μ-loop
 same-length-3 c = search needs
@@ -120,7 +133,8 @@ returns-3 : tie.Need-returns-3 Inv-loop μ-loop
 returns-3 c =
     let a = c .before in
     let s = a .before .before .before .before in
-    walked-end (s .args .ps .now) (s .args .es .now) (s .args .out .now) (a .loop .out) (a .loop .i) (a .loop .j) (a .loop .n) (a .loop .inv) (c .loop-test .left)
+    walked-end (s .args .ps .now) (s .args .es .now) (s .args .out .now) (a .loop .out) (a .loop .i) (a .loop .j) (a .loop .n)
+    (a .loop .inv) (c .loop-test .left)
 
 pub walk-spec : {M : Type 1} → statement M
 walk-spec =

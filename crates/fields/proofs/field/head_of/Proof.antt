@@ -26,15 +26,23 @@ enum-known-kind : tie.Need-enum-known-kind
 enum-known-kind c = search needs
 
 returns-2 : tie.Need-returns-2
-returns-2 c = head-cut _ _ (c .before .before .before .before .if1 .left) (rw (c .before .r .given .1) at (c .before .before .before .parts-of .ensures))
+returns-2 c =
+    head-cut _ _ (c .before .before .before .before .if1 .left)
+    (rw (c .before .r .given .1) at (c .before .before .before .parts-of .ensures))
 
 returns-3 : tie.Need-returns-3
 returns-3 c =
-    head-misplaced _ _ (c .before .before .before .before .before .before .before .before .if1 .left) (rw (c .before .before .before .before .before .tag .given .1) at (c .before .before .before .before .before .before .before .parts-of .ensures)) (rw (c .before .r2 .given .1) at (c .before .before .before .rule-of .ensures))
+    head-misplaced _ _ (c .before .before .before .before .before .before .before .before .if1 .left)
+    (rw (c .before .before .before .before .before .tag .given .1) at
+    (c .before .before .before .before .before .before .before .parts-of .ensures)) (rw (c .before .r2 .given .1) at
+    (c .before .before .before .rule-of .ensures))
 
 returns-4 : tie.Need-returns-4
 returns-4 c =
-    head-field _ _ (c .before .before .before .before .before .before .before .before .if1 .left) (rw (c .before .before .before .before .before .tag .given .1) at (c .before .before .before .before .before .before .before .parts-of .ensures)) (rw (c .before .kind .given .1) at (c .before .before .before .rule-of .ensures))
+    head-field _ _ (c .before .before .before .before .before .before .before .before .if1 .left)
+    (rw (c .before .before .before .before .before .tag .given .1) at
+    (c .before .before .before .before .before .before .before .parts-of .ensures)) (rw (c .before .kind .given .1) at
+    (c .before .before .before .rule-of .ensures))
 
 pub head-of-spec : {M : Type 1} → statement M
 head-of-spec =

@@ -27,7 +27,8 @@ returns-3 : tie.Need-returns-3
 returns-3 c =
     let byte = c .shared-slice-known2 .given in
     rw (c .before .before .word .ensures)
-    (parts-field _ (c .before .before .before .if1 .left) (rw (c .before .before .word .ensures) at (c .before .if2 .left)) (omega (arith, byte 1, byte 2)))
+    (parts-field _ (c .before .before .before .if1 .left) (rw (c .before .before .word .ensures) at (c .before .if2 .left))
+    (omega (arith, byte 1, byte 2)))
 
 pub parts-of-spec : {M : Type 1} → statement M
 parts-of-spec =

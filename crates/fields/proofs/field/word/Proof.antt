@@ -25,7 +25,8 @@ cast-result-2 c = omega (arith, c .shared-slice-known2 .given (c .before .before
 
 add-result-2 : tie.Need-add-result-2
 add-result-2 c =
-    omega (arith, c .shared-slice-known2 .given (c .before .before .args .at + 1), c .shared-slice-known2 .given (c .before .before .args .at))
+    omega
+    (arith, c .shared-slice-known2 .given (c .before .before .args .at + 1), c .shared-slice-known2 .given (c .before .before .args .at))
 
 returns : tie.Need-returns
 returns c = search needs

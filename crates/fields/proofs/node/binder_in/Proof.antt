@@ -18,7 +18,11 @@ returns c = record { says = simp (lt-ltb _ _ (c .if1 .taken)); fits = tt }
 
 returns-2 : tie.Need-returns-2
 unfolding contentOf contentWith
-returns-2 c = record { says = simp (le-ltb _ _ (c .before .before .if1 .left), c .before .word .ensures, c .word2 .ensures); fits = c .before .before .if1 .left }
+returns-2 c =
+    record {
+      says = simp (le-ltb _ _ (c .before .before .if1 .left), c .before .word .ensures, c .word2 .ensures);
+      fits = c .before .before .if1 .left;
+    }
 
 pub binder-in-spec : {M : Type 1} → statement M
 binder-in-spec = tie.close (tie.spec word-requires word-requires-2 returns returns-2)

@@ -17,7 +17,11 @@ shared-slice-read-m c = search needs
 
 returns-2 : tie.Need-returns-2
 unfolding contentOf contentWith metavariableCount
-returns-2 c = record { says = simp (ne-eqb _ _ (c .before .before .if1 .left), lt-ltb _ _ (c .if2 .taken)); fits = positive _ (c .before .before .if1 .left) }
+returns-2 c =
+    record {
+      says = simp (ne-eqb _ _ (c .before .before .if1 .left), lt-ltb _ _ (c .if2 .taken));
+      fits = positive _ (c .before .before .if1 .left);
+    }
 
 returns-3 : tie.Need-returns-3
 unfolding contentOf contentWith metavariableCount

@@ -38,7 +38,9 @@ returns-3 : tie.Need-returns-3
 returns-3 c = record { room = c .before .before .pre .1; depth = omega arith; names = rw (c .enum-told3 .given .1) }
 
 returns-4 : tie.Need-returns-4
-returns-4 c = let w = c .with .ensures in record { room = w .room; depth = omega (arith, w .depth); names = rw (c .before .before .node .given .1) (w .names) }
+returns-4 c =
+    let w = c .with .ensures in
+    record { room = w .room; depth = omega (arith, w .depth); names = rw (c .before .before .node .given .1) (w .names) }
 
 returns-5 : tie.Need-returns-5
 returns-5 c = record { room = c .before .before .pre .1; depth = omega arith; names = rw (c .enum-told4 .given .1) }

@@ -17,13 +17,18 @@ returns : tie.Need-returns
 returns c = top-cut _ _ (rw (c .before .r .given .1) at (c .before .before .before .parts-of .ensures))
 
 returns-2 : tie.Need-returns-2
-returns-2 c = top-over _ _ (rw (c .before .before .before .tag .given .1) at (c .before .before .before .before .before .parts-of .ensures)) (c .before .if1 .taken) (c .if2 .taken)
+returns-2 c =
+    top-over _ _ (rw (c .before .before .before .tag .given .1) at (c .before .before .before .before .before .parts-of .ensures))
+    (c .before .if1 .taken) (c .if2 .taken)
 
 returns-3 : tie.Need-returns-3
-returns-3 c = top-content _ _ (rw (c .before .before .before .tag .given .1) at (c .before .before .before .before .before .parts-of .ensures)) (c .before .if1 .taken) (c .if2 .left)
+returns-3 c =
+    top-content _ _ (rw (c .before .before .before .tag .given .1) at (c .before .before .before .before .before .parts-of .ensures))
+    (c .before .if1 .taken) (c .if2 .left)
 
 returns-4 : tie.Need-returns-4
-returns-4 c = top-misplaced _ _ (rw (c .before .before .tag .given .1) at (c .before .before .before .before .parts-of .ensures)) (c .if1 .left)
+returns-4 c =
+    top-misplaced _ _ (rw (c .before .before .tag .given .1) at (c .before .before .before .before .parts-of .ensures)) (c .if1 .left)
 
 pub constraint-head-spec : {M : Type 1} → statement M
 constraint-head-spec =

@@ -24,7 +24,9 @@ first : (c : tie.After-k)
     (terms.Took (c .k .given .0 .0) (c .k .given .0 .1 .0))
 first c = rw (c .k .given .1) at (c .before .before .before .before .read-pattern .ensures)
 
-first-fits : (c : tie.After-k) → TookFits (now (c .before .before .before .before .before .before .before .before .before .args .s)) (c .k .given .0 .0) (c .k .given .0 .1 .0)
+first-fits : (c : tie.After-k)
+    → TookFits (now (c .before .before .before .before .before .before .before .before .before .args .s)) (c .k .given .0 .0)
+    (c .k .given .0 .1 .0)
 first-fits c = took-fits _ (term-fine _ _) _ _ _ _ (first c)
 
 read-pattern-requires : tie.Need-read-pattern-requires
@@ -67,7 +69,9 @@ same-length-3 : tie.Need-same-length-3
 same-length-3 c = search needs
 
 returns-2 : tie.Need-returns-2
-returns-2 c = pair-paired _ _ _ _ _ _ _ (first (c .before .before .before .before .before .before .before)) (c .before .before .before .read-expression .ensures) (c .paired .ensures)
+returns-2 c =
+    pair-paired _ _ _ _ _ _ _ (first (c .before .before .before .before .before .before .before))
+    (c .before .before .before .read-expression .ensures) (c .paired .ensures)
 
 pub read-pair-spec : {M : Type 1} → statement M
 read-pair-spec =

@@ -29,7 +29,8 @@ same-length : tie.Need-same-length
 same-length c = search needs
 
 returns-2 : tie.Need-returns-2
-returns-2 c = record { answer = rw (c .before .before .inner2 .given .1); table = rw (c .before .before .inner2 .given .1, c .token .ensures) }
+returns-2 c =
+    record { answer = rw (c .before .before .inner2 .given .1); table = rw (c .before .before .inner2 .given .1, c .token .ensures) }
 
 pub close-spec : {M : Type 1} → statement M
 close-spec =

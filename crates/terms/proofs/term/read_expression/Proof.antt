@@ -13,7 +13,9 @@ same-length : tie.Need-same-length
 same-length c = search needs
 
 returns : tie.Need-returns
-returns c = let top = c .before .before .before .before .top .ensures in rw (top .levels, top .context, top .names) at (c .before .before .read-term .ensures)
+returns c =
+    let top = c .before .before .before .before .top .ensures in
+    rw (top .levels, top .context, top .names) at (c .before .before .read-term .ensures)
 
 pub read-expression-spec : {M : Type 1} → statement M
 read-expression-spec = tie.close (tie.spec top-requires read-term-requires same-length returns)

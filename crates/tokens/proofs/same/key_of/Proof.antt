@@ -1,5 +1,5 @@
 -- `same::key_of` meets its contract: the parts that it calls make up `keyOf`.
-use Rattle.tokens.specs.Key.{keyOf}
+use Rattle.tokens.proofs.same.Laws.{key-judged}
 use borrow.Author.Needs.{needs}
 use Rattle.tokens.proofs.same.key_of.Statement.{statement}
 use Rattle.tokens.proofs.same.key_of.Tie as tie
@@ -23,8 +23,13 @@ add-result : tie.Need-add-result
 add-result c = search needs
 
 returns : tie.Need-returns
-unfolding keyOf
-returns c = cc
+returns c =
+    let load = c .before in
+    let depth = load .before in
+    let kind = depth .before in
+    let s = kind .before in
+    key-judged (s .args .d) (s .args .x) (kind .tag .result) (depth .depth .result) (load .payload .result) (c .key-of-payload .result)
+    (kind .tag .ensures) (depth .depth .ensures) (load .payload .ensures) (c .key-of-payload .ensures .0)
 
 pub key-of-spec : {M : Type 1} → statement M
 key-of-spec =

@@ -22,8 +22,11 @@ add-result : tie.Need-add-result
 add-result c = search needs
 
 returns-2 : tie.Need-returns-2
-returns-2 c =
-    (ap (λ (i : ℕ). 4 * i + 1) (c .index .ensures) ∙ sym (key-inside _ _ _ _ (c .before .before .if1 .left) (c .before .if2 .taken)), search needs)
+returns-2 c = (
+  ap (λ (i : ℕ). 4 * i + 1) (c .index .ensures)
+      ∙ sym (key-inside _ _ _ _ (c .before .before .if1 .left) (c .before .if2 .taken)),
+  search needs,
+)
 
 mul-result-3 : tie.Need-mul-result-3
 mul-result-3 c = search needs

@@ -43,7 +43,8 @@ returns c =
     let size-b = depth-a .before in
     let size-a = size-b .before in
     let s = size-a .before .before .before .before in
-    same-refused (s .args .t .now) (s .args .a) (s .args .b) (size-a .size .result) (size-b .size2 .result) (depth-a .depth .result) (depth-b .depth2 .result)
+    same-refused (s .args .t .now) (s .args .a) (s .args .b) (size-a .size .result) (size-b .size2 .result) (depth-a .depth .result)
+    (depth-b .depth2 .result)
     (short .least .result) (found .same-run .result) (size-a .size .ensures) (size-b .size2 .ensures)
     (depth-a .depth .ensures) (depth-b .depth2 .ensures) (short .least .ensures) (found .same-run .ensures) (c .if1 .taken)
 
@@ -56,9 +57,11 @@ returns-2 c =
     let size-b = depth-a .before in
     let size-a = size-b .before in
     let s = size-a .before .before .before .before in
-    same-judged (s .args .t .now) (s .args .a) (s .args .b) (size-a .size .result) (size-b .size2 .result) (depth-a .depth .result) (depth-b .depth2 .result)
+    same-judged (s .args .t .now) (s .args .a) (s .args .b) (size-a .size .result) (size-b .size2 .result) (depth-a .depth .result)
+    (depth-b .depth2 .result)
     (short .least .result) (found .same-run .result) (size-a .size .ensures) (size-b .size2 .ensures)
-    (depth-a .depth .ensures) (depth-b .depth2 .ensures) (short .least .ensures) (found .same-run .ensures) (s .pre .0) (s .pre .1) (c .if1 .left)
+    (depth-a .depth .ensures) (depth-b .depth2 .ensures) (short .least .ensures) (found .same-run .ensures) (s .pre .0) (s .pre .1)
+    (c .if1 .left)
 
 pub same-spec : {M : Type 1} → statement M
 same-spec =

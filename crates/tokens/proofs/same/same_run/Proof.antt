@@ -60,7 +60,8 @@ loop-again c =
     let l = c .before .before .before .before .before .loop in (
       search needs,
       same-goes-on (s .args .d) (s .args .e) (s .args .t .now) (s .args .a) (s .args .b) (s .args .n)
-          (s .pre .0) (s .pre .1) (l .k) (omega arith) (c .before .same-node .result) (c .before .same-node .ensures) (c .if1 .left) ∙ l .inv .1,
+          (s .pre .0) (s .pre .1) (l .k) (omega arith) (c .before .same-node .result) (c .before .same-node .ensures) (c .if1 .left)
+          ∙ l .inv .1,
     )
 
 returns-2 : tie.Need-returns-2 Inv-loop μ-loop

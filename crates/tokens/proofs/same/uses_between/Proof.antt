@@ -1,5 +1,5 @@
 -- `same::uses_between` meets its contract.
-use Rattle.tokens.specs.Key.{usesAt}
+use Rattle.tokens.proofs.same.Laws.{uses-judged}
 use borrow.Author.Needs.{needs}
 use Rattle.tokens.proofs.same.uses_between.Statement.{statement}
 use Rattle.tokens.proofs.same.uses_between.Tie as tie
@@ -20,8 +20,12 @@ reaches-run-requires : tie.Need-reaches-run-requires
 reaches-run-requires c κs = search needs
 
 returns : tie.Need-returns
-unfolding usesAt
-returns c = cc
+returns c =
+    let depth = c .before in
+    let size = depth .before in
+    let s = size .before .before .before in
+    uses-judged (s .args .t .now) (s .args .a) (s .args .d) (size .size .result) (depth .depth .result) (c .reaches-run .result)
+    (size .size .ensures) (depth .depth .ensures) (c .reaches-run .ensures)
 
 pub uses-between-spec : {M : Type 1} → statement M
 uses-between-spec =

@@ -13,10 +13,18 @@ digits-fit c = c .before .byte-count .ensures (c .if1 .left)
 
 -- The buffer after the call of `decode`
 bytes-fit : (c : tie.After-show-input-arg2)
-    → length (take (c .before .before .before .before .before .before .before .before .byte-count .result) (c .before .before .before .before .before .decode .last .1 .1 .0)) ≡ c .before .before .before .before .before .before .before .before .byte-count .result
+    → length
+    (take (c .before .before .before .before .before .before .before .before .byte-count .result)
+    (c .before .before .before .before .before .decode .last .1 .1 .0)) ≡ c .before .before .before .before .before .before .before .before .byte-count .result
 bytes-fit c =
-    length-take-le (c .before .before .before .before .before .before .before .before .byte-count .result) (c .before .before .before .before .before .decode .last .1 .1 .0)
-    (omega (arith, c .before .before .before .before .before .decode .kept .1 .1 .0, c .before .before .before .before .before .before .before .if1 .left, c .before .before .before .before .before .before .before .before .before .before .before .pre))
+    length-take-le (c .before .before .before .before .before .before .before .before .byte-count .result)
+    (c .before .before .before .before .before .decode .last .1 .1 .0)
+    (omega (
+      arith,
+      c .before .before .before .before .before .decode .kept .1 .1 .0,
+      c .before .before .before .before .before .before .before .if1 .left,
+      c .before .before .before .before .before .before .before .before .before .before .before .pre,
+    ))
 
 byte-count-requires : tie.Need-byte-count-requires
 byte-count-requires c κs = search needs

@@ -31,8 +31,11 @@ add-result : tie.Need-add-result Inv-loop μ-loop
 add-result c = search needs
 
 returns : tie.Need-returns Inv-loop μ-loop
-returns c =
-    (level-here (c .before .before .before .before .args .self .names) _ (c .before .before .before .before .args .x .0) (c .before .loop-test .taken) (c .if1 .taken) ∙ c .before .before .loop .inv .1, omega arith)
+returns c = (
+  level-here (c .before .before .before .before .args .self .names) _ (c .before .before .before .before .args .x .0)
+      (c .before .loop-test .taken) (c .if1 .taken) ∙ c .before .before .loop .inv .1,
+  omega arith,
+)
 
 sub-i : tie.Need-sub-i Inv-loop μ-loop
 sub-i c = search needs
@@ -41,10 +44,18 @@ loop-less : tie.Need-loop-less Inv-loop μ-loop
 loop-less c = search needs
 
 loop-again : tie.Need-loop-again Inv-loop μ-loop
-loop-again c = (omega arith, level-step (c .before .before .before .before .args .self .names) _ (c .before .before .before .before .args .x .0) (c .before .loop-test .taken) (c .if1 .left) ∙ c .before .before .loop .inv .1)
+loop-again c = (
+  omega arith,
+  level-step (c .before .before .before .before .args .self .names) _ (c .before .before .before .before .args .x .0)
+      (c .before .loop-test .taken) (c .if1 .left) ∙ c .before .before .loop .inv .1,
+)
 
 returns-2 : tie.Need-returns-2 Inv-loop μ-loop
-returns-2 c = (level-none (c .before .before .before .args .self .names) _ (c .before .before .before .args .x .0) (c .loop-test .left) ∙ c .before .loop .inv .1, omega arith)
+returns-2 c = (
+  level-none (c .before .before .before .args .self .names) _ (c .before .before .before .args .x .0) (c .loop-test .left)
+      ∙ c .before .loop .inv .1,
+  omega arith,
+)
 
 pub level-spec : {M : Type 1} → statement M
 level-spec =

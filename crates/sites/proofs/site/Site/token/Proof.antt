@@ -15,7 +15,13 @@ token-requires : tie.Need-token-requires
 token-requires c κs = search needs
 
 returns : tie.Need-returns
-returns c = c .token .ensures ∙ rw (c .before .before .tag .ensures .0, label-tag (c .before .before .before .args .node) (c .before .before .before .args .count), c .before .payload .ensures .0)
+returns c =
+    c .token .ensures
+    ∙ rw (
+      c .before .before .tag .ensures .0,
+      label-tag (c .before .before .before .args .node) (c .before .before .before .args .count),
+      c .before .payload .ensures .0,
+    )
 
 pub token-spec : {M : Type 1} → statement M
 token-spec = tie.close (tie.spec tag-requires payload-requires token-requires returns)
