@@ -1,5 +1,6 @@
 -- What each entry point owes, on any input: "Every entry point's answer is equated with the definitions above for all inputs, buffer and
 -- open search included". "Every entry point that takes a problem makes all checks down to the faces first."
+--   startCall    the start of a problem, from its bytes
 --   SearchCall   a search call on bytes, a place value and an allowance
 --   WriteCall    writing the text of a row into a buffer
 --   checkCall    the checker on bytes and a text
@@ -14,12 +15,16 @@ use Rattle.meaning.specs.Read.{Answer, after, got, refused}
 use Rattle.meaning.specs.Row.{Row}
 use Rattle.meaning.specs.Accept.{accept}
 use Rattle.meaning.specs.Text.{readText, textOf}
-use Rattle.meaning.specs.Search.{From, Keeps, Place, Reply, at, end, found, paused, refusedCall}
+use Rattle.meaning.specs.Search.{From, Keeps, Place, Reply, at, end, found, paused, refusedCall, start}
 use Rattle.meaning.specs.PlaceValue.{Names, PlaceValue, placeValue}
 use Rattle.meaning.specs.Encoded.{encodeText}
 use Rattle.meaning.specs.Rows.{rows}
 use Rattle.meaning.specs.Candidate.{solves}
 use Rattle.meaning.specs.Passing.{passes}
+
+-- "The start is the first row, or past the last if there is none."
+unfoldable pub startCall : Bytes → Answer PlaceValue
+startCall s = after (accept s) (λ p. got (placeValue (start p)))
 
 -- A reply as a host sees it: the row found is a place that names a row
 abbrev pub HostReply : Type 0

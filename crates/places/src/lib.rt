@@ -1,0 +1,112 @@
+// Places as a host holds them: a mask for each function by ascending number, and whether it is past the last. Any value may be handed
+// in; which place of a problem it names, if any, is looked up in the problem's class tables.
+use accept::Verdict;
+use prepare::prepare;
+use rows::first_row;
+use rows::is_row;
+ghost use mathlib.Core.Path.{_≡_};
+ghost use mathlib.Core.Bool.{true};
+ghost use mathlib.Core.Logic.{_↔_};
+ghost use lib.ListN.{length, replicate};
+ghost use Rattle.meaning.specs.Limits.{maxFunctions};
+ghost use Rattle.meaning.specs.Entry.{startCall};
+ghost use Rattle.rows.specs.Rows.{Long, Tables};
+ghost use Rattle.places.specs.Places.{AtRow, AtPast, Tells, Opens, Begins};
+
+pub struct Place {
+    pub masks: [u64; Place::FUNCTIONS],
+    pub past: bool,
+}
+
+// What a value names.
+pub enum Named {
+    Row,
+    Past,
+    // "16 no such place"
+    Nothing,
+}
+
+// Where the search of a problem begins, or why it is refused. The place stands beside the answer since it holds an array; of a refused
+// problem it means nothing.
+pub enum Start {
+    Refused(u8),
+    Begins,
+}
+
+pub struct Started {
+    pub answer: Start,
+    pub place: Place,
+}
+
+// Whether no mask has a node.
+fn all_empty(masks: [u64; Place::FUNCTIONS]) -> bool
+    ensures { λ r. ⌜ (r ≡ true) ↔ (masks ≡ replicate maxFunctions 0) ⌝ }
+{
+    let mut k = 0;
+    while k < Place::FUNCTIONS {
+        if masks[k] != 0 {
+            return false;
+        }
+        k += 1;
+    }
+    true
+}
+
+impl Place {
+    // How many functions a place has masks for, and how many nodes a mask.
+    pub const FUNCTIONS: usize = rows::FUNCTIONS;
+
+    pub const FACE_NODES: usize = masks::WIDTH;
+
+    pub fn at(row: [u64; Place::FUNCTIONS]) -> Place
+        ensures { λ r. ⌜ AtRow row r ⌝ }
+    {
+        Place {
+            masks: row,
+            past: false,
+        }
+    }
+
+    pub fn past_last() -> Place
+        ensures { λ r. ⌜ AtPast r ⌝ }
+    {
+        Place {
+            masks: [0u64; Place::FUNCTIONS],
+            past: true,
+        }
+    }
+
+    // What the value names, by the class tables of a problem and whether its shapes agree.
+    pub fn named(self, agree: bool, ds: &[u64]) -> Named
+        requires { ⌜ Long (now ds) ⌝ }
+        ensures { λ r. ⌜ Tells (self) agree (now (ds .entry)) r ⌝ }
+    {
+        let row = self.masks;
+        if self.past {
+            if all_empty(row) {
+                return Named::Past;
+            }
+            return Named::Nothing;
+        }
+        if !agree {
+            return Named::Nothing;
+        }
+        if is_row(ds, row) {
+            Named::Row
+        } else {
+            Named::Nothing
+        }
+    }
+
+    // The first row of the tables, or past the last where shapes disagree.
+    fn first(agree: bool, ds: &[u64]) -> Place
+        requires { ⌜ Opens agree (now ds) ⌝ }
+        ensures { λ r. ⌜ Begins agree (now (ds .entry)) r ⌝ }
+    {
+        if agree {
+            Place::at(first_row(ds))
+        } else {
+            Place::past_last()
+        }
+    }
+}
