@@ -9,12 +9,15 @@ use Prim.Native.Nat.{ℕ}
 use lib.ListN.{replicate}
 use Rattle.meaning.specs.Limits.{maxFunctions}
 use Rattle.meaning.specs.Basics.{_∈_}
+use Rattle.meaning.specs.Read.{Answer, refused, got}
 use Rattle.meaning.specs.Search.{at, placeOf}
 use Rattle.meaning.specs.PlaceValue.{PlaceValue}
 use Rattle.rows.specs.Rows.{MaskRow, maskRows, Tables}
 use Rattle.places.specs.declared.Place.{Place}
 use Rattle.places.specs.declared.Named.{Named}
 use Rattle.places.specs.declared.Named.the-variants as named
+use Rattle.places.specs.declared.Started.{Started}
+use Rattle.places.specs.declared.Start.the-variants as starts
 
 abbrev pub valueOf : Place → PlaceValue
 valueOf p = record { masks = p .masks; isPast = p .past }
@@ -45,3 +48,8 @@ Opens agree ds = agree ≡ true → Tables ds
 unfoldable pub Begins : Bool → List ℕ → Place → Type 0
 Begins true ds r = (row : MaskRow) × (placeOf (maskRows ds) ≡ at row) × AtRow row r
 Begins false ds r = AtPast r
+
+-- Document 01's refusal with its number, or the value of the start
+unfoldable pub Starts : Answer PlaceValue → Started → Type 0
+Starts (refused n) r = r .answer ≡ starts.Refused n
+Starts (got v) r = (r .answer ≡ starts.Begins) × (valueOf (r .place) ≡ v)

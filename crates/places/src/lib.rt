@@ -4,6 +4,7 @@ use accept::Verdict;
 use prepare::prepare;
 use rows::first_row;
 use rows::is_row;
+use table::TABLE_ROOM;
 ghost use mathlib.Core.Path.{_≡_};
 ghost use mathlib.Core.Bool.{true};
 ghost use mathlib.Core.Logic.{_↔_};
@@ -11,7 +12,7 @@ ghost use lib.ListN.{length, replicate};
 ghost use Rattle.meaning.specs.Limits.{maxFunctions};
 ghost use Rattle.meaning.specs.Entry.{startCall};
 ghost use Rattle.rows.specs.Rows.{Long, Tables};
-ghost use Rattle.places.specs.Places.{AtRow, AtPast, Tells, Opens, Begins};
+ghost use Rattle.places.specs.Places.{AtRow, AtPast, Tells, Opens, Begins, Starts};
 
 pub struct Place {
     pub masks: [u64; Place::FUNCTIONS],
@@ -107,6 +108,28 @@ impl Place {
             Place::at(first_row(ds))
         } else {
             Place::past_last()
+        }
+    }
+
+    // The start of the problem, from any bytes.
+    pub fn start(problem: &[u8]) -> Started
+        ensures { λ r. ⌜ Starts (startCall (now (problem .entry))) r ⌝ }
+    {
+        let mut ps = [0u64; TABLE_ROOM];
+        let mut es = [0u64; TABLE_ROOM];
+        let mut fs = [0u64; TABLE_ROOM];
+        let mut ds = [0u64; Place::FUNCTIONS * Place::FACE_NODES];
+        let prepared = prepare(problem, &mut ps, &mut es, &mut fs, &mut ds);
+        let verdict = prepared.verdict;
+        match verdict {
+            Verdict::Refused(r) => Started {
+                answer: Start::Refused(r),
+                place: Place::past_last(),
+            },
+            Verdict::Accepted(a) => Started {
+                answer: Start::Begins,
+                place: Place::first(a.agree, &ds),
+            },
         }
     }
 }

@@ -3,9 +3,9 @@ use mathlib.Core.Path.{_≡_, refl, ap, sym, _∙_, subst}
 use mathlib.Core.Bool.{Bool, true, false, true≢false}
 use mathlib.Core.List.{List, [], _∷_, _++_}
 use mathlib.Core.Option.{Option, none, some}
-use Prim.Native.Nat.{ℕ, suc, _<_, _≤_}
+use Prim.Native.Nat.{ℕ, suc, _*_, _<_, _≤_}
 use native.Mathlib.Omega.{arith}
-use lib.ListN.{length, take, drop, length-append, length-take}
+use lib.ListN.{length, take, drop, length-append, length-take, replicate, length-replicate}
 use lib.Seq.{take-at}
 use Rattle.meaning.specs.Limits.{metavariableCount, maxFunctions}
 use Rattle.meaning.specs.Basics.{All, isSome}
@@ -29,7 +29,10 @@ use Rattle.faces.proofs.FirstMeaning.{first-faces-mean}
 use Rattle.classes.specs.FaceTable.{Faces, TablesFrom}
 use Rattle.classes.specs.Tabled as classes
 use Rattle.classes.proofs.ProblemTables.{problem-faces, problem-tabled}
-use Rattle.accept.specs.Acceptance.{Stands, Accepts}
+use Rattle.masks.specs.Mask.{width}
+use Rattle.rows.specs.Rows.{Long}
+use Rattle.table.specs.Whole.{tableRoom}
+use Rattle.accept.specs.Acceptance.{Stands, Accepts, Rooms}
 use Rattle.accept.specs.declared.Standing.{Standing}
 use Rattle.accept.specs.declared.Verdict.the-variants as verdicts
 use Rattle.prepare.specs.Prepared.{NoFaces, NodesOf, Laid, Ground, Tabled, Tabling, Prepares}
@@ -157,3 +160,51 @@ module _ (s ps ps′ es es′ fs′ : List ℕ) (bytes : All (λ b. b < 256) s) 
       go (got p) e h =
           let same : h .0 ≡ a = let q = h .1 in cc in
           (a, stands-laid p a e (subst (Stands p ps ps′ es es′ fs′) same (h .2)), t)
+
+-- What the answer tells a caller
+pub prepared-refused : (x : Answer Problem) (ps es fs ds : List ℕ) (r : Prepared) (n : ℕ) → Prepares x ps es fs ds r → r .verdict ≡ verdicts.Refused n
+    → x ≡ refused n
+unfolding Prepares
+prepared-refused (refused m) ps es fs ds r n h e = let z : m ≡ n = cc in ap refused z
+prepared-refused (got p) ps es fs ds r n h e = absurd (let v = h .2 .verdict in let z : _≡_ {A = ℕ} 0 1 = cc in omega arith)
+
+pub record Ready (x : Answer Problem) (ps es fs ds : List ℕ) (a : Standing) (firsts : Firsts) : Type 0 where
+  pub problem : Problem
+  pub answer : x ≡ got problem
+  pub laid : Laid problem ps es fs a
+  pub tabled : Tabled ps es fs ds a firsts
+
+pub prepared-accepted : (x : Answer Problem) (ps es fs ds : List ℕ) (r : Prepared) (a : Standing) → Prepares x ps es fs ds r
+    → r .verdict ≡ verdicts.Accepted a → Ready x ps es fs ds a (r .firsts)
+unfolding Prepares
+prepared-accepted (refused m) ps es fs ds r a h e = absurd (let z : _≡_ {A = ℕ} 0 1 = cc in omega arith)
+prepared-accepted (got p) ps es fs ds r a h e =
+    let v = h .2 .verdict in
+    let same : h .0 ≡ a = cc in
+    record {
+      problem = p;
+      answer = refl;
+      laid = subst (Laid p ps es fs) same (h .1);
+      tabled = subst (λ (b : Standing). Tabled ps es fs ds b (r .firsts)) same (h .2 .tabled);
+    }
+
+module _ (x : Answer Problem) (ps es fs ds : List ℕ) (a : Standing) (firsts : Firsts) (ready : Ready x ps es fs ds a firsts) where
+  -- Where shapes agree: the faces, their nodes, the class tables
+  pub ready-nodes : a .agree ≡ true → Listed (take (a .patterns) ps) (take (a .faces) fs) (a .occurring .functions) firsts
+  unfolding NodesOf
+  ready-nodes e =
+      subst (λ (b : Bool). NodesOf b (take (a .patterns) ps) (take (a .faces) fs) (a .occurring .functions) firsts) e (ready .tabled .nodes)
+
+  pub ready-tables : a .agree ≡ true → classes.Tabled (ready .problem) ds
+  ready-tables e =
+      let found = is-some (faces (ready .problem)) (sym (ready .laid .agree) ∙ e) in
+      tables-mean (ready .problem) ps es fs a (ready .laid) firsts (found .0) (found .1) (ready-nodes e) ds (ready .tabled .tables)
+
+-- Tables as the callers of `prepare` make them have room
+pub fresh-rooms : Rooms (replicate tableRoom 0) (replicate tableRoom 0) (replicate tableRoom 0)
+fresh-rooms =
+    let l : length {A = ℕ} (replicate tableRoom 0) ≡ tableRoom = length-replicate {A = ℕ} tableRoom 0 in
+    record { patterns = omega arith; expressions = omega arith; faces = omega arith }
+
+pub fresh-long : Long (replicate (maxFunctions * width) 0)
+fresh-long = length-replicate {A = ℕ} (maxFunctions * width) 0

@@ -1,0 +1,115 @@
+-- What a value names is what `meaning` says that it names, and the first place is the start.
+use mathlib.Core.Path.{_≡_, refl, ap, sym, _∙_, subst}
+use mathlib.Core.Bool.{Bool, true, false, true≢false, false≢true}
+use mathlib.Core.List.{List, []}
+use mathlib.Core.Option.{Option, none, some}
+use Prim.Native.Nat.{ℕ}
+use lib.ListN.{replicate}
+use Rattle.meaning.specs.Limits.{maxFunctions}
+use Rattle.meaning.specs.Basics.{isSome, _∈_}
+use Rattle.meaning.specs.Problem.{Problem}
+use Rattle.meaning.specs.Face.{Face, faces}
+use Rattle.meaning.specs.Row.{Row}
+use Rattle.meaning.specs.Rows.{rows, rowsOver}
+use Rattle.meaning.specs.Readable.{Accepted}
+use Rattle.meaning.specs.Accept.{accept}
+use Rattle.meaning.specs.Entry.{startCall}
+use Rattle.meaning.specs.Search.{Place, at, past, placeOf, start}
+use Rattle.meaning.specs.PlaceValue.{PlaceValue, masksOf, placeValue, Names}
+use Rattle.meaning.proofs.ChoiceLaws.{rows-are}
+use Rattle.rows.specs.Rows.{MaskRow, maskRows, Tables}
+use Rattle.classes.specs.Tabled.{Tabled}
+use Rattle.classes.proofs.Problem.{row-masks, first-row-of, tabled-tables}
+use Rattle.accept.specs.declared.Standing.{Standing}
+use Rattle.accept.specs.declared.Verdict.the-variants as verdicts
+use Rattle.prepare.specs.Prepared.{Prepares}
+use Rattle.prepare.specs.declared.Prepared.{Prepared}
+use Rattle.prepare.proofs.PreparedLaws.{Ready, prepared-refused, prepared-accepted, ready-tables}
+use Rattle.places.specs.Places.{valueOf, AtRow, AtPast, IsRowOf, Opens, Begins, Starts}
+use Rattle.places.specs.declared.Place as code
+use Rattle.places.specs.declared.Started.{Started}
+use Rattle.places.specs.declared.Start.the-variants as starts
+
+no-rows : (p : Problem) → isSome (faces p) ≡ false → rows p ≡ []
+unfolding rows
+no-rows p e = go (faces p) e
+  where
+    go : (o : Option (List Face)) → isSome o ≡ false → rowsOver p o ≡ []
+    go none e = refl
+    go (some xs) e = absurd (true≢false e)
+
+-- Values by their parts
+row-value : (r : Row) → placeValue (at r) ≡ record { masks = masksOf r; isPast = false }
+unfolding placeValue
+row-value r = refl
+
+past-value : placeValue past ≡ record { masks = replicate maxFunctions 0; isPast = true }
+unfolding placeValue
+past-value = refl
+
+same-value : (v : code.Place) (w : PlaceValue) → v .masks ≡ w .masks → v .past ≡ w .isPast → valueOf v ≡ w
+same-value v w e f = λ i. record { masks = e i; isPast = f i }
+
+module _ (p : Problem) (a : Accepted p) (ds : List ℕ) (agree : Bool) (told : agree ≡ isSome (faces p)) (tabled : agree ≡ true → Tabled p ds)
+    (v : code.Place) where
+  -- A row of the tables names a row of the problem
+  pub row-named : IsRowOf v agree ds → (r : Row) × (r ∈ rows p) × (v .masks ≡ masksOf r) × Names p (valueOf v) (at r)
+  row-named h =
+      let (r, m, e) = row-masks p ds a (sym told ∙ h .agrees) (tabled (h .agrees)) (v .masks) .0 (h .member) in
+      (r, m, e, record { isPlace = rows-are p r .0 m; isValue = same-value v (placeValue (at r)) (e ∙ ap (λ (w : PlaceValue). w .masks) (sym (row-value r))) (h .here ∙ ap (λ (w : PlaceValue). w .isPast) (sym (row-value r))) })
+
+  pub past-named : AtPast v → Names p (valueOf v) past
+  past-named h = record { isPlace = tt; isValue = same-value v (placeValue past) (h .masks ∙ ap (λ (w : PlaceValue). w .masks) (sym past-value)) (h .past ∙ ap (λ (w : PlaceValue). w .isPast) (sym past-value)) }
+
+  -- ... and nothing else does
+  named-row : (r : Row) → Names p (valueOf v) (at r) → IsRowOf v agree ds
+  named-row r n =
+      let shapes = n .isPlace .agree in
+      let whole : valueOf v ≡ record { masks = masksOf r; isPast = false } = n .isValue ∙ row-value r in
+      let t : agree ≡ true = told ∙ shapes in
+      record {
+        here = ap (λ (w : PlaceValue). w .isPast) whole;
+        agrees = t;
+        member = row-masks p ds a shapes (tabled t) (v .masks) .1 (r, rows-are p r .1 (n .isPlace), ap (λ (w : PlaceValue). w .masks) whole);
+      }
+
+  named-past : Names p (valueOf v) past → AtPast v
+  named-past n =
+      let whole : valueOf v ≡ record { masks = replicate maxFunctions 0; isPast = true } = n .isValue ∙ past-value in
+      record { masks = ap (λ (w : PlaceValue). w .masks) whole; past = ap (λ (w : PlaceValue). w .isPast) whole }
+
+  pub nothing-named : (IsRowOf v agree ds → ⊥) → (AtPast v → ⊥) → (place : Place Row) → Names p (valueOf v) place → ⊥
+  nothing-named f g (at r) n = f (named-row r n)
+  nothing-named f g past n = g (named-past n)
+
+  -- The first place is the start
+  pub begins-start : Begins agree ds v → valueOf v ≡ placeValue (start p)
+  unfolding Begins
+  begins-start h = go agree refl h
+    where
+      go : (b : Bool) → agree ≡ b → Begins b ds v → valueOf v ≡ placeValue (start p)
+      go true e h =
+          same-value v (record { masks = h .0; isPast = false }) (h .2 .masks) (h .2 .here)
+          ∙ first-row-of p ds a (sym told ∙ e) (tabled e) (h .0) (h .1)
+      go false e h = past-named h .isValue ∙ ap (λ (l : List Row). placeValue (placeOf l)) (sym (no-rows p (sym told ∙ e)))
+
+-- The answers of `start`
+module _ (s ps es fs ds : List ℕ) (prepared : Prepared) (h : Prepares (accept s) ps es fs ds prepared) where
+  pub starts-refused : (n : ℕ) (r : Started) → prepared .verdict ≡ verdicts.Refused n → r .answer ≡ starts.Refused n → Starts (startCall s) r
+  unfolding startCall Starts
+  starts-refused n r e q = rw (prepared-refused (accept s) ps es fs ds prepared n h e) q
+
+  module _ (a : Standing) (e : prepared .verdict ≡ verdicts.Accepted a) where
+    ready : Ready (accept s) ps es fs ds a (prepared .firsts)
+    ready = prepared-accepted (accept s) ps es fs ds prepared a h e
+
+    pub starts-open : Opens (a .agree) ds
+    starts-open t = tabled-tables (ready .problem) ds (ready-tables (accept s) ps es fs ds a (prepared .firsts) ready t)
+
+    pub starts-begins : (r : Started) → r .answer ≡ starts.Begins → Begins (a .agree) ds (r .place) → Starts (startCall s) r
+    unfolding startCall Starts
+    starts-begins r q b =
+        rw (ready .answer)
+        (q,
+        begins-start (ready .problem) (ready .laid .accepted) ds (a .agree) (ready .laid .agree)
+        (ready-tables (accept s) ps es fs ds a (prepared .firsts) ready) (r .place) b)
