@@ -1,0 +1,3 @@
+-- Laws of the functions, and what their answers mean.
+pub mod MarkLaws
+pub mod ClosedLaws
