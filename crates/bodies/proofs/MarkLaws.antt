@@ -1,5 +1,5 @@
 -- What a mask says of the nodes of a face is what the marks say that it is the mask of.
-use mathlib.Core.Path.{_≡_, ap, _∙_}
+use mathlib.Core.Path.{_≡_, refl, ap, _∙_}
 use Prim.Native.Nat.{ℕ, zero, suc, _+_, _*_, _^_, _<_, _≤_}
 use native.Mathlib.Nat.{one-mul}
 use native.Mathlib.Omega.{arith}
@@ -7,10 +7,10 @@ use native.Mathlib.Decide.{decLt}
 use mathlib.Core.Bool.{Bool, true, false}
 use mathlib.Core.List.{List, [], _∷_}
 use mathlib.Core.Option.{none, some}
-use lib.ListN.{length, getD, getElem?, List·getD-eq-default}
+use lib.ListN.{length, getD, drop, getElem?, List·getD-eq-default}
 use Rattle.meaning.specs.Limits.{maxFaceNodes}
 use Rattle.meaning.specs.Basics.{isSome, holds}
-use Rattle.meaning.specs.Choice.{Mark, Marks}
+use Rattle.meaning.specs.Choice.{Mark, Marks, mark, rest}
 use Rattle.meaning.specs.PlaceValue.{bit, maskOf}
 use Rattle.meaning.proofs.Lists.{never}
 use Rattle.meaning.proofs.PlaceLaws.{mask-small}
@@ -52,6 +52,22 @@ lowest-of (suc w) (none ∷ ms) i (suc j) h l =
 pub marked-means : (ms : Marks) (i : ℕ) → length ms ≤ maxFaceNodes → marked (maskOf maxFaceNodes ms) i ≡ holds isSome (getElem? ms i)
 unfolding marked maxFaceNodes
 marked-means ms i h = marks-of width ms i h
+
+-- The same by the marks that are left from a node on, as `punch` goes through them
+mark-at : (ms : Marks) (i : ℕ) → holds isSome (getElem? ms i) ≡ isSome (mark (drop i ms))
+mark-at [] zero = refl
+mark-at [] (suc i) = refl
+mark-at (m ∷ ms) zero = refl
+mark-at (m ∷ ms) (suc i) = mark-at ms i
+
+pub marked-left : (ms : Marks) (i : ℕ) → length ms ≤ maxFaceNodes → marked (maskOf maxFaceNodes ms) i ≡ isSome (mark (drop i ms))
+marked-left ms i h = marked-means ms i h ∙ mark-at ms i
+
+pub rest-left : (ms : Marks) (i : ℕ) → rest (drop i ms) ≡ drop (suc i) ms
+rest-left [] zero = refl
+rest-left [] (suc i) = refl
+rest-left (m ∷ ms) zero = refl
+rest-left (m ∷ ms) (suc i) = rest-left ms i
 
 -- THE LOWEST NODE
 pub lowest-means : (ms : Marks) (i j : ℕ) → length ms ≤ maxFaceNodes → LowestMark i j ms → lowestMarked (maskOf maxFaceNodes ms) ≡ j
