@@ -114,7 +114,7 @@ closed-stands levels ctx es f sc t h s ms few =
     ∙ closed-trees hole ms (λ i. marked-left ms i few) (length sc) 0 0 levels ctx sc (one t) [] (omega arith) (h .readable)
     (record { depths = h .depths; sizes = h .sizes })
     ∙ and-true (isClosed 0 (punch ms (one (namelessTerm sc t))))
-    ∙ ap (isClosed 0) (punch-one ms (namelessTerm sc t))
+    ∙ sym (ap (isClosed 0) (punch-one ms (namelessTerm sc t)))
 
 -- THE BODY IS CLOSED: "Values and bodies have no variable bound outside themselves"
 pub body-closed-means : (p : Problem) → WithinLimits p → (f : ℕ) (face : Term) → nodeAt f (expressions p) ≡ some face
