@@ -3,7 +3,6 @@
 use mathlib.Core.Path.{sym, _∙_}
 use Prim.Native.Nat.{_-_}
 use native.Mathlib.Omega.{arith}
-use lib.ListN.{length}
 use borrow.Author.Tests.{not-true, not-false}
 use Rattle.lockstep.proofs.SpanLaws.{Walking, left-out, left-differs, walking-start, walking-same, walking-face, walked-disagree, walked-end}
 use borrow.Author.Needs.{needs}
@@ -17,7 +16,7 @@ abbrev μ-loop : tie.MeasureT-loop
 μ-loop ps es out₀ to d e i₀ j₀ n₀ out i j n = to - i
 
 loop-holds : tie.Need-loop-holds Inv-loop μ-loop
-loop-holds c = 
+loop-holds c =
     let s = c .before .before .before in
     walking-start (s .args .ps .now) (s .args .es .now) (s .args .out .now) (s .args .span) (s .pre)
 
