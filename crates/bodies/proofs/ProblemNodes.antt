@@ -1,11 +1,10 @@
 -- The table of a problem's expressions is what the functions ask for: each node's subterm lies in it.
-use mathlib.Core.Path.{_≡_, refl, ap, _∙_}
+use mathlib.Core.Path.{_≡_, refl, _∙_}
 use Prim.Native.Nat.{ℕ, zero, suc, _-_, _<_}
 use native.Mathlib.Omega.{arith}
 use native.Mathlib.Decide.{decLt}
 use mathlib.Core.List.{[]}
 use mathlib.Core.Option.{some}
-use lib.ListN.{length}
 use Rattle.meaning.specs.Term.{Forest, nil, cons, Tree, size, nodeAt}
 use Rattle.meaning.specs.Scope.{enter, namelessLabel}
 use Rattle.meaning.specs.Problem.{Problem, namedExpressions, expressions}

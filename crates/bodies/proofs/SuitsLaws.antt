@@ -1,7 +1,7 @@
 -- What the loop of `suits` owes, over the numbers and lists that the code holds.
 --   left      the test of what is left of the two from nodes i and j on
 --   Walking   the loop's invariant: what is left says what the whole does; up to the lowest hole the two are passed node by node
-use mathlib.Core.Path.{_≡_, refl, ap, ap₂, sym, _∙_}
+use mathlib.Core.Path.{_≡_, ap, ap₂, sym, _∙_}
 use mathlib.Core.Bool.{Bool, true, false, _&&_, not, and-false}
 use mathlib.Core.List.{List, [], _∷_}
 use mathlib.Core.Option.{Option, none, some}

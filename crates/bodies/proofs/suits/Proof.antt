@@ -1,5 +1,5 @@
 -- `bodies::suits` meets its contract. The loop's invariant is `Walking`; the measure is the number of nodes left of the face.
-use mathlib.Core.Path.{_≡_, sym, _∙_}
+use mathlib.Core.Path.{sym, _∙_}
 use Prim.Native.Nat.{_+_, _-_}
 use native.Mathlib.Omega.{arith}
 use borrow.Author.Tests.{not-true, not-false}
