@@ -102,7 +102,7 @@ module _ {es : List ℕ} {face mask n d i : ℕ} (w : Testing es face mask n d i
           inside = w .inside;
           isSize = w .isSize;
           whole = sym (left-hole (marked mask) d (part es face) i (omega (arith, long)) e (omega (arith, size-counted))
-          ∙ ap (λ (k : ℕ). left (marked mask) d (part es face) (i + k)) size) ∙ w .whole;
+              ∙ ap (λ (k : ℕ). left (marked mask) d (part es face) (i + k)) size) ∙ w .whole;
         }
 
     module _ (e : marked mask i ≡ false) where
