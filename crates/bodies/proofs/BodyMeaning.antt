@@ -36,9 +36,9 @@ use Rattle.bodies.specs.BodyClosed.{closedFrom, bodyClosedAt}
 use Rattle.bodies.proofs.MarkLaws.{marked-left, punch-left}
 use Rattle.bodies.proofs.ClosedLaws.{closed-hole, closed-own, closed-skip}
 
-four : (a b c d : Bool) → a && (b && (c && d)) ≡ a && (b && c) && d
-four true b c d = sym (and-assoc b c d)
-four false b c d = refl
+regroup : (a b c d : Bool) → a && (b && (c && d)) ≡ a && (b && c) && d
+regroup true b c d = sym (and-assoc b c d)
+regroup false b c d = refl
 
 module _ (hole : ℕ → Bool) (ms : Marks) (told : (i : ℕ) → hole i ≡ isSome (mark (drop i ms))) where
   module _ (d : ℕ) where
@@ -57,7 +57,7 @@ module _ (hole : ℕ → Bool) (ms : Marks) (told : (i : ℕ) → hole i ≡ isS
           ∙ closed-skip hole d (size c) (suc i) (tokens (enter l sc) c ++ xs)
           ∙ ap (flat (suc i + size c)) (drop-at (tokens (enter l sc) c) xs (size c) (tokens-length (enter l sc) c))
 
-      l′ : Nameless
+      abbrev l′ : Nameless
       l′ = namelessLabel sc l
 
       -- b and t are what the marks make of the nodes below and after it, and after is the test of what comes after these
@@ -66,7 +66,6 @@ module _ (hole : ℕ → Bool) (ms : Marks) (told : (i : ℕ) → hole i ≡ isS
           → flat (suc i + size c) xs ≡ isClosed k t && after
           → flat i (tokenAt sc l c ∷ (tokens (enter l sc) c ++ xs))
           ≡ isClosed k (punchNode (mark (drop i ms)) (namelessLabel sc l) b t) && after
-      unfolding l′
       closed-node ctx deep fits b t after below later = go (mark (drop i ms)) refl
         where
           go : (m : Mark) → mark (drop i ms) ≡ m
@@ -77,7 +76,7 @@ module _ (hole : ℕ → Bool) (ms : Marks) (told : (i : ℕ) → hole i ≡ isS
               ∙ ap₂ _&&_
               (ap not (closed-token d k ctx sc (suc (size c)) deep room small l c fits) ∙ Bool·not-not (isClosedLabel k l′))
               (below ∙ ap (λ (y : Bool). isClosed (inner l′ k) b && y) later)
-              ∙ four (isClosedLabel k l′) (isClosed (inner l′ k) b) (isClosed k t) after
+              ∙ regroup (isClosedLabel k l′) (isClosed (inner l′ k) b) (isClosed k t) after
 
     closed-trees : (i k levels : ℕ) (ctx : Context) (sc : List ℕ) (u : Forest Named) (xs : List ℕ) → length sc ≡ k + d
         → Readable levels ctx u
