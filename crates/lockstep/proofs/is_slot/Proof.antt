@@ -1,8 +1,8 @@
--- `walk::is_slot` meets its contract: the tag is 5, or it is not and whether it is 6 decides.
-use Rattle.faces.proofs.FlatLaws.{slot-five, slot-six}
+-- `is_slot` meets its contract: the tag is 5, or it is not and whether it is 6 decides.
+use Rattle.lockstep.proofs.SpanLaws.{slot-five, slot-six}
 use borrow.Author.Needs.{needs}
-use Rattle.faces.proofs.walk.is_slot.Statement.{statement}
-use Rattle.faces.proofs.walk.is_slot.Tie as tie
+use Rattle.lockstep.proofs.is_slot.Statement.{statement}
+use Rattle.lockstep.proofs.is_slot.Tie as tie
 
 tag-requires : tie.Need-tag-requires
 tag-requires c κs = search needs

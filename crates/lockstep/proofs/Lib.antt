@@ -1,0 +1,6 @@
+-- Laws of the walk, and what it is on the tables of two forests.
+pub mod WalkLaws
+pub mod WalkTrees
+pub mod SlotWalk
+pub mod SpanLaws
+pub mod LoweredWalk
