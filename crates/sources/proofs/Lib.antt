@@ -1,0 +1,2 @@
+-- Laws of demands on the token tables, and what they mean.
+pub mod KeptLaws
