@@ -1,2 +1,3 @@
 -- Laws of demands on the token tables, and what they mean.
 pub mod KeptLaws
+pub mod KeptMeaning
