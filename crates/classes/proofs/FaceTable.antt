@@ -30,7 +30,7 @@ use Rattle.classes.specs.Tabled.{isFree, areEqual, free, equal, FaceClas
 use Rattle.classes.specs.FaceTable.{sizeFrom, freeFrom, sameFrom, ClassesFrom, Whole, FaceAt}
 use Rattle.classes.proofs.FaceChoices.{views-same, same-views}
 use Rattle.classes.proofs.Spots.{Spot, spot}
-use Rattle.classes.proofs.Levels.{equal-levels}
+use Rattle.tokens.proofs.Owners.{equal-levels}
 
 at-past : {A : Type 0} (xs : List A) (i : ℕ) → length xs ≤ i → getElem? xs i ≡ none
 at-past [] i h = refl

@@ -2,7 +2,6 @@
 pub mod Lists
 pub mod FaceChoices
 pub mod Spots
-pub mod Levels
 pub mod FaceTable
 pub mod Entries
 pub mod Filling

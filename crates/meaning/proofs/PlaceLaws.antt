@@ -53,7 +53,7 @@ small-faces p a agree f m =
 abbrev OnePlace : Marks → Type 0
 OnePlace ms = (k i : ℕ) → getElem? ms k ≡ some (some i) → i ≡ 0
 
-mask-small : (w : ℕ) (ms : Marks) → maskOf w ms < 2 ^ w
+pub mask-small : (w : ℕ) (ms : Marks) → maskOf w ms < 2 ^ w
 unfolding maskOf
 mask-small w [] = pow-pos w
 mask-small zero (m ∷ ms) = omega arith

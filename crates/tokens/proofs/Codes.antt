@@ -137,7 +137,7 @@ module _ (root : List ℕ) where
   abbrev pub seenLabel : ℕ → Nameless → Viewed
   seenLabel k l = withVariable (see (levelFrom root) k) l
 
-  abbrev viewFrom : ℕ → Terms → View ℕ
+  abbrev pub viewFrom : ℕ → Terms → View ℕ
   viewFrom k u = relabel inner seenLabel k u
 
   variable-code : (k : ℕ) (sc : List ℕ) (x : ℕ) → length sc ≡ k + length root

@@ -4,5 +4,6 @@ pub mod Levels
 pub mod Codes
 pub mod Reaching
 pub mod KeyLaws
+pub mod Owners
 pub mod ProblemTokens
 pub mod Examples

@@ -185,3 +185,9 @@ unfolding allVariables
 lower-term n t =
     both-then (lowerLabel n 0 (t .0)) _ _ (λ l. some-then (lower n (inner (t .0) 0) (t .1)) _)
     ∙ ap₂ _&&_ (lower-label n 0 (t .0)) (lower-all n (inner (t .0) 0) (t .1) ∙ sym (and-true _))
+
+-- One token, seen from a root at depth r: it reaches out of it where its variable is bound by none of the k binders below the root
+pub closed-token : (r k : ℕ) (ctx : Context) (sc : List ℕ) (n : ℕ) → length sc ≡ k + r → length sc < 256 → n < 65536 → (l : Named) (c : Forest Named)
+    → NodeFits ctx l c → reaches 0 r (tokenOf (tagOf l) (length sc) n (payloadOf sc l)) ≡ not (isClosedLabel k (namelessLabel sc l))
+closed-token r k ctx sc n deep room small l c f =
+    label-reaches isClosedVariable 0 r (told-closed r) ctx k sc n deep room small l c f ∙ sym (ap not (closed-label k (namelessLabel sc l)))

@@ -104,7 +104,7 @@ pub fn same(t: &[u64], a: usize, b: usize) -> bool
 }
 
 // Whether a token is a variable with a level above d and at most r: bound outside a root at depth r, inside one at depth d.
-fn reaches(d: u64, r: u64, x: u64) -> bool
+pub fn reaches(d: u64, r: u64, x: u64) -> bool
     ensures { λ b. ⌜ b ≡ reaches d r x ⌝ }
 {
     if tag(x) != 2 {

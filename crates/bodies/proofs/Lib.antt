@@ -1,0 +1,4 @@
+-- Laws of the functions, and what their answers mean.
+pub mod MarkLaws
+pub mod ClosedLaws
+pub mod BodyMeaning

@@ -1,0 +1,75 @@
+-- What a mask says of the nodes of a face is what the marks say that it is the mask of.
+use mathlib.Core.Path.{_≡_, refl, ap, _∙_}
+use Prim.Native.Nat.{ℕ, zero, suc, _+_, _*_, _^_, _<_, _≤_}
+use native.Mathlib.Nat.{one-mul}
+use native.Mathlib.Omega.{arith}
+use native.Mathlib.Decide.{decLt}
+use mathlib.Core.Bool.{Bool, true, false}
+use mathlib.Core.List.{List, [], _∷_}
+use mathlib.Core.Option.{none, some}
+use lib.ListN.{length, getD, drop, getElem?, List·getD-eq-default}
+use Rattle.meaning.specs.Limits.{maxFaceNodes}
+use Rattle.meaning.specs.Basics.{isSome, holds}
+use Rattle.meaning.specs.Choice.{Mark, Marks, mark, rest}
+use Rattle.meaning.specs.PlaceValue.{bit, maskOf}
+use Rattle.meaning.proofs.Lists.{never}
+use Rattle.meaning.proofs.PlaceLaws.{mask-small}
+use Rattle.masks.specs.Mask.{width, marks, first}
+use Rattle.masks.proofs.Marks.{length-marks, marks-none, marks-low, marks-high}
+use Rattle.demands.specs.LowestMark.{LowestMark}
+use Rattle.bodies.specs.Marked.{marked, lowestMarked}
+
+-- The first node, and the others
+marks-front : (w : ℕ) (m : Mark) (ms : Marks) → marks (suc w) (maskOf (suc w) (m ∷ ms)) ≡ isSome m ∷ marks w (maskOf w ms)
+unfolding maskOf
+marks-front w none ms = ap (marks (suc w)) (omega arith) ∙ marks-low w (maskOf w ms) (mask-small w ms)
+marks-front w (some i) ms =
+    ap (λ (n : ℕ). marks (suc w) (n + maskOf w ms)) (one-mul (2 ^ w)) ∙ marks-high w (maskOf w ms) (mask-small w ms)
+
+marks-of : (w : ℕ) (ms : Marks) (i : ℕ) → length ms ≤ w → getD (marks w (maskOf w ms)) i false ≡ holds isSome (getElem? ms i)
+unfolding maskOf
+marks-of w [] i h = go (decLt i w)
+  where
+    go : Dec (i < w) → getD (marks w 0) i false ≡ false
+    go (yes l) = marks-none w i l
+    go (no l) = List·getD-eq-default (marks w 0) false {n = i} (omega (arith, length-marks w 0))
+marks-of zero (m ∷ ms) i h = absurd (omega arith)
+marks-of (suc w) (m ∷ ms) zero h = ap (λ (l : List Bool). getD l 0 false) (marks-front w m ms)
+marks-of (suc w) (m ∷ ms) (suc i) h = ap (λ (l : List Bool). getD l (suc i) false) (marks-front w m ms) ∙ marks-of w ms i (omega arith)
+
+lowest-of : (w : ℕ) (ms : Marks) (i j : ℕ) → length ms ≤ w → LowestMark i j ms → first (marks w (maskOf w ms)) ≡ j
+unfolding first
+lowest-of w [] i j h l = never (cc (l .marked))
+lowest-of zero (m ∷ ms) i j h l = absurd (omega arith)
+lowest-of (suc w) (none ∷ ms) i zero h l = never (cc (l .marked))
+lowest-of (suc w) (some k ∷ ms) i zero h l = ap first (marks-front w (some k) ms)
+lowest-of (suc w) (some k ∷ ms) i (suc j) h l = let q : some (some k) ≡ some none = l .before 0 (omega arith) in never (cc)
+lowest-of (suc w) (none ∷ ms) i (suc j) h l =
+    ap first (marks-front w none ms)
+    ∙ ap suc (lowest-of w ms i j (omega arith) (record { marked = l .marked; before = λ k q. l .before (suc k) (omega arith) }))
+
+-- THE ACCESSOR: a node is marked just where it becomes a hole
+pub marked-means : (ms : Marks) (i : ℕ) → length ms ≤ maxFaceNodes → marked (maskOf maxFaceNodes ms) i ≡ holds isSome (getElem? ms i)
+unfolding marked maxFaceNodes
+marked-means ms i h = marks-of width ms i h
+
+-- The same by the marks that are left from a node on, as `punch` goes through them
+mark-at : (ms : Marks) (i : ℕ) → holds isSome (getElem? ms i) ≡ isSome (mark (drop i ms))
+mark-at [] zero = refl
+mark-at [] (suc i) = refl
+mark-at (m ∷ ms) zero = refl
+mark-at (m ∷ ms) (suc i) = mark-at ms i
+
+pub marked-left : (ms : Marks) (i : ℕ) → length ms ≤ maxFaceNodes → marked (maskOf maxFaceNodes ms) i ≡ isSome (mark (drop i ms))
+marked-left ms i h = marked-means ms i h ∙ mark-at ms i
+
+pub rest-left : (ms : Marks) (i : ℕ) → rest (drop i ms) ≡ drop (suc i) ms
+rest-left [] zero = refl
+rest-left [] (suc i) = refl
+rest-left (m ∷ ms) zero = refl
+rest-left (m ∷ ms) (suc i) = rest-left ms i
+
+-- THE LOWEST NODE
+pub lowest-means : (ms : Marks) (i j : ℕ) → length ms ≤ maxFaceNodes → LowestMark i j ms → lowestMarked (maskOf maxFaceNodes ms) ≡ j
+unfolding lowestMarked maxFaceNodes
+lowest-means ms i j h l = lowest-of width ms i j h l

@@ -1,0 +1,3 @@
+-- One function with its mask by itself, said of the token table.
+pub mod Marked
+pub mod BodyClosed

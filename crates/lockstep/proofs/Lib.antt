@@ -1,0 +1,3 @@
+-- Laws of the walk, and what it is on the tables of two forests.
+pub mod WalkLaws
+pub mod WalkTrees
