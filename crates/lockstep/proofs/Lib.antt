@@ -1,3 +1,4 @@
 -- Laws of the walk, and what it is on the tables of two forests.
 pub mod WalkLaws
 pub mod WalkTrees
+pub mod SlotWalk

@@ -1,2 +1,3 @@
--- The walk of two token tables, said of the tables alone.
+-- The walk of two token tables, said of the tables alone, and what it records.
 pub mod Walk
+pub mod Recorded

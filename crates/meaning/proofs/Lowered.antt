@@ -40,10 +40,10 @@ with-self (own (application n)) = refl
 with-self (own (binder b x)) = refl
 with-self (slot z) = refl
 
-abbrev relabelled : {X Y B : Type 0} → (ℕ → X → Y) → ℕ → Forest (Label X B) → Forest (Label Y B)
+abbrev pub relabelled : {X Y B : Type 0} → (ℕ → X → Y) → ℕ → Forest (Label X B) → Forest (Label Y B)
 relabelled f k u = relabel inner (λ j. withVariable (f j)) k u
 
-relabel-twice : {X Y Z B : Type 0} (f : ℕ → X → Y) (g : ℕ → Y → Z) (h : ℕ → X → Z) → ((k : ℕ) (x : X) → g k (f k x) ≡ h k x)
+pub relabel-twice : {X Y Z B : Type 0} (f : ℕ → X → Y) (g : ℕ → Y → Z) (h : ℕ → X → Z) → ((k : ℕ) (x : X) → g k (f k x) ≡ h k x)
     → (k : ℕ) (u : Forest (Label X B)) → relabelled g k (relabelled f k u) ≡ relabelled h k u
 relabel-twice f g h e k nil = refl
 relabel-twice f g h e k (cons l c s) =

@@ -29,7 +29,7 @@ abbrev pub TellsApart : {W : Type 0} → ℕ → (ℕ → W) → Type 0
 TellsApart n who = (i j : ℕ) → i < n → j < n → who i ≡ who j → i ≡ j
 
 -- and, by two ways of naming them, told apart alike
-abbrev ToldAlike : {W : Type 0} → ℕ → (ℕ → W) → (ℕ → W) → Type 0
+abbrev pub ToldAlike : {W : Type 0} → ℕ → (ℕ → W) → (ℕ → W) → Type 0
 ToldAlike n who who′ = (i j : ℕ) → i < n → j < n → (who i ≡ who′ j) ↔ (i ≡ j)
 
 -- The variable of a label, or x for a label without one
@@ -62,7 +62,7 @@ closed-variable k (own (application n)) h = tt
 closed-variable k (own (binder b y)) h = tt
 closed-variable k (slot z) h = tt
 
-inner-plus : {X B : Type 0} (n k : ℕ) (l : Label X B) → inner l (k + n) ≡ inner l k + n
+pub inner-plus : {X B : Type 0} (n k : ℕ) (l : Label X B) → inner l (k + n) ≡ inner l k + n
 inner-plus n k (own (symbol m)) = refl
 inner-plus n k (own (variable v)) = refl
 inner-plus n k (own (application m)) = refl
@@ -119,7 +119,7 @@ module _ {W : Type 0} (n : ℕ) (who who′ : ℕ → W) (told : ToldAlike n who
   label-alike k (own (binder b x)) h = refl
   label-alike k (slot z) h = refl
 
-  label-injective : (k : ℕ) (l m : Nameless) → closedLabel (k + n) l → closedLabel (k + n) m
+  pub label-injective : (k : ℕ) (l m : Nameless) → closedLabel (k + n) l → closedLabel (k + n) m
       → _≡_ {A = Label (Seen W) (Unit {0})} (withVariable (see who k) l) (withVariable (see who′ k) m) → l ≡ m
   label-injective k l m h g e =
       let v = variableOr (free 0) l in
