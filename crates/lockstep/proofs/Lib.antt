@@ -2,3 +2,4 @@
 pub mod WalkLaws
 pub mod WalkTrees
 pub mod SlotWalk
+pub mod SpanLaws

@@ -103,22 +103,19 @@ agree-label o (own q) t = ap (λ (x : Own Variable (Unit {0})). own x) (own-eq s
 agree-label o (slot z) t = absurd (false≢true t)
 
 -- A forest stands in a larger one from node i on
-pub Looks : (ℕ → Option Term) → ℕ → Terms → Type 0
+abbrev pub Looks : (ℕ → Option Term) → ℕ → Terms → Type 0
 Looks look i u = (m : ℕ) → m < size u → look (i + m) ≡ nodeAt m u
 
 module _ (look : ℕ → Option Term) (i : ℕ) (l : Nameless) (c s : Terms) (h : Looks look i (cons l c s)) where
   look-here : look i ≡ some (l, c)
-  unfolding Looks
   look-here = let e : i ≡ i + 0 = omega arith in ap look e ∙ h 0 (omega arith)
 
   look-below : Looks look (suc i) c
-  unfolding Looks
   look-below m g =
       let e : suc i + m ≡ i + suc m = omega arith in
       ap look e ∙ h (suc m) (omega arith) ∙ choose-true _ _ (lt-ltb m (size c) g)
 
   look-later : Looks look (suc i + size c) s
-  unfolding Looks
   look-later m g =
       let e : suc i + size c + m ≡ i + suc (size c + m) = omega arith in
       let d : size c + m - size c ≡ m = omega arith in
