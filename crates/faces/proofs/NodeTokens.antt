@@ -1,6 +1,6 @@
 -- The term at a node stands in the table at the node's number, so that its token says what it is.
 --   AtNode    the term t at node i: the term that the bytes have, in its scope, with its tokens in the table from i on
-use mathlib.Core.Path.{_≡_, ap, ap₂, sym, _∙_}
+use mathlib.Core.Path.{_≡_, refl, ap, ap₂, sym, _∙_}
 use mathlib.Core.Bool.{true, false, _&&_}
 use mathlib.Core.List.{List, [], _∷_, _++_, append-assoc, append-nil}
 use mathlib.Core.Option.{some}
@@ -110,15 +110,16 @@ module _ (table : List ℕ) (i : ℕ) (t : Term) (n : AtNode table i t) where
       let z : i + 0 ≡ i = add-zero i in
       ap (at table) (sym z) ∙ sym (getD-drop i table 0 0) ∙ ap (λ (l : List ℕ). at l 0) (n .stands .split)
 
--- Whether the token of a slot is that of an application of f
-pub node-applies : (table : List ℕ) (i : ℕ) (z : Slot) (cs : Terms) (f : ℕ) → AtNode table i (slot z, cs)
-    → eqb (tagIn (at table i)) 6 && eqb f (payloadIn (at table i)) ≡ isApplication f z
+-- What the token of a slot says
+pub slot-token : (table : List ℕ) (i : ℕ) (z : Slot) (cs : Terms) → AtNode table i (slot z, cs)
+    → (tagIn (at table i) ≡ tagOf (slot z)) × (payloadIn (at table i) ≡ payloadOf [] (slot z))
 unfolding payloadOf
-node-applies table i z cs f n =
-    ap₂ (λ (g m : ℕ). eqb g 6 && eqb f m)
-    (ap tagIn (node-token table i (slot z, cs) n) ∙ tag-at (n .scope) (n .named .0) (n .named .1) deep small)
-    (ap payloadIn (node-token table i (slot z, cs) n) ∙ payload-at (n .scope) (n .named .0) (n .named .1) deep small)
-    ∙ go (n .named .0) (sym (ap (λ (u : Term). u .0) (n .term)))
+slot-token table i z cs n =
+    let label : tagOf (n .named .0) ≡ tagOf (slot z) = go (n .named .0) (sym (ap (λ (u : Term). u .0) (n .term))) .0 in (
+      ap tagIn (node-token table i (slot z, cs) n) ∙ tag-at (n .scope) (n .named .0) (n .named .1) deep small ∙ label,
+      ap payloadIn (node-token table i (slot z, cs) n) ∙ payload-at (n .scope) (n .named .0) (n .named .1) deep small
+          ∙ go (n .named .0) (sym (ap (λ (u : Term). u .0) (n .term))) .1,
+    )
   where
     deep : length (n .scope) < 256
     deep = omega (arith, n .held .depths, some-levels (n .levels) (n .context) (n .named) (n .held .readable))
@@ -126,14 +127,27 @@ node-applies table i z cs f n =
     small : suc (size (n .named .1)) < 65536
     small = omega (arith, n .held .sizes)
 
-    same : (y : Slot) → y ≡ z → eqb (tagOf (slot y)) 6 && eqb f (payloadOf (n .scope) (slot y)) ≡ isApplication f z
-    same (metavariable m) e = ap (isApplication f) e
-    same (function g a) e = ap (isApplication f) e
-    same (hole h) e = ap (isApplication f) e
+    load : (y : Slot) → payloadOf (n .scope) (slot y) ≡ payloadOf [] (slot y)
+    load (metavariable m) = refl
+    load (function g a) = refl
+    load (hole h) = refl
 
-    go : (l : Named) → namelessLabel (n .scope) l ≡ slot z → eqb (tagOf l) 6 && eqb f (payloadOf (n .scope) l) ≡ isApplication f z
+    go : (l : Named) → namelessLabel (n .scope) l ≡ slot z → (tagOf l ≡ tagOf (slot z)) × (payloadOf (n .scope) l ≡ payloadOf [] (slot z))
     go (own o) e = absurd (let y : own (meant (n .scope) o) ≡ slot z = sym (meant-label (n .scope) o) ∙ e in let w : _≡_ {A = ℕ} 0 1 = cc in omega arith)
-    go (slot y) e = same y (cc)
+    go (slot y) e = let q : y ≡ z = cc in (ap (λ (x : Slot). tagOf (slot x)) q, load y ∙ ap (λ (x : Slot). payloadOf [] (slot x)) q)
+
+-- Whether it is the token of an application of f
+pub node-applies : (table : List ℕ) (i : ℕ) (z : Slot) (cs : Terms) (f : ℕ) → AtNode table i (slot z, cs)
+    → eqb (tagIn (at table i)) 6 && eqb f (payloadIn (at table i)) ≡ isApplication f z
+unfolding payloadOf
+node-applies table i z cs f n =
+    let t = slot-token table i z cs n in
+    ap₂ (λ (g m : ℕ). eqb g 6 && eqb f m) (t .0) (t .1) ∙ go z
+  where
+    go : (y : Slot) → eqb (tagOf (slot y)) 6 && eqb f (payloadOf [] (slot y)) ≡ isApplication f y
+    go (metavariable m) = refl
+    go (function g a) = refl
+    go (hole h) = refl
 
 -- THE THEOREM: meaning's node numbers are the places of the tables
 module _ (p : Problem) (w : WithinLimits p) where

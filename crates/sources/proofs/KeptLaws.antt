@@ -14,7 +14,7 @@ use Rattle.meaning.specs.Basics.{choose, All, andThen, guard, isSome}
 use Rattle.meaning.proofs.Lists.{never, eqb-eq, by-test, choose-true, choose-false}
 use Rattle.tokens.specs.Token.{tagIn, payloadIn}
 use Rattle.tokens.specs.Key.{at, sameAt, closedAt, Inside}
-use Rattle.faces.specs.FlatWalk.{patternNode, expressionNode}
+use Rattle.lockstep.specs.Walk.{patternNode, expressionNode}
 use Rattle.sources.specs.Demand.{Demand, openNode, demandAt, demandsIn, agreesAt, keptWith, keptAfter}
 use Rattle.sources.specs.Kept.{Kept, Asks, Reads, Answers}
 use Rattle.sources.specs.declared.Agreed.{Agreed}

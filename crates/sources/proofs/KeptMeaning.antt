@@ -1,5 +1,6 @@
 -- What demands on the table mean: they agree exactly when `demands` says so, and the nodes kept are those of the first of each metavariable.
---   Says     a demand on the table is a source: what stands at the node is the source's term, under more binders that it does not use
+--   MovedAt  what stands at a node is a term moved under more binders, which it does not use
+--   Says     a demand on the table is a source
 --   Firsts   the nodes kept are those of the first of each metavariable, and the terms there are closed
 --   Told     what the demands ds, after those that gave the sources ks, lead to
 use mathlib.Core.Path.{_≡_, refl, ap, ap₂, sym, _∙_, subst}
@@ -31,16 +32,11 @@ use Rattle.meaning.proofs.Alike.{sameTerms-eq, sameTerms-refl}
 use Rattle.meaning.proofs.Candidate.{lookup-is, lookup-cases}
 use Rattle.demands.specs.Agreeing.{agreesWith, agreeAfter}
 use Rattle.demands.proofs.Agreement.{lookup-append, lookup-earlier, lookup-later, lookup-own, lookup-only}
+use Rattle.masks.proofs.Cases.{same-truth}
 use Rattle.tokens.specs.Key.{at, levelFrom, sameAt, closedAt}
 use Rattle.tokens.proofs.KeyLaws.{closed-means, same-means}
 use Rattle.faces.proofs.NodeTokens.{AtNode, node-inside}
 use Rattle.sources.specs.Demand.{Demand, openNode, agreesAt, keptWith, keptAfter}
-
--- Two tests that hold together
-alike : (a b : Bool) → (a ≡ true) ↔ (b ≡ true) → a ≡ b
-alike true b h = sym (h .0 refl)
-alike false true h = h .1 refl
-alike false false h = refl
 
 -- The tests on a table, of the terms at its nodes
 module _ (table : List ℕ) (a : ℕ) (t : Term) (n : AtNode table a t) where
@@ -73,15 +69,18 @@ module _ (more under : ℕ) (t whole : Term) (moved : shift more under (one t) �
       sym (lower-shift more under (one t)) ∙ ap (lower more under) (moved ∙ sym still) ∙ lower-shift more under (one whole) in
       one-injective t whole (cc)
 
+pub record MovedAt (es : List ℕ) (j : ℕ) (t : Term) : Type 0 where
+  pub whole : Term
+  pub stands : AtNode es j whole
+  pub more : ℕ
+  pub under : ℕ
+  pub moved : shift more under (one t) ≡ one whole
+
 pub record Says (es : List ℕ) (d : Demand) (s : Source) : Type 0 where
   pub number : d .0 ≡ s .number
   pub small : s .number < metavariableCount
   pub node : d .1 ≡ s .node
-  pub whole : Term
-  pub stands : AtNode es (d .1) whole
-  pub more : ℕ
-  pub under : ℕ
-  pub moved : shift more under (one (s .term)) ≡ one whole
+  pub at : MovedAt es (d .1) (s .term)
 
 abbrev pub AllSay : List ℕ → List Demand → List Source → Type 0
 AllSay es [] [] = Unit {0}
@@ -92,18 +91,18 @@ AllSay es (d ∷ ds) (s ∷ ss) = Says es d s × AllSay es ds ss
 module _ (es : List ℕ) (d : Demand) (s : Source) (w : Says es d s) where
   said-closed : (closedAt es (d .1) ≡ true) ↔ ClosedTerm (s .term)
   said-closed =
-      let n = node-closed es (d .1) (w .whole) (w .stands) in (
-        λ e. subst ClosedTerm (sym (closed-moved (w .more) (w .under) (s .term) (w .whole) (w .moved) (n .0 e))) (n .0 e),
-        λ c. n .1 (subst ClosedTerm (moved-closed (w .more) (w .under) (s .term) (w .whole) (w .moved) c) c),
+      let n = node-closed es (d .1) (w .at .whole) (w .at .stands) in (
+        λ e. subst ClosedTerm (sym (closed-moved (w .at .more) (w .at .under) (s .term) (w .at .whole) (w .at .moved) (n .0 e))) (n .0 e),
+        λ c. n .1 (subst ClosedTerm (moved-closed (w .at .more) (w .at .under) (s .term) (w .at .whole) (w .at .moved) c) c),
       )
 
   said-same : (d′ : Demand) (s′ : Source) → Says es d′ s′ → ClosedTerm (s .term) → (sameAt es (d .1) (d′ .1) ≡ true) ↔ (s .term ≡ s′ .term)
   said-same d′ s′ w′ c =
-      let own : s .term ≡ w .whole = moved-closed (w .more) (w .under) (s .term) (w .whole) (w .moved) c in
-      let closed : ClosedTerm (w .whole) = subst ClosedTerm own c in
-      let n = node-same es (d .1) (w .whole) (w .stands) (d′ .1) (w′ .whole) (w′ .stands) closed in (
-        λ e. own ∙ n .0 e ∙ sym (closed-moved (w′ .more) (w′ .under) (s′ .term) (w′ .whole) (w′ .moved) (subst ClosedTerm (n .0 e) closed)),
-        λ e. n .1 (sym own ∙ e ∙ moved-closed (w′ .more) (w′ .under) (s′ .term) (w′ .whole) (w′ .moved) (subst ClosedTerm e c)),
+      let own : s .term ≡ w .at .whole = moved-closed (w .at .more) (w .at .under) (s .term) (w .at .whole) (w .at .moved) c in
+      let closed : ClosedTerm (w .at .whole) = subst ClosedTerm own c in
+      let n = node-same es (d .1) (w .at .whole) (w .at .stands) (d′ .1) (w′ .at .whole) (w′ .at .stands) closed in (
+        λ e. own ∙ n .0 e ∙ sym (closed-moved (w′ .at .more) (w′ .at .under) (s′ .term) (w′ .at .whole) (w′ .at .moved) (subst ClosedTerm (n .0 e) closed)),
+        λ e. n .1 (sym own ∙ e ∙ moved-closed (w′ .at .more) (w′ .at .under) (s′ .term) (w′ .at .whole) (w′ .at .moved) (subst ClosedTerm e c)),
       )
 
 -- The node of a source that may be missing
@@ -127,7 +126,7 @@ module _ (es : List ℕ) (few : length es ≤ 65536) (kept : List ℕ) (ks : Lis
   -- A node that is kept is one of the table
   kept-here : (k : Source) → lookup (s .number) ks ≡ some k → eqb (at kept (d .0)) openNode ≡ false
   kept-here k e =
-      let small : k .node < length es = node-inside es (k .node) (f .said (s .number) k e .0 .whole) (f .said (s .number) k e .0 .stands) in
+      let small : k .node < length es = node-inside es (k .node) (f .said (s .number) k e .0 .at .whole) (f .said (s .number) k e .0 .at .stands) in
       let q : at kept (d .0) ≡ k .node = here ∙ ap nodeOf e in
       ne-eqb (at kept (d .0)) openNode (λ o. omega arith)
 
@@ -136,17 +135,16 @@ module _ (es : List ℕ) (few : length es ≤ 65536) (kept : List ℕ) (ks : Lis
   test-said none e =
       let c = said-closed es d s w in
       choose-true _ _ (open-here e)
-      ∙ alike (closedAt es (d .1)) (isClosed 0 (one (s .term)))
-      (λ q. T-true (closed-test 0 (one (s .term)) (c .0 q)), λ q. c .1 (test-closed 0 (one (s .term)) (true-T q)))
+      ∙ same-truth (closedAt es (d .1)) (isClosed 0 (one (s .term)))
+      (λ q. T-true (closed-test 0 (one (s .term)) (c .0 q))) (λ q. c .1 (test-closed 0 (one (s .term)) (true-T q)))
   test-said (some k) e =
       let (v, c) = f .said (s .number) k e in
       let n = said-same es (s .number, k .node) k v d s w c in
       choose-false _ _ (kept-here k e)
       ∙ ap (λ (j : ℕ). sameAt es j (d .1)) (here ∙ ap nodeOf e)
-      ∙ alike (sameAt es (k .node) (d .1)) (sameTerms (one (k .term)) (one (s .term))) (
-        λ q. T-true (subst (λ (t : Term). T (sameTerms (one (k .term)) (one t))) (n .0 q) (sameTerms-refl (one (k .term)))),
-        λ q. n .1 (one-injective (k .term) (s .term) (sameTerms-eq (one (k .term)) (one (s .term)) (true-T q))),
-      )
+      ∙ same-truth (sameAt es (k .node) (d .1)) (sameTerms (one (k .term)) (one (s .term)))
+      (λ q. T-true (subst (λ (t : Term). T (sameTerms (one (k .term)) (one t))) (n .0 q) (sameTerms-refl (one (k .term)))))
+      (λ q. n .1 (one-injective (k .term) (s .term) (sameTerms-eq (one (k .term)) (one (s .term)) (true-T q))))
 
   -- Looking up in what there is then
   abbrev after : List Source

@@ -11,7 +11,7 @@ use lib.Dec.{eqb}
 use Rattle.meaning.specs.Basics.{choose, each, guard}
 use Rattle.tokens.specs.Token.{tagIn, payloadIn}
 use Rattle.tokens.specs.Key.{at, sameAt, closedAt}
-use Rattle.faces.specs.FlatWalk.{patternNode, expressionNode}
+use Rattle.lockstep.specs.Walk.{patternNode, expressionNode}
 
 abbrev pub Demand : Type 0
 Demand = ℕ × ℕ

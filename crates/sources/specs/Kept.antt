@@ -11,7 +11,7 @@ use lib.ListN.{length}
 use Rattle.meaning.specs.Limits.{metavariableCount}
 use Rattle.meaning.specs.Basics.{All, isSome}
 use Rattle.tokens.specs.Key.{at, Inside}
-use Rattle.faces.specs.FlatWalk.{patternNode}
+use Rattle.lockstep.specs.Walk.{patternNode}
 use Rattle.sources.specs.Demand.{Demand, openNode, demandAt}
 use Rattle.sources.specs.declared.Agreed.{Agreed}
 

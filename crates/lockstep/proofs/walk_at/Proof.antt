@@ -17,7 +17,7 @@ abbrev μ-loop : tie.MeasureT-loop
 μ-loop ps es out₀ to d e i₀ j₀ n₀ out i j n = to - i
 
 loop-holds : tie.Need-loop-holds Inv-loop μ-loop
-loop-holds c = 
+loop-holds c =
     let s = c .before .before .before in
     walking-start (s .args .ps .now) (s .args .es .now) (s .args .out .now) (s .args .span) (s .pre)
 
