@@ -8,7 +8,7 @@ use mathlib.Core.Bool.{Bool, true, false, _&&_, not, and-assoc, and-true, Bool·
 use mathlib.Core.List.{List, [], _∷_, _++_, append-assoc, append-nil}
 use mathlib.Core.Option.{none, some}
 use lib.ListN.{length, drop}
-use lib.Seq.{drop-at, drop-drop}
+use lib.Seq.{drop-at}
 use Rattle.meaning.specs.Limits.{maxFaceNodes}
 use Rattle.meaning.specs.Basics.{isSome}
 use Rattle.meaning.specs.Term.{Forest, nil, cons, one, size, nodeAt, Named, Nameless, NamedTerm, Terms, Term, inner}
@@ -18,7 +18,7 @@ use Rattle.meaning.specs.Shift.{ClosedTerm}
 use Rattle.meaning.specs.ClosedTest.{isClosedLabel, isClosed}
 use Rattle.meaning.specs.Read.{Context, contextBelow}
 use Rattle.meaning.specs.Readable.{NodeFits, Readable, WithinLimits}
-use Rattle.meaning.specs.Choice.{Mark, Marks, mark, rest, punchNode, punch, punchTerm}
+use Rattle.meaning.specs.Choice.{Mark, Marks, mark, punchNode, punch, punchTerm}
 use Rattle.meaning.specs.PlaceValue.{maskOf}
 use Rattle.meaning.proofs.Lists.{T-true, true-T}
 use Rattle.meaning.proofs.ShiftLaws.{relabel-size, test-closed, closed-test}
@@ -33,7 +33,7 @@ use Rattle.tokens.proofs.ProblemTokens.{tokenAt, size-at, Room, room-depth, roo
 use Rattle.faces.proofs.NodeTokens.{AtNode, expression-node}
 use Rattle.bodies.specs.Marked.{marked}
 use Rattle.bodies.specs.BodyClosed.{closedFrom, bodyClosedAt}
-use Rattle.bodies.proofs.MarkLaws.{marked-left, rest-left}
+use Rattle.bodies.proofs.MarkLaws.{marked-left, punch-left}
 use Rattle.bodies.proofs.ClosedLaws.{closed-hole, closed-own, closed-skip}
 
 four : (a b c d : Bool) → a && (b && (c && d)) ≡ a && (b && c) && d
@@ -41,14 +41,6 @@ four true b c d = sym (and-assoc b c d)
 four false b c d = refl
 
 module _ (hole : ℕ → Bool) (ms : Marks) (told : (i : ℕ) → hole i ≡ isSome (mark (drop i ms))) where
-  -- The marks that are left below a node and after it
-  pub left-below : (i : ℕ) (l : Nameless) (c s : Terms) → punch (drop i ms) (cons l c s)
-      ≡ punchNode (mark (drop i ms)) l (punch (drop (suc i) ms) c) (punch (drop (suc i + size c) ms) s)
-  left-below i l c s =
-      ap₂ (λ (a b : Terms). punchNode (mark (drop i ms)) l a b)
-      (ap (λ (m : Marks). punch m c) (rest-left ms i))
-      (ap (λ (m : Marks). punch m s) (ap (drop (size c)) (rest-left ms i) ∙ drop-drop (size c) (suc i) ms))
-
   module _ (d : ℕ) where
     abbrev flat : ℕ → List ℕ → Bool
     flat i xs = closedFrom hole d 0 i xs
@@ -101,7 +93,7 @@ module _ (hole : ℕ → Bool) (ms : Marks) (told : (i : ℕ) → hole i ≡ isS
         ∙ ap (λ (j : ℕ). isClosed k (punch (drop (suc i + size c) ms) (nameless sc s)) && flat j xs) n)
         ∙ ap (λ (b : Terms). isClosed k b && flat (i + suc (size c + size s)) xs)
         (ap (λ (j : ℕ). punchNode (mark (drop i ms)) (namelessLabel sc l) (punch (drop (suc i) ms) (nameless (enter l sc) c)) (punch (drop (suc i + j) ms) (nameless sc s))) (sym same)
-        ∙ sym (left-below i (namelessLabel sc l) (nameless (enter l sc) c) (nameless sc s)))
+        ∙ sym (punch-left ms i (namelessLabel sc l) (nameless (enter l sc) c) (nameless sc s)))
 
 -- A face that stands in a table
 closed-stands : (levels : ℕ) (ctx : Context) (es : List ℕ) (f : ℕ) (sc : List ℕ) (t : NamedTerm) → Held levels ctx sc t → Stands es f sc t

@@ -2,3 +2,5 @@
 pub mod MarkLaws
 pub mod ClosedLaws
 pub mod BodyMeaning
+pub mod MarkedWalk
+pub mod HoleTests

@@ -1,5 +1,5 @@
 -- What a mask says of the nodes of a face is what the marks say that it is the mask of.
-use mathlib.Core.Path.{_≡_, refl, ap, _∙_}
+use mathlib.Core.Path.{_≡_, refl, ap, ap₂, _∙_}
 use Prim.Native.Nat.{ℕ, zero, suc, _+_, _*_, _^_, _<_, _≤_}
 use native.Mathlib.Nat.{one-mul}
 use native.Mathlib.Omega.{arith}
@@ -8,9 +8,11 @@ use mathlib.Core.Bool.{Bool, true, false}
 use mathlib.Core.List.{List, [], _∷_}
 use mathlib.Core.Option.{none, some}
 use lib.ListN.{length, getD, drop, getElem?, List·getD-eq-default}
+use lib.Seq.{drop-drop}
 use Rattle.meaning.specs.Limits.{maxFaceNodes}
 use Rattle.meaning.specs.Basics.{isSome, holds}
-use Rattle.meaning.specs.Choice.{Mark, Marks, mark, rest}
+use Rattle.meaning.specs.Term.{cons, size, Nameless, Terms}
+use Rattle.meaning.specs.Choice.{Mark, Marks, mark, rest, punchNode, punch}
 use Rattle.meaning.specs.PlaceValue.{bit, maskOf}
 use Rattle.meaning.proofs.Lists.{never}
 use Rattle.meaning.proofs.PlaceLaws.{mask-small}
@@ -63,11 +65,18 @@ mark-at (m ∷ ms) (suc i) = mark-at ms i
 pub marked-left : (ms : Marks) (i : ℕ) → length ms ≤ maxFaceNodes → marked (maskOf maxFaceNodes ms) i ≡ isSome (mark (drop i ms))
 marked-left ms i h = marked-means ms i h ∙ mark-at ms i
 
-pub rest-left : (ms : Marks) (i : ℕ) → rest (drop i ms) ≡ drop (suc i) ms
+rest-left : (ms : Marks) (i : ℕ) → rest (drop i ms) ≡ drop (suc i) ms
 rest-left [] zero = refl
 rest-left [] (suc i) = refl
 rest-left (m ∷ ms) zero = refl
 rest-left (m ∷ ms) (suc i) = rest-left ms i
+
+pub punch-left : (ms : Marks) (i : ℕ) (l : Nameless) (c s : Terms) → punch (drop i ms) (cons l c s)
+    ≡ punchNode (mark (drop i ms)) l (punch (drop (suc i) ms) c) (punch (drop (suc i + size c) ms) s)
+punch-left ms i l c s =
+    ap₂ (λ (a b : Terms). punchNode (mark (drop i ms)) l a b)
+    (ap (λ (m : Marks). punch m c) (rest-left ms i))
+    (ap (λ (m : Marks). punch m s) (ap (drop (size c)) (rest-left ms i) ∙ drop-drop (size c) (suc i) ms))
 
 -- THE LOWEST NODE
 pub lowest-means : (ms : Marks) (i j : ℕ) → length ms ≤ maxFaceNodes → LowestMark i j ms → lowestMarked (maskOf maxFaceNodes ms) ≡ j
