@@ -1,0 +1,2 @@
+-- Laws of the test of a row, and what it means.
+pub mod Steps

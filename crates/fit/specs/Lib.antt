@@ -1,0 +1,3 @@
+-- The test of a row on the token tables.
+pub mod Judging
+pub mod Laid
