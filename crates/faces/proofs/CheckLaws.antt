@@ -12,11 +12,12 @@ use Rattle.meaning.specs.Limits.{metavariableCount, maxFunctions}
 use Rattle.meaning.specs.Basics.{choose}
 use Rattle.meaning.proofs.Lists.{by-test, choose-true, choose-false}
 use Rattle.metavariables.specs.declared.Occurring.{Occurring}
-use Rattle.faces.specs.declared.walk.Shapes.{Shapes}
-use Rattle.faces.specs.declared.walk.Shapes.the-variants as shapes
+use Rattle.lockstep.specs.declared.Shapes.{Shapes}
+use Rattle.lockstep.specs.declared.Shapes.the-variants as shapes
 use Rattle.faces.specs.declared.check.Checked.the-variants as checked
 use lib.Dec.{ltb}
-use Rattle.faces.specs.FlatWalk.{flatWalk, answerOf, Walked}
+use Rattle.lockstep.specs.Span.{answerOf, Walked}
+use Rattle.faces.specs.FlatWalk.{flatWalk}
 use Rattle.metavariables.specs.Survey.{Surveyed, meets, count, functionsIn, bothIn}
 use Rattle.faces.specs.First.{firstNode, firstsOf, anyLarge}
 use Rattle.faces.specs.Check.{largeIn, afterWalk, verdict, CheckedBy}
@@ -30,7 +31,7 @@ record Found (ps es old new : List ℕ) (n : ℕ) : Type 0 where
   front : take n new ≡ faces
   rest : new ≡ faces ++ drop (length faces) old
 
-module _ (ps es old new : List ℕ) (q : Shapes) (w : Walked ps es old new q) (n : ℕ) (e : q ≡ shapes.Faces n) where
+module _ (ps es old new : List ℕ) (q : Shapes) (w : Walked (flatWalk ps es) old new q) (n : ℕ) (e : q ≡ shapes.Faces n) where
   found : Found ps es old new n
   found = go (flatWalk ps es) refl (sym e ∙ w .answer)
     where
@@ -72,14 +73,14 @@ module _ (ps : List ℕ) (s : Occurring) (v : Surveyed ps s) where
         unfolding verdict maxFunctions
         after-walk = choose-false _ _ (sym (both-set ps s v) ∙ apart) ∙ choose-false _ _ (le-ltb 8 (length (functionsIn ps)) (omega (arith, count-set ps s v)))
 
-        pub checked-none : (q : Shapes) → Walked ps es old new q → q ≡ shapes.Disagree → CheckedBy ps es old new checked.NoRows
+        pub checked-none : (q : Shapes) → Walked (flatWalk ps es) old new q → q ≡ shapes.Disagree → CheckedBy ps es old new checked.NoRows
         checked-none q w e = go (flatWalk ps es) refl (sym e ∙ w .answer)
           where
             go : (o : Option (List ℕ)) → flatWalk ps es ≡ o → shapes.Disagree ≡ answerOf o → CheckedBy ps es old new checked.NoRows
             go none h a = record { answer = sym (after-walk ∙ ap (afterWalk ps es) h); recorded = λ ns w q. absurd (let z : _≡_ {A = ℕ} 0 1 = cc in omega arith) }
             go (some ns) h a = absurd (let z : _≡_ {A = ℕ} 0 1 = cc in omega arith)
 
-        module _ (q : Shapes) (w : Walked ps es old new q) (n : ℕ) (e : q ≡ shapes.Faces n) where
+        module _ (q : Shapes) (w : Walked (flatWalk ps es) old new q) (n : ℕ) (e : q ≡ shapes.Faces n) where
           decided : (b : Bool) → b ≡ anyLarge es (firstsOf ps (take n new) (s .functions)) → verdict ps es ≡ choose b (checked.Refused 14) (checked.Faces n)
           decided b t =
               let f : Found ps es old new n = found ps es old new q w n e in

@@ -23,7 +23,8 @@ use Rattle.tokens.specs.Token.{patternTokens, expressionTokens}
 use Rattle.faces.specs.declared.check.Checked.{Checked}
 use Rattle.faces.specs.declared.check.Checked.the-variants as checked
 use Rattle.faces.specs.FlatWalk.{flatWalk}
-use Rattle.faces.specs.Recorded.{Recorded, Both}
+use Rattle.lockstep.specs.Recorded.{Both}
+use Rattle.faces.specs.Recorded.{Recorded}
 use Rattle.faces.specs.First.{firstNode, anyLarge}
 use Rattle.faces.specs.Check.{largeIn, afterWalk, verdict, CheckedBy}
 use Rattle.faces.specs.Verdict.{answerOf, Told, Says}

@@ -15,7 +15,7 @@ use Rattle.meaning.specs.Basics.{choose, keep, countFrom, upTo}
 use Rattle.meaning.proofs.Lists.{choose-true, choose-false}
 use Rattle.tokens.specs.Token.{tagIn, sizeIn, payloadIn}
 use Rattle.tokens.specs.Key.{at}
-use Rattle.faces.specs.FlatWalk.{expressionNode}
+use Rattle.lockstep.specs.Walk.{expressionNode}
 use Rattle.metavariables.specs.Survey.{has, count}
 use Rattle.faces.specs.declared.first.Firsts.{Firsts}
 use Rattle.faces.specs.First.{applies, firstIn, absent, nodeOr, firstNode, firstsFrom, firstsOf, listed, Fits, Pushed, Listing, Listed, large, anyLarge}

@@ -19,8 +19,9 @@ use Rattle.meaning.proofs.Proper.{accepted-proper, functions-applied}
 use Rattle.meaning.proofs.RowBodies.{face-expression}
 use Rattle.tokens.specs.Token.{sizeIn, patternTokens, expressionTokens}
 use Rattle.tokens.specs.Key.{at}
-use Rattle.faces.specs.FlatWalk.{patternNode, expressionNode}
-use Rattle.faces.specs.Recorded.{Records, Recorded, Both}
+use Rattle.lockstep.specs.Walk.{patternNode, expressionNode}
+use Rattle.lockstep.specs.Recorded.{Records, Both}
+use Rattle.faces.specs.Recorded.{Recorded}
 use Rattle.metavariables.specs.declared.Occurring.{Occurring}
 use Rattle.faces.specs.declared.first.Firsts.{Firsts}
 use Rattle.metavariables.specs.Survey.{Surveyed}

@@ -3,8 +3,5 @@ pub mod CheckLaws
 pub mod CheckMeaning
 pub mod FirstLaws
 pub mod FirstMeaning
-pub mod FlatLaws
 pub mod NodeTokens
-pub mod TopKeys
-pub mod WalkTrees
 pub mod WalkMeaning

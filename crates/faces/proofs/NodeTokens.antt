@@ -12,20 +12,19 @@ use lib.Seq.{getD-drop, drop-append-le, drop-append-add}
 use lib.Dec.{eqb, ltb}
 use borrow.Author.Tests.{ltb-true, ltb-false}
 use Rattle.meaning.specs.Limits.{maxDepth}
-use Rattle.meaning.specs.Term.{Forest, nil, cons, one, size, nodeAt, own, slot, Slot, metavariable, function, hole, Named, NamedTerm, Terms, Term}
+use Rattle.meaning.specs.Term.{Forest, nil, cons, one, size, nodeAt, symbol, variable, application, binder, own, slot, Slot, metavariable, function, hole, Named, NamedTerm, Terms, Term}
 use Rattle.meaning.specs.Scope.{enter, namelessLabel, nameless, namelessTerm}
 use Rattle.meaning.specs.Problem.{Problem, namedPatterns, namedExpressions, patterns, expressions}
 use Rattle.meaning.specs.Face.{isApplication}
 use Rattle.meaning.specs.Field.{tagOf}
 use Rattle.meaning.specs.Read.{Context, inPattern, inExpression, contextBelow}
 use Rattle.meaning.specs.Readable.{Readable, WithinLimits}
-use Rattle.meaning.proofs.Lists.{by-test, choose-true, choose-false}
+use Rattle.meaning.proofs.Lists.{never, by-test, choose-true, choose-false}
 use Rattle.tokens.specs.Token.{tagIn, sizeIn, payloadIn, payloadOf, tokens, patternTokens, expressionTokens}
 use Rattle.tokens.specs.Key.{at, Held, Stands}
 use Rattle.tokens.proofs.KeyLaws.{some-levels, stands-size, stands-inside}
 use Rattle.tokens.proofs.ProblemTokens.{tokenAt, tag-at, payload-at, Room, room-below, room-later, patterns-room, expressions-room}
-use Rattle.faces.proofs.TopKeys.{meant, meant-label}
-use Rattle.faces.proofs.WalkTrees.{nameless-size}
+use Rattle.meaning.proofs.ShiftLaws.{relabel-size}
 use Rattle.meaning.proofs.Proper.{patterns-readable, expressions-readable}
 use Rattle.tokens.proofs.TokenParts.{tokens-length}
 
@@ -82,7 +81,7 @@ at-node (suc levels) ctx sc (cons l c s) r m (suc n) t e =
     ts = tokens sc s
 
     long : size (nameless (enter l sc) c) ≡ length tc
-    long = nameless-size (enter l sc) c ∙ sym (tokens-length (enter l sc) c)
+    long = relabel-size enter namelessLabel (enter l sc) c ∙ sym (tokens-length (enter l sc) c)
 
     below : ltb n (size (nameless (enter l sc) c)) ≡ true → AtNode tc n t → AtNode (tokenAt sc l c ∷ (tc ++ ts)) (suc n) t
     below y k = moved tc (tokenAt sc l c ∷ (tc ++ ts)) ts n (suc n) t (drop-append-le n tc ts (omega (arith, long, ltb-true n (size (nameless (enter l sc) c)) y))) k
@@ -101,7 +100,7 @@ module _ (table : List ℕ) (i : ℕ) (t : Term) (n : AtNode table i t) where
   pub node-size : sizeIn (at table i) ≡ size (one t)
   node-size =
       let u : NamedTerm = n .named in
-      let a : size (one u) ≡ size (one (namelessTerm (n .scope) u)) = omega (arith, nameless-size (enter (u .0) (n .scope)) (u .1)) in
+      let a : size (one u) ≡ size (one (namelessTerm (n .scope) u)) = omega (arith, relabel-size enter namelessLabel (enter (u .0) (n .scope)) (u .1)) in
       stands-size (n .levels) (n .context) table i (n .scope) u (n .held) (n .stands) ∙ a ∙ sym (ap (λ (v : Term). size (one v)) (n .term))
 
   node-token : at table i ≡ tokenAt (n .scope) (n .named .0) (n .named .1)
@@ -133,7 +132,10 @@ slot-token table i z cs n =
     load (hole h) = refl
 
     go : (l : Named) → namelessLabel (n .scope) l ≡ slot z → (tagOf l ≡ tagOf (slot z)) × (payloadOf (n .scope) l ≡ payloadOf [] (slot z))
-    go (own o) e = absurd (let y : own (meant (n .scope) o) ≡ slot z = sym (meant-label (n .scope) o) ∙ e in let w : _≡_ {A = ℕ} 0 1 = cc in omega arith)
+    go (own (symbol m)) e = never (cc)
+    go (own (variable x)) e = never (cc)
+    go (own (application m)) e = never (cc)
+    go (own (binder b x)) e = never (cc)
     go (slot y) e = let q : y ≡ z = cc in (ap (λ (x : Slot). tagOf (slot x)) q, load y ∙ ap (λ (x : Slot). payloadOf [] (slot x)) q)
 
 -- Whether it is the token of an application of f

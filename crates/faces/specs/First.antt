@@ -14,7 +14,7 @@ use Rattle.meaning.specs.Limits.{metavariableCount, maxFaceNodes}
 use Rattle.meaning.specs.Basics.{choose, keep, countFrom, upTo}
 use Rattle.tokens.specs.Token.{tagIn, sizeIn, payloadIn}
 use Rattle.tokens.specs.Key.{at}
-use Rattle.faces.specs.FlatWalk.{patternNode, expressionNode}
+use Rattle.lockstep.specs.Walk.{patternNode, expressionNode}
 use Rattle.metavariables.specs.Survey.{has}
 use Rattle.faces.specs.declared.first.Firsts.{Firsts}
 

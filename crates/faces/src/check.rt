@@ -1,8 +1,8 @@
 // The checks after reading, in document 01's order: 12, 13, the walk, and 14 if all shapes agree.
 use crate::first::any_large;
 use crate::first::first_faces;
-use crate::walk::Shapes;
 use crate::walk::walk;
+use lockstep::Shapes;
 use metavariables::MAX_FUNCTIONS;
 use metavariables::both_ways;
 use metavariables::function_count;

@@ -8,12 +8,11 @@ use mathlib.Core.List.{List, [], _∷_, _++_}
 use mathlib.Core.Option.{Option, none, some}
 use Prim.Native.Nat.{ℕ, suc, _+_, _-_, _%_, _<_, _≤_}
 use native.Mathlib.Omega.{arith}
-use native.Mathlib.Decide.{decLt}
 use lib.ListN.{length}
 use lib.Dec.{eqb}
 use borrow.Author.Tests.{lt-ltb, le-ltb, eq-eqb, ne-eqb}
-use Rattle.meaning.specs.Basics.{choose, join, guard}
-use Rattle.meaning.specs.Term.{Forest, nil, cons, size, nodeAt, Own, symbol, variable, application, binder, Label, own, slot, Slot, metavariable, function, hole, Named, Nameless, Variable, Terms, Term, inner}
+use Rattle.meaning.specs.Basics.{join, guard}
+use Rattle.meaning.specs.Term.{nil, cons, size, nodeAt, Own, symbol, variable, application, binder, Label, own, slot, Slot, metavariable, function, hole, Named, Nameless, Variable, Terms, Term, inner}
 use Rattle.meaning.specs.Scope.{namelessLabel}
 use Rattle.meaning.specs.Shift.{closedLabel, Closed}
 use Rattle.meaning.specs.Same.{sameOwn, sameVariable}
@@ -25,10 +24,10 @@ use Rattle.meaning.proofs.Proper.{patternLabel, IsPattern}
 use Rattle.meaning.proofs.ShiftLaws.{relabel-size}
 use Rattle.meaning.proofs.ViewLaws.{ToldAlike, label-injective, inner-plus}
 use Rattle.tokens.specs.Key.{levelFrom}
-use Rattle.tokens.proofs.Codes.{Viewed, Coded, code, code-injective, seenLabel, viewFrom}
-use Rattle.tokens.proofs.ProblemTokens.{tokenAt, tag-at}
+use Rattle.tokens.proofs.Codes.{Coded, code, code-injective, seenLabel, viewFrom}
+use Rattle.tokens.proofs.ProblemTokens.{tag-at}
 use Rattle.lockstep.specs.Walk.{faceCode, patternNode, expressionNode, slotTag, isSlot, atSlots}
-use Rattle.lockstep.specs.Recorded.{Records, RecordedBy, Both}
+use Rattle.lockstep.specs.Recorded.{RecordedBy, Both}
 use Rattle.lockstep.proofs.WalkTrees.{SeenStop, Tells, seenMeet, seenWalk}
 
 -- A metavariable or a function application, by its label

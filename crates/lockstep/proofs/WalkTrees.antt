@@ -3,7 +3,7 @@
 --   seenWalk   two views walked together, the first node of the left having the number i, that of the right the number j. It stops by
 --              a node's number and label; two nodes agree when they have the same code. Where it stops, it records the face
 --   Tells      a stop by tokens and one by labels are the same
-use mathlib.Core.Path.{_≡_, refl, ap, ap₂, sym, _∙_}
+use mathlib.Core.Path.{_≡_, ap, ap₂, sym, _∙_}
 use mathlib.Core.Bool.{Bool, true, false}
 use mathlib.Core.List.{List, [], _∷_, _++_, append-assoc, append-nil}
 use mathlib.Core.Option.{Option, none, some}

@@ -68,7 +68,7 @@ readable-expression (suc levels) sc (cons (slot (metavariable m)) c s) h = absur
 readable-expression (suc levels) sc (cons (slot (function f n)) c s) h = absurd (h .0 .0)
 readable-expression (suc levels) sc (cons (slot (hole i)) c s) h = absurd (h .0 .0)
 
-readable-argument : (levels : ℕ) (sc : List ℕ) (u : Forest Named) → Readable levels inArgument u → IsArgument (nameless sc u)
+pub readable-argument : (levels : ℕ) (sc : List ℕ) (u : Forest Named) → Readable levels inArgument u → IsArgument (nameless sc u)
 unfolding contextBelow
 readable-argument levels sc nil h = tt
 readable-argument zero sc (cons l c s) h = absurd h
@@ -82,14 +82,14 @@ readable-argument (suc levels) sc (cons (slot (function f n)) c s) h = absurd (h
 readable-argument (suc levels) sc (cons (slot (hole i)) c s) h = absurd (h .0 .0)
 
 -- An argument is a pattern
-argument-pattern : (u : Terms) → IsArgument u → IsPattern u
+pub argument-pattern : (u : Terms) → IsArgument u → IsPattern u
 argument-pattern nil h = tt
 argument-pattern (cons (own o) c s) h = (tt, argument-pattern c (h .1), argument-pattern s (h .2))
 argument-pattern (cons (slot (metavariable m)) c s) h = (h .0, argument-pattern c (h .1), argument-pattern s (h .2))
 argument-pattern (cons (slot (function f n)) c s) h = absurd (h .0)
 argument-pattern (cons (slot (hole i)) c s) h = absurd (h .0)
 
-readable-pattern : (levels : ℕ) (sc : List ℕ) (u : Forest Named) → Readable levels inPattern u → IsPattern (nameless sc u)
+pub readable-pattern : (levels : ℕ) (sc : List ℕ) (u : Forest Named) → Readable levels inPattern u → IsPattern (nameless sc u)
 unfolding contextBelow
 readable-pattern levels sc nil h = tt
 readable-pattern zero sc (cons l c s) h = absurd h

@@ -3,7 +3,6 @@
 use mathlib.Core.Path.{sym, _∙_}
 use Prim.Native.Nat.{_-_}
 use native.Mathlib.Omega.{arith}
-use lib.ListN.{length}
 use borrow.Author.Tests.{not-true, not-false}
 use Rattle.lockstep.proofs.SpanLaws.{Walking, left-out, left-differs, walking-start, walking-same, walking-face, walked-disagree, walked-end}
 use borrow.Author.Needs.{needs}
