@@ -1,2 +1,3 @@
 -- Laws of the test of a row, and what it means.
 pub mod Steps
+pub mod Ranks

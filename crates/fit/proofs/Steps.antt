@@ -34,7 +34,7 @@ module _ (es : List ℕ) (ks : List Source) where
   -- Nothing is demanded
   pub step-nothing : (kept : List ℕ) → Firsts es kept ks → Step es (some kept) ks (Unit {0}) (some [])
   step-nothing kept f = record {
-    into = λ k e. (tt, [], refl, refl, subst (λ (l : List ℕ). Firsts es l (ks ++ [])) (let q : kept ≡ k = cc in q) (subst (Firsts es kept) (sym (append-nil ks)) f));
+    into = λ k e. (tt, ([], refl, refl, subst (λ (l : List ℕ). Firsts es l (ks ++ [])) (let q : kept ≡ k = cc in q) (subst (Firsts es kept) (sym (append-nil ks)) f)));
     back = λ u ds e a. refl;
   }
 
@@ -45,18 +45,18 @@ module _ (es : List ℕ) (ks : List Source) where
   -- Demands on the table
   pub step-told : (o : Option (List ℕ)) (ss : List Source) → Told es o ks ss → Step es o ks (Unit {0}) (some ss)
   step-told o ss t = record {
-    into = λ k e. (tt, ss, refl, sym (t .test) ∙ ap isSome e, t .nodes k e);
+    into = λ k e. (tt, (ss, refl, sym (t .test) ∙ ap isSome e, t .nodes k e));
     back = λ u ds e a. t .test ∙ ap (agreeAfter ks) (let q : ss ≡ ds = cc in q) ∙ a;
   }
 
   -- Something that has to fit besides
   pub step-guard : (b : Bool) (o : Option (List ℕ)) (fits : Type 0) (demands : Option (List Source)) → (b ≡ true → fits) → (fits → b ≡ true)
       → (fits → Step es o ks (Unit {0}) demands) → Step es (guard b o) ks fits demands
-  step-guard true o fits demands yes no s = record {
-    into = λ k e. (yes refl, s (yes refl) .into k e .1);
+  step-guard true o fits demands to from s = record {
+    into = λ k e. (to refl, s (to refl) .into k e .1);
     back = λ u ds e a. s u .back tt ds e a;
   }
-  step-guard false o fits demands yes no s = record { into = λ k e. never (cc); back = λ u ds e a. never (cc (no u)) }
+  step-guard false o fits demands to from s = record { into = λ k e. never (cc); back = λ u ds e a. never (cc (from u)) }
 
   -- One step and then another
   pub step-then : (o : Option (List ℕ)) (next : List ℕ → Option (List ℕ)) (fits fits′ : Type 0) (demands demands′ : Option (List Source))
@@ -69,15 +69,14 @@ module _ (es : List ℕ) (ks : List Source) where
           → (fits × fits′) × ((ds : List Source) × (join demands demands′ ≡ some ds) × (agreeAfter ks ds ≡ true) × Firsts es kept (ks ++ ds))
       into kept e =
           let (k, i, j) = then-some o next kept e in
-          let (u, ds, d, a, f) = s .into k i in
-          let (u′, ds′, d′, a′, f′) = s′ k ds f .into kept j in
-          (
-            (u, u′),
+          let (u, (ds, d, a, f)) = s .into k i in
+          let (u′, (ds′, d′, a′, f′)) = s′ k ds f .into kept j in
+          ((u, u′), (
             ds ++ ds′,
             ap (λ (x : Option (List Source)). join x demands′) d ∙ ap (join (some ds)) d′,
             agree-append ks ds ds′ ∙ T-true (T-and (agreeAfter ks ds) (agreeAfter (ks ++ ds) ds′) (true-T a) (true-T a′)),
             subst (Firsts es kept) (append-assoc ks ds ds′) f′,
-          )
+          ))
 
       back : fits × fits′ → (ds : List Source) → join demands demands′ ≡ some ds → agreeAfter ks ds ≡ true → isSome (andThen o next) ≡ true
       back u zs e a =
@@ -85,7 +84,7 @@ module _ (es : List ℕ) (ks : List Source) where
           let (t, t′) =
           and-T (agreeAfter ks ds) (agreeAfter (ks ++ ds) ds′) (true-T (sym (agree-append ks ds ds′) ∙ ap (agreeAfter ks) (sym w) ∙ a)) in
           let (k, i) = is-some o (s .back (u .0) ds d (T-true t)) in
-          let (v, es′, d″, a″, f) = s .into k i in
+          let (v, (es′, d″, a″, f)) = s .into k i in
           let same : es′ ≡ ds = let q : some es′ ≡ some ds = sym d″ ∙ d in cc in
           ap (λ (x : Option (List ℕ)). isSome (andThen x next)) i
           ∙ s′ k ds (subst (λ (l : List Source). Firsts es k (ks ++ l)) same f) .back (u .1) ds′ d′ (T-true t′)
@@ -94,6 +93,6 @@ module _ (es : List ℕ) (ks : List Source) where
   pub step-as : (o : Option (List ℕ)) (fits fits′ : Type 0) (demands demands′ : Option (List Source)) → (fits → fits′) → (fits′ → fits)
       → demands ≡ demands′ → Step es o ks fits demands → Step es o ks fits′ demands′
   step-as o fits fits′ demands demands′ to from e s = record {
-    into = λ k q. let (u, ds, d, a, f) = s .into k q in (to u, ds, sym e ∙ d, a, f);
+    into = λ k q. let (u, (ds, d, a, f)) = s .into k q in (to u, (ds, sym e ∙ d, a, f));
     back = λ u ds d a. s .back (from u) ds (e ∙ d) a;
   }

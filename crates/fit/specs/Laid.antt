@@ -43,5 +43,5 @@ pub record RowOf (p : Problem) (row : List ℕ) : Type 0 where
 pub record Judgeable (ps es faces : List ℕ) (functions : ℕ) (firsts : Firsts) (row scratch : List ℕ) : Type 0 where
   pub problem : Problem
   pub laid : Laid problem ps es faces functions firsts
-  pub row : RowOf problem row
+  pub isRow : RowOf problem row
   pub room : length ps ≤ length scratch
