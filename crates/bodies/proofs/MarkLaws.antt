@@ -1,5 +1,6 @@
 -- What a mask says of the nodes of a face is what the marks say that it is the mask of.
 use mathlib.Core.Path.{_≡_, refl, ap, ap₂, _∙_}
+use mathlib.Core.Logic.{_⊎_, inl, inr}
 use Prim.Native.Nat.{ℕ, zero, suc, _+_, _*_, _^_, _<_, _≤_}
 use native.Mathlib.Nat.{one-mul}
 use native.Mathlib.Omega.{arith}
@@ -19,6 +20,7 @@ use Rattle.meaning.proofs.PlaceLaws.{mask-small}
 use Rattle.masks.specs.Mask.{width, marks, first}
 use Rattle.masks.proofs.Marks.{length-marks, marks-none, marks-low, marks-high}
 use Rattle.demands.specs.LowestMark.{LowestMark}
+use Rattle.demands.proofs.LowestNode.{Unmarked}
 use Rattle.bodies.specs.Marked.{marked, lowestMarked}
 
 -- The first node, and the others
@@ -82,3 +84,18 @@ punch-left ms i l c s =
 pub lowest-means : (ms : Marks) (i j : ℕ) → length ms ≤ maxFaceNodes → LowestMark i j ms → lowestMarked (maskOf maxFaceNodes ms) ≡ j
 unfolding lowestMarked maxFaceNodes
 lowest-means ms i j h l = lowest-of width ms i j h l
+
+-- Some node is the lowest, or none is marked
+pub lowest-mark : (ms : Marks) → ((i j : ℕ) × (j < length ms) × LowestMark i j ms) ⊎ Unmarked (length ms) ms
+lowest-mark [] = inr (λ k h. absurd (omega arith))
+lowest-mark (some i ∷ ms) = inl (i, 0, omega arith, record { marked = refl; before = λ k h. absurd (omega arith) })
+lowest-mark (none ∷ ms) = go (lowest-mark ms)
+  where
+    before : (n : ℕ) → Unmarked n ms → Unmarked (suc n) (none ∷ ms)
+    before n h zero l = refl
+    before n h (suc k) l = h k (omega arith)
+
+    go : ((i j : ℕ) × (j < length ms) × LowestMark i j ms) ⊎ Unmarked (length ms) ms
+        → ((i j : ℕ) × (j < suc (length ms)) × LowestMark i j (none ∷ ms)) ⊎ Unmarked (suc (length ms)) (none ∷ ms)
+    go (inl (i, j, small, l)) = inl (i, suc j, omega arith, record { marked = l .marked; before = before j (l .before) })
+    go (inr h) = inr (before (length ms) h)

@@ -2,6 +2,9 @@
 // application faces. Everything is looked up in the token table of the expressions. What the answers mean is proofs/BodyMeaning and
 // proofs/SuitsMeaning.
 use tokens::same::reaches;
+use tokens::same::same;
+use tokens::same::same_node;
+use tokens::same::uses_between;
 use tokens::token::depth;
 use tokens::token::size;
 ghost use mathlib.Core.Path.{_≡_};
@@ -9,14 +12,22 @@ ghost use Prim.Native.Nat.{_<_};
 ghost use lib.ListN.{length};
 ghost use Rattle.tokens.specs.Token.{Table};
 ghost use Rattle.tokens.specs.Key.{Inside};
-ghost use Rattle.bodies.specs.Marked.{marked};
+ghost use Rattle.bodies.specs.Marked.{marked, lowestMarked};
 ghost use Rattle.bodies.specs.BodyClosed.{bodyClosedAt};
+ghost use Rattle.bodies.specs.Suits.{holeFits, suitsAt, Nested};
 
 // Whether node i of the face becomes a hole. Only this and `lowest` look into a mask.
 fn marked(mask: u64, i: usize) -> bool
     ensures { λ r. ⌜ r ≡ marked mask i ⌝ }
 {
     masks::has(mask, i)
+}
+
+// The lowest node of the face that becomes a hole, where there is one.
+fn lowest(mask: u64) -> usize
+    ensures { λ r. ⌜ r ≡ lowestMarked mask ⌝ }
+{
+    masks::lowest(mask)
 }
 
 // Whether the body that the mask makes of the face at a node uses no binder above the face. What stands below a hole is passed.
@@ -37,6 +48,54 @@ pub fn body_closed(es: &[u64], face: usize, mask: u64) -> bool
                 return false;
             }
             i += 1;
+        }
+    }
+    true
+}
+
+// Whether what stands at a node, across a hole, uses no binder between the root, at depth e, and itself, and is what stands across the
+// lowest hole.
+fn hole_fits(es: &[u64], e: u64, lowest: usize, node: usize) -> bool
+    requires { ⌜ Inside (now es) lowest ⌝ ∗ ⌜ Inside (now es) node ⌝ }
+    ensures { λ r. ⌜ r ≡ holeFits (now (es .entry)) e lowest node ⌝ }
+{
+    if uses_between(es, node, e) {
+        return false;
+    }
+    same(es, lowest, node)
+}
+
+// Whether the body that the mask makes of the face at a node is, with some argument in its holes, what stands at node `faced`. Up to the
+// lowest hole the two agree node by node, so that it stands as far from `faced` as its node from the face.
+pub fn suits(es: &[u64], face: usize, faced: usize, mask: u64) -> bool
+    requires { ⌜ Table (now es) ⌝ ∗ ⌜ Nested (now es) ⌝ ∗ ⌜ face < length (now es) ⌝ ∗ ⌜ faced < length (now es) ⌝ }
+    ensures { λ r. ⌜ r ≡ suitsAt (now (es .entry)) face faced mask ⌝ }
+{
+    let root = es[face];
+    let n = size(root) as usize;
+    let d = depth(root);
+    let e = depth(es[faced]);
+    let low = faced + lowest(mask);
+    let mut i = 0;
+    let mut j = faced;
+    while i < n {
+        if j >= es.len() {
+            return false;
+        }
+        let x = es[face + i];
+        let y = es[j];
+        if marked(mask, i) {
+            if !hole_fits(es, e, low, j) {
+                return false;
+            }
+            i += size(x) as usize;
+            j += size(y) as usize;
+        } else {
+            if !same_node(d, x, e, y) {
+                return false;
+            }
+            i += 1;
+            j += 1;
         }
     }
     true

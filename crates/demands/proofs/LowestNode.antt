@@ -28,7 +28,7 @@ at-drop zero xs i = ap (getElem? xs) (let e : i ≡ 0 + i = omega arith in e)
 at-drop (suc n) [] i = refl
 at-drop (suc n) (x ∷ xs) i = rw (suc-add n i) (at-drop n xs i)
 
-abbrev Unmarked : ℕ → Marks → Type 0
+abbrev pub Unmarked : ℕ → Marks → Type 0
 Unmarked n ms = (k : ℕ) → k < n → getElem? ms k ≡ some none
 
 module _ (i j n : ℕ) (ms : Marks) (low : LowestMark i j ms) where
@@ -49,7 +49,7 @@ lowest-left i (x ∷ xs) ys h e = go (isHole i (x .what)) (lowest-left i xs ys h
     go false ih q = ih q
 
 -- Where no node is marked, the walk finds no hole and passes node by node
-unmarked-walk : (k n : ℕ) (ms : Marks) (u e : Terms) (hs : List Face) → IsExpression u → Unmarked (size u) ms
+pub unmarked-walk : (k n : ℕ) (ms : Marks) (u e : Terms) (hs : List Face) → IsExpression u → Unmarked (size u) ms
     → walk k n (punch ms u) e ≡ some hs → (hs ≡ []) × (size u ≡ size e)
 unmarked-walk k n ms nil nil hs x f w = (cc, refl)
 unmarked-walk k n ms nil (cons t d r) hs x f w = never (cc)

@@ -56,7 +56,7 @@ pub relabel-nil : {E L M : Type 0} (into : L → E → E) (f : E → L → M) (e
 relabel-nil into f e u h = ap (relabel into f e) h
 
 -- An application's levels are none where there is no node
-readable-expression : (levels : ℕ) (sc : List ℕ) (u : Forest Named) → Readable levels inExpression u → IsExpression (nameless sc u)
+pub readable-expression : (levels : ℕ) (sc : List ℕ) (u : Forest Named) → Readable levels inExpression u → IsExpression (nameless sc u)
 unfolding contextBelow
 readable-expression levels sc nil h = tt
 readable-expression zero sc (cons l c s) h = absurd h

@@ -31,7 +31,7 @@ use Rattle.meaning.proofs.Lists.{drop-mem, mem-at, is-some, keep-distin
 use Rattle.meaning.proofs.RowBodies.{face-expression, choice-in, row-exists, row-only, body-row}
 
 -- A punched expression is a body
-punch-body : (n : ℕ) (ms : Marks) (u : Terms) → IsExpression u → ((i : ℕ) → some i ∈ ms → i < n) → IsBody n (punch ms u)
+pub punch-body : (n : ℕ) (ms : Marks) (u : Terms) → IsExpression u → ((i : ℕ) → some i ∈ ms → i < n) → IsBody n (punch ms u)
 punch-body n ms nil h f = tt
 punch-body n ms (cons (slot z) c s) h f = absurd (h .0)
 punch-body n [] (cons (own o) c s) h f = (tt, punch-body n [] c (h .1) f, punch-body n (drop (size c) []) s (h .2) (λ i q. f i (drop-mem (some i) (size c) [] q)))
