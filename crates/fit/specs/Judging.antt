@@ -9,7 +9,6 @@ use mathlib.Core.List.{List, [], _∷_}
 use mathlib.Core.Option.{Option, some}
 use lib.ListN.{replicate}
 use lib.Dec.{eqb}
-use Rattle.meaning.specs.Limits.{metavariableCount}
 use Rattle.meaning.specs.Basics.{choose, guard, andThen, isSome}
 use Rattle.tokens.specs.Token.{tagIn, depthIn, sizeIn, payloadIn}
 use Rattle.tokens.specs.Key.{at}
@@ -76,10 +75,12 @@ noneKept = replicate 32 openNode
 
 -- "A value comes from the metavariable's first occurrence outside arguments, else from the first application ..": so the plain faces
 -- come first, and then the applications
+unfoldable pub demandedAt : List ℕ → List ℕ → List ℕ → ℕ → Firsts → List ℕ → Option (List ℕ)
+demandedAt ps es faces functions firsts row =
+    andThen (keptAfter es noneKept (demandsIn ps faces)) (λ kept. facesKept ps es functions (firsts .nodes) row faces kept)
+
 unfoldable pub judgedAt : List ℕ → List ℕ → List ℕ → ℕ → Firsts → List ℕ → Option (List ℕ)
-judgedAt ps es faces functions firsts row =
-    guard (bodiesClosed es (listed firsts) row)
-    (andThen (keptAfter es noneKept (demandsIn ps faces)) (λ kept. facesKept ps es functions (firsts .nodes) row faces kept))
+judgedAt ps es faces functions firsts row = guard (bodiesClosed es (listed firsts) row) (demandedAt ps es faces functions firsts row)
 
 -- The answer: whether it is a solution row, and then the nodes
 pub record Judges (o : Option (List ℕ)) (r : Judged) : Type 0 where

@@ -1,12 +1,10 @@
 -- What the test of a row is told.
---   Laid         these tables, recorded faces, functions and first faces are those of an accepted problem whose shapes agree
---   RowOf        these masks are those of one of its rows
---   Judgeable    both, of some problem, with room for an argument's faces
+--   Laid    these tables, recorded faces, functions and first faces are those of an accepted problem whose shapes agree
+--   RowOf   these masks are those of one of its rows
 use mathlib.Core.Path.{_≡_}
-use Prim.Native.Nat.{ℕ, _≤_}
+use Prim.Native.Nat.{ℕ}
 use mathlib.Core.List.{List}
 use mathlib.Core.Option.{some}
-use lib.ListN.{length}
 use Rattle.meaning.specs.Limits.{metavariableCount}
 use Rattle.meaning.specs.Basics.{keep, upTo, _∈_}
 use Rattle.meaning.specs.Problem.{Problem}
@@ -39,9 +37,3 @@ pub record RowOf (p : Problem) (row : List ℕ) : Type 0 where
   pub choices : Row
   pub isRow : choices ∈ rows p
   pub masks : row ≡ masksOf choices
-
-pub record Judgeable (ps es faces : List ℕ) (functions : ℕ) (firsts : Firsts) (row scratch : List ℕ) : Type 0 where
-  pub problem : Problem
-  pub laid : Laid problem ps es faces functions firsts
-  pub isRow : RowOf problem row
-  pub room : length ps ≤ length scratch
