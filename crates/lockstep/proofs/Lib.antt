@@ -3,3 +3,4 @@ pub mod WalkLaws
 pub mod WalkTrees
 pub mod SlotWalk
 pub mod SpanLaws
+pub mod LoweredWalk

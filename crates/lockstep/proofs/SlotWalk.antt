@@ -109,7 +109,7 @@ module _ (look : ℕ → Option Term) (i : ℕ) (l : Nameless) (c s : Terms) (h 
   look-here : look i ≡ some (l, c)
   look-here = let e : i ≡ i + 0 = omega arith in ap look e ∙ h 0 (omega arith)
 
-  look-below : Looks look (suc i) c
+  pub look-below : Looks look (suc i) c
   look-below m g =
       let e : suc i + m ≡ i + suc m = omega arith in
       ap look e ∙ h (suc m) (omega arith) ∙ choose-true _ _ (lt-ltb m (size c) g)
