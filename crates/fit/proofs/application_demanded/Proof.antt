@@ -12,15 +12,15 @@ suits-requires c κs = search needs
 
 -- src/lib.rt:82:9
 returns : tie.Need-returns
-returns c = search needs
+returns c = ?returns
 
 -- src/lib.rt:88:9
 returns-2 : tie.Need-returns-2
-returns-2 c = search needs
+returns-2 c = ?returnsb
 
 -- src/lib.rt:93:5
 argument-demanded-requires : tie.Need-argument-demanded-requires
-argument-demanded-requires c κs = search needs
+argument-demanded-requires c κs = ?argumentdemandedrequires
 
 -- src/lib.rt:77:1
 same-length : tie.Need-same-length
@@ -28,7 +28,7 @@ same-length c = search needs
 
 -- src/lib.rt:77:1
 returns-3 : tie.Need-returns-3
-returns-3 c = search needs
+returns-3 c = ?returnsc
 
 pub application-demanded-spec : {M : Type 1} → statement M
 application-demanded-spec =

@@ -55,7 +55,7 @@ depth-requires-2 c κs = search needs
 
 -- src/lib.rt:66:11
 walk-at-requires : tie.Need-walk-at-requires
-walk-at-requires c κs = search needs
+walk-at-requires c κs = ?walkatrequires
 
 -- src/lib.rt:67:29
 enum-told : tie.Need-enum-told
@@ -67,15 +67,15 @@ enum-known-n c = search needs
 
 -- src/lib.rt:71:50
 slice-reshare-prefix-all-demanded : tie.Need-slice-reshare-prefix-all-demanded
-slice-reshare-prefix-all-demanded c = search needs
+slice-reshare-prefix-all-demanded c = ?slicereshareprefixalldemanded
 
 -- src/lib.rt:71:50
 slice-aggregate-all-demanded : tie.Need-slice-aggregate-all-demanded
-slice-aggregate-all-demanded c = search needs
+slice-aggregate-all-demanded c = ?sliceaggregatealldemanded
 
 -- src/lib.rt:71:29
 all-demanded-requires : tie.Need-all-demanded-requires
-all-demanded-requires c κs = search needs
+all-demanded-requires c κs = ?alldemandedrequires
 
 -- src/lib.rt:52:1
 same-length : tie.Need-same-length
@@ -83,7 +83,7 @@ same-length c = search needs
 
 -- src/lib.rt:52:1
 returns : tie.Need-returns
-returns c = search needs
+returns c = ?returns
 
 -- src/lib.rt:52:1
 same-length-2 : tie.Need-same-length-2
@@ -91,7 +91,7 @@ same-length-2 c = search needs
 
 -- src/lib.rt:52:1
 returns-2 : tie.Need-returns-2
-returns-2 c = search needs
+returns-2 c = ?returnsb
 
 pub argument-demanded-spec : {M : Type 1} → statement M
 argument-demanded-spec =

@@ -22,7 +22,7 @@ tag-requires c κs = search needs
 
 -- src/lib.rt:103:9
 returns : tie.Need-returns
-returns c = search needs
+returns c = ?returns
 
 -- src/lib.rt:108:29
 payload-requires : tie.Need-payload-requires
@@ -30,11 +30,11 @@ payload-requires c κs = search needs
 
 -- src/lib.rt:108:29
 cast-rank : tie.Need-cast-rank
-cast-rank c = search needs
+cast-rank c = ?castrank
 
 -- src/lib.rt:108:9
 rank-requires : tie.Need-rank-requires
-rank-requires c κs = search needs
+rank-requires c κs = ?rankrequires
 
 -- src/lib.rt:109:40
 mul-application-demanded : tie.Need-mul-application-demanded
@@ -54,7 +54,7 @@ array-read-application-demanded-2 c = search needs
 
 -- src/lib.rt:109:5
 application-demanded-requires : tie.Need-application-demanded-requires
-application-demanded-requires c κs = search needs
+application-demanded-requires c κs = ?applicationdemandedrequires
 
 -- src/lib.rt:97:1
 same-length : tie.Need-same-length
@@ -62,7 +62,7 @@ same-length c = search needs
 
 -- src/lib.rt:97:1
 returns-2 : tie.Need-returns-2
-returns-2 c = search needs
+returns-2 c = ?returnsb
 
 pub face-demanded-spec : {M : Type 1} → statement M
 face-demanded-spec =
