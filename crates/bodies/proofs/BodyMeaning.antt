@@ -1,6 +1,6 @@
 -- What `body_closed` answers: whether the body is closed.
 --   hole   whether node i of the face becomes a hole, as the marks ms say it
-use mathlib.Core.Path.{_≡_, refl, ap, ap₂, sym, _∙_, subst}
+use mathlib.Core.Path.{_≡_, refl, ap, ap₂, sym, _∙_}
 use mathlib.Core.Logic.{_↔_}
 use Prim.Native.Nat.{ℕ, zero, suc, _+_, _-_, _<_, _≤_}
 use native.Mathlib.Omega.{arith}
@@ -23,8 +23,8 @@ use Rattle.meaning.specs.PlaceValue.{maskOf}
 use Rattle.meaning.proofs.Lists.{T-true, true-T}
 use Rattle.meaning.proofs.ShiftLaws.{relabel-size, test-closed, closed-test}
 use Rattle.meaning.proofs.RowBodies.{punch-one}
-use Rattle.tokens.specs.Token.{depthIn, sizeIn, tokens, expressionTokens}
-use Rattle.tokens.specs.Key.{at, part, Held, Stands}
+use Rattle.tokens.specs.Token.{tokens, expressionTokens}
+use Rattle.tokens.specs.Key.{Held, Stands}
 use Rattle.tokens.proofs.TokenParts.{tokens-length}
 use Rattle.tokens.proofs.Levels.{enter-deep}
 use Rattle.tokens.proofs.Reaching.{closed-token}

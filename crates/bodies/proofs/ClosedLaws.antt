@@ -1,16 +1,16 @@
 -- What the loop of `body_closed` owes, over the numbers and lists that the code holds.
---   left   the test of what is left of the face's nodes from node i on
-use mathlib.Core.Path.{_≡_, refl, ap, ap₂, sym, _∙_}
+--   left      the test of what is left of the face's nodes from node i on
+--   Testing   the loop's invariant
+use mathlib.Core.Path.{_≡_, refl, ap, sym, _∙_}
 use mathlib.Core.Bool.{Bool, true, false, _&&_, not}
 use mathlib.Core.List.{List, [], _∷_}
 use Prim.Native.Nat.{ℕ, zero, suc, _+_, _-_, _<_, _≤_}
 use native.Mathlib.Omega.{arith}
 use native.Mathlib.Numerals.{add-one}
-use lib.ListN.{length, take, drop, getD, length-take, length-drop, drop-of-length-le}
+use lib.ListN.{length, drop, length-drop, drop-of-length-le}
 use lib.Seq.{drop-cons, drop-drop, getD-take, getD-drop, length-take-le}
-use Rattle.meaning.specs.Basics.{choose}
 use Rattle.meaning.proofs.Lists.{choose-true, choose-false}
-use Rattle.tokens.specs.Token.{depthIn, sizeIn}
+use Rattle.tokens.specs.Token.{depthIn, sizeIn, Table}
 use Rattle.tokens.specs.Key.{at, part, Inside, reaches}
 use Rattle.bodies.specs.Marked.{marked}
 use Rattle.bodies.specs.BodyClosed.{closedFrom, bodyClosedAt}
@@ -67,47 +67,57 @@ module _ (hole : ℕ → Bool) (d : ℕ) where
         ap (closedFrom hole d 0 i) (drop-cons ps i 0 h) ∙ closed-own i (at ps i) (drop (suc i) ps) e
         ∙ ap (λ (j : ℕ). not (reaches 0 d (at ps i)) && left ps j) (sym (add-one i))
 
--- The loop: what is left of the face says what the whole face does
-abbrev pub leftClosed : List ℕ → ℕ → ℕ → ℕ → ℕ → Bool
-leftClosed es face mask d i = left (marked mask) d (part es face) i
+-- The loop's invariant: what is left of the face says what the whole face does
+pub record Testing (es : List ℕ) (face mask n d i : ℕ) : Type 0 where
+  pub table : Table es
+  pub inside : Inside es face
+  pub isSize : n ≡ sizeIn (at es face)
+  pub whole : left (marked mask) d (part es face) i ≡ bodyClosedAt es face mask
 
-module _ (es : List ℕ) (face mask n d : ℕ) (inside : Inside es face) (is-n : n ≡ sizeIn (at es face)) (is-d : d ≡ depthIn (at es face)) where
-  abbrev rest : ℕ → Bool
-  rest i = leftClosed es face mask d i
-
-  long : length (part es face) ≡ n
-  long = part-length es face inside ∙ sym is-n
-
-  pub closed-begins : rest 0 ≡ bodyClosedAt es face mask
+module _ {es : List ℕ} {face n d : ℕ} (mask : ℕ) where
+  pub closed-begins : Table es → Inside es face → n ≡ sizeIn (at es face) → d ≡ depthIn (at es face) → Testing es face mask n d 0
   unfolding bodyClosedAt
-  closed-begins = ap (λ (r : ℕ). closedFrom (marked mask) r 0 0 (part es face)) is-d
+  closed-begins t h is-n is-d =
+      record { table = t; inside = h; isSize = is-n; whole = ap (λ (r : ℕ). closedFrom (marked mask) r 0 0 (part es face)) is-d }
 
-  pub closed-ends : (i : ℕ) → n ≤ i → true ≡ rest i
-  closed-ends i h = sym (left-end (marked mask) d (part es face) i (omega (arith, long)))
+module _ {es : List ℕ} {face mask n d i : ℕ} (w : Testing es face mask n d i) where
+  long : length (part es face) ≡ n
+  long = part-length es face (w .inside) ∙ sym (w .isSize)
 
-  module _ (i : ℕ) (h : i < n) where
-    x : ℕ
-    x = at es (face + i)
+  pub closed-ends : n ≤ i → true ≡ bodyClosedAt es face mask
+  closed-ends h = sym (left-end (marked mask) d (part es face) i (omega (arith, long))) ∙ w .whole
 
-    here : at (part es face) i ≡ x
-    unfolding x
-    here = part-at es face inside i (omega arith)
+  module _ (h : i < n) where
+    here : at (part es face) i ≡ at es (face + i)
+    here = part-at es face (w .inside) i (omega (arith, w .isSize))
 
-    pub closed-passes : marked mask i ≡ true → 1 ≤ sizeIn (at es (face + i)) → rest (i + sizeIn (at es (face + i))) ≡ rest i
-    unfolding x
-    closed-passes e s =
-        sym (left-hole (marked mask) d (part es face) i (omega (arith, long)) e (rw (← here) at s)
-        ∙ ap (λ (y : ℕ). rest (i + sizeIn y)) here)
+    pub size-counted : 1 ≤ sizeIn (at es (face + i))
+    size-counted = w .table .counted (face + i) (omega (arith, w .inside .ends, w .isSize))
 
-    own : marked mask i ≡ false → rest i ≡ not (reaches 0 d x) && rest (i + 1)
-    own e =
-        left-own (marked mask) d (part es face) i (omega (arith, long)) e
-        ∙ ap (λ (y : ℕ). not (reaches 0 d y) && rest (i + 1)) here
+    pub closed-passes : marked mask i ≡ true → (m : ℕ) → m ≡ sizeIn (at es (face + i)) → Testing es face mask n d (i + m)
+    closed-passes e m is-m =
+        let size : sizeIn (at (part es face) i) ≡ m = ap sizeIn here ∙ sym is-m in
+        record {
+          table = w .table;
+          inside = w .inside;
+          isSize = w .isSize;
+          whole = sym (left-hole (marked mask) d (part es face) i (omega (arith, long)) e (omega (arith, size-counted))
+              ∙ ap (λ (k : ℕ). left (marked mask) d (part es face) (i + k)) size) ∙ w .whole;
+        }
 
-    pub closed-goes-on : marked mask i ≡ false → reaches 0 d (at es (face + i)) ≡ false → rest (i + 1) ≡ rest i
-    unfolding x
-    closed-goes-on e f = sym (own e ∙ ap (λ (b : Bool). not b && rest (i + 1)) f)
+    module _ (e : marked mask i ≡ false) where
+      next : left (marked mask) d (part es face) i ≡ not (reaches 0 d (at es (face + i))) && left (marked mask) d (part es face) (i + 1)
+      next =
+          left-own (marked mask) d (part es face) i (omega (arith, long)) e
+          ∙ ap (λ (y : ℕ). not (reaches 0 d y) && left (marked mask) d (part es face) (i + 1)) here
 
-    pub closed-stops : marked mask i ≡ false → reaches 0 d (at es (face + i)) ≡ true → false ≡ rest i
-    unfolding x
-    closed-stops e f = sym (own e ∙ ap (λ (b : Bool). not b && rest (i + 1)) f)
+      pub closed-goes-on : reaches 0 d (at es (face + i)) ≡ false → Testing es face mask n d (i + 1)
+      closed-goes-on f = record {
+        table = w .table;
+        inside = w .inside;
+        isSize = w .isSize;
+        whole = sym (next ∙ ap (λ (b : Bool). not b && left (marked mask) d (part es face) (i + 1)) f) ∙ w .whole;
+      }
+
+      pub closed-stops : reaches 0 d (at es (face + i)) ≡ true → false ≡ bodyClosedAt es face mask
+      closed-stops f = sym (next ∙ ap (λ (b : Bool). not b && left (marked mask) d (part es face) (i + 1)) f) ∙ w .whole

@@ -2,20 +2,19 @@
 --   Spotted   what a face of a walk faces stands in the table at its node; d binders are above the whole that is walked
 use mathlib.Core.Path.{_≡_, refl, ap, ap₂, sym, _∙_, subst}
 use mathlib.Core.Logic.{_↔_}
-use Prim.Native.Nat.{ℕ, zero, suc, _+_, _-_, _<_}
+use Prim.Native.Nat.{ℕ, zero, suc, _+_, _-_}
 use native.Mathlib.Omega.{arith}
 use mathlib.Core.Bool.{Bool, true, false, _&&_, not, true≢false}
-use mathlib.Core.List.{List, [], _∷_, _++_, append-assoc, append-nil}
+use mathlib.Core.List.{List, [], _++_, append-assoc, append-nil}
 use mathlib.Core.Option.{Option, none, some}
 use lib.ListN.{length, drop, replicate, length-replicate}
 use lib.Seq.{drop-drop, drop-append-add}
-use borrow.Author.Tests.{not-true, not-false}
 use Rattle.meaning.specs.Basics.{All}
 use Rattle.meaning.specs.Term.{Forest, nil, cons, one, size, own, slot, Named, Nameless, Terms, Term, inner}
 use Rattle.meaning.specs.Scope.{enter, namelessLabel, nameless, namelessTerm}
 use Rattle.meaning.specs.Shift.{Closed}
 use Rattle.meaning.specs.Lower.{lowerTerm}
-use Rattle.meaning.specs.Equal.{View, view, Equal}
+use Rattle.meaning.specs.Equal.{View, view}
 use Rattle.meaning.specs.Choice.{Owner, ownerOf, usesFace}
 use Rattle.meaning.specs.Face.{Face, walk}
 use Rattle.meaning.specs.Read.{Context, contextBelow}
@@ -27,12 +26,12 @@ use Rattle.meaning.proofs.Lockstep.{agrees-eq}
 use Rattle.meaning.proofs.Lowered.{lowered-view, lowered-none, view-injective}
 use Rattle.meaning.proofs.Nodes.{walked-own, walked-slot}
 use Rattle.tokens.specs.Token.{tokens}
-use Rattle.tokens.specs.Key.{levelFrom, sameAt, usesAt, Stands}
+use Rattle.tokens.specs.Key.{levelFrom, sameAt, usesAt}
 use Rattle.tokens.proofs.TokenParts.{tokens-length}
 use Rattle.tokens.proofs.Levels.{enter-deep}
 use Rattle.tokens.proofs.KeyLaws.{uses-means, same-means}
 use Rattle.tokens.proofs.Owners.{equal-levels}
-use Rattle.tokens.proofs.ProblemTokens.{tokenAt, Room, room-below, room-later}
+use Rattle.tokens.proofs.ProblemTokens.{Room, room-below, room-later}
 use Rattle.demands.specs.Demand.{lowered}
 use Rattle.faces.proofs.NodeTokens.{AtNode}
 use Rattle.bodies.specs.Suits.{holeFits}

@@ -2,6 +2,7 @@
 pub mod MarkLaws
 pub mod ClosedLaws
 pub mod SuitsLaws
+pub mod ProblemNodes
 pub mod BodyMeaning
 pub mod MarkedWalk
 pub mod HoleTests

@@ -1,11 +1,11 @@
 -- What a mask says of the nodes of a face is what the marks say that it is the mask of.
 use mathlib.Core.Path.{_≡_, refl, ap, ap₂, _∙_}
 use mathlib.Core.Logic.{_⊎_, inl, inr}
-use Prim.Native.Nat.{ℕ, zero, suc, _+_, _*_, _^_, _<_, _≤_}
+use Prim.Native.Nat.{ℕ, zero, suc, _+_, _^_, _<_, _≤_}
 use native.Mathlib.Nat.{one-mul}
 use native.Mathlib.Omega.{arith}
 use native.Mathlib.Decide.{decLt}
-use mathlib.Core.Bool.{Bool, true, false}
+use mathlib.Core.Bool.{Bool, false}
 use mathlib.Core.List.{List, [], _∷_}
 use mathlib.Core.Option.{none, some}
 use lib.ListN.{length, getD, drop, getElem?, List·getD-eq-default}
@@ -14,7 +14,7 @@ use Rattle.meaning.specs.Limits.{maxFaceNodes}
 use Rattle.meaning.specs.Basics.{isSome, holds}
 use Rattle.meaning.specs.Term.{cons, size, Nameless, Terms}
 use Rattle.meaning.specs.Choice.{Mark, Marks, mark, rest, punchNode, punch}
-use Rattle.meaning.specs.PlaceValue.{bit, maskOf}
+use Rattle.meaning.specs.PlaceValue.{maskOf}
 use Rattle.meaning.proofs.Lists.{never}
 use Rattle.meaning.proofs.PlaceLaws.{mask-small}
 use Rattle.masks.specs.Mask.{width, marks, first}

@@ -1,5 +1,5 @@
 -- What the loop of `suits` owes, over the numbers and lists that the code holds.
---   left      the test of what is left of the two from nodes i and j on
+--   walkFrom  the walk of what is left of two lists from nodes i and j on, and left its test
 --   Walking   the loop's invariant: what is left says what the whole does; up to the lowest hole the two are passed node by node
 use mathlib.Core.Path.{_≡_, refl, ap, ap₂, sym, _∙_}
 use mathlib.Core.Bool.{Bool, true, false, _&&_, not, and-false}
@@ -13,7 +13,7 @@ use lib.ListN.{length, drop, drop-of-length-le}
 use lib.Seq.{drop-cons, drop-drop}
 use lib.Dec.{eqb}
 use Rattle.meaning.specs.Basics.{join}
-use Rattle.tokens.specs.Token.{depthIn, sizeIn}
+use Rattle.tokens.specs.Token.{depthIn, sizeIn, Table}
 use Rattle.tokens.specs.Key.{keyOf, at, part, sameAt, usesAt, Inside}
 use Rattle.masks.specs.Mask.{width, marks, first}
 use Rattle.masks.proofs.Marks.{length-marks}
@@ -92,99 +92,121 @@ module _ (stop : Stop) (d e : ℕ) (ps es : List ℕ) where
             (ap (drop k) (sym (drop-cons es j 0 hj)) ∙ drop-drop k j es)
             ∙ ap (λ (a : ℕ). lockstep stop d e 0 a (j + k) (drop a ps) (drop (j + k) es)) n)
 
--- The loop
+-- The test of what is left, where what stands across the lowest hole stands at node low
 abbrev left : List ℕ → ℕ → ℕ → ℕ → ℕ → ℕ → ℕ → ℕ → Bool
-left es face faced mask d e i j =
-    allFaced (holeFits es e (faced + lowestMarked mask)) (walkFrom (atMarks mask) d e (part es face) es i j)
+left es face mask d e low i j = allFaced (holeFits es e low) (walkFrom (atMarks mask) d e (part es face) es i j)
 
-pub record Walking (es : List ℕ) (face faced mask d e i j : ℕ) : Type 0 where
-  pub whole : left es face faced mask d e i j ≡ suitsAt es face faced mask
+pub record Walking (es : List ℕ) (face faced mask n d e low i j : ℕ) : Type 0 where
+  pub table : Table es
+  pub inside : Inside es face
+  pub isSize : n ≡ sizeIn (at es face)
+  pub isLow : low ≡ faced + lowestMarked mask
+  pub whole : left es face mask d e low i j ≡ suitsAt es face faced mask
   pub beside : i ≤ lowestMarked mask → j ≡ faced + i
-  pub passed : lowestMarked mask < i → faced + lowestMarked mask < length es
+  pub passed : lowestMarked mask < i → low < length es
 
-module _ (es : List ℕ) (face faced mask n d e : ℕ) (inside : Inside es face) (is-n : n ≡ sizeIn (at es face)) (is-d : d ≡ depthIn (at es face))
-    (is-e : e ≡ depthIn (at es faced)) where
+module _ {es : List ℕ} {face n d e lowest : ℕ} (faced mask : ℕ) where
+  pub suits-begins : Table es → Inside es face → n ≡ sizeIn (at es face) → d ≡ depthIn (at es face) → e ≡ depthIn (at es faced)
+      → lowest ≡ lowestMarked mask → Walking es face faced mask n d e (faced + lowest) 0 faced
+  unfolding suitsAt
+  suits-begins t h is-n is-d is-e is-low = record {
+    table = t;
+    inside = h;
+    isSize = is-n;
+    isLow = ap (λ (x : ℕ). faced + x) is-low;
+    whole = ap (λ (x : ℕ). left es face mask d e (faced + x) 0 faced) is-low
+        ∙ ap₂ (λ (x y : ℕ). left es face mask x y (faced + lowestMarked mask) 0 faced) is-d is-e;
+    beside = λ l. omega arith;
+    passed = λ l. absurd (omega arith);
+  }
+
+module _ {es : List ℕ} {face faced mask n d e low i j : ℕ} (w : Walking es face faced mask n d e low i j) where
   abbrev ps : List ℕ
   ps = part es face
 
-  abbrev rest : ℕ → ℕ → Bool
-  rest i j = left es face faced mask d e i j
+  abbrev walkLeft : ℕ → ℕ → Option (List ℕ)
+  walkLeft x y = walkFrom (atMarks mask) d e ps es x y
 
-  abbrev Inv : ℕ → ℕ → Type 0
-  Inv i j = Walking es face faced mask d e i j
+  abbrev Next : ℕ → ℕ → Type 0
+  Next x y = Walking es face faced mask n d e low x y
 
   long : length ps ≡ n
-  long = part-length es face inside ∙ sym is-n
+  long = part-length es face (w .inside) ∙ sym (w .isSize)
 
-  pub suits-begins : Inv 0 faced
-  unfolding suitsAt
-  suits-begins = record {
-    whole = ap₂ (λ (x y : ℕ). allFaced (holeFits es y (faced + lowestMarked mask)) (lockstep (atMarks mask) x y 0 0 faced ps (drop faced es))) is-d is-e;
-    beside = λ h. omega arith;
-    passed = λ h. absurd (omega arith);
-  }
+  answered : (o : Option (List ℕ)) → walkLeft i j ≡ o → allFaced (holeFits es e low) o ≡ suitsAt es face faced mask
+  answered o h = sym (ap (allFaced (holeFits es e low)) h) ∙ w .whole
 
-  module _ (i j : ℕ) (w : Inv i j) where
-    pub suits-ends : n ≤ i → true ≡ suitsAt es face faced mask
-    suits-ends h =
-        sym (ap (allFaced (holeFits es e (faced + lowestMarked mask))) (from-end (atMarks mask) d e ps es i j (omega (arith, long)))) ∙ w .whole
+  pub suits-ends : n ≤ i → true ≡ suitsAt es face faced mask
+  suits-ends h = answered (some []) (from-end (atMarks mask) d e ps es i j (omega (arith, long)))
 
-    disagreed : walkFrom (atMarks mask) d e ps es i j ≡ none → false ≡ suitsAt es face faced mask
-    disagreed h = sym (ap (allFaced (holeFits es e (faced + lowestMarked mask))) h) ∙ w .whole
+  module _ (hi : i < n) where
+    pub suits-out : length es ≤ j → false ≡ suitsAt es face faced mask
+    suits-out h = answered none (from-out (atMarks mask) d e ps es i j (omega (arith, long)) h)
 
-    module _ (hi : i < n) where
-      pub suits-out : length es ≤ j → false ≡ suitsAt es face faced mask
-      suits-out h = disagreed (from-out (atMarks mask) d e ps es i j (omega (arith, long)) h)
+    here : at ps i ≡ at es (face + i)
+    here = part-at es face (w .inside) i (omega (arith, w .isSize))
 
-      module _ (hj : j < length es) where
-        here : at ps i ≡ at es (face + i)
-        here = part-at es face inside i (omega arith)
+    pub node-counted : 1 ≤ sizeIn (at es (face + i))
+    node-counted = w .table .counted (face + i) (omega (arith, w .inside .ends, w .isSize))
 
-        -- At a hole: the lowest one lies in the table
-        module _ (m : marked mask i ≡ true) (low : ℕ) (is-low : low ≡ lowestMarked mask) where
-          pub lowest-inside : faced + low < length es
-          lowest-inside = go (decLt (lowestMarked mask) i)
-            where
-              go : Dec (lowestMarked mask < i) → faced + low < length es
-              go (yes l) = omega (arith, w .passed l)
-              go (no l) = let a = lowest-min mask i m in let b = w .beside (omega arith) in omega arith
+    module _ (hj : j < length es) where
+      -- At a hole: the lowest one lies in the table
+      module _ (m : marked mask i ≡ true) where
+        pub lowest-inside : low < length es
+        lowest-inside = go (decLt (lowestMarked mask) i)
+          where
+            go : Dec (lowestMarked mask < i) → low < length es
+            go (yes l) = w .passed l
+            go (no l) = let a = lowest-min mask i m in let b = w .beside (omega arith) in omega (arith, w .isLow)
 
-          module _ (s : 1 ≤ sizeIn (at es (face + i))) where
-            abbrev after : Option (List ℕ)
-            after = walkFrom (atMarks mask) d e ps es (i + sizeIn (at es (face + i))) (j + sizeIn (at es j))
+        -- x and y are the sizes of what is passed
+        module _ (x y : ℕ) (is-x : x ≡ sizeIn (at es (face + i))) (is-y : y ≡ sizeIn (at es j)) where
+          passes : walkLeft i j ≡ join (some (faceCode i j ∷ [])) (walkLeft (i + x) (j + y))
+          passes =
+              from-face (atMarks mask) d e ps es i j (omega (arith, long)) hj m (rw here node-counted)
+              ∙ ap₂ (λ (a b : ℕ). join (some (faceCode i j ∷ [])) (walkLeft (i + a) (j + b))) (ap sizeIn here ∙ sym is-x) (sym is-y)
 
-            next : rest i j ≡ holeFits es e (faced + low) j && allFaced (holeFits es e (faced + lowestMarked mask)) after
-            next =
-                ap (allFaced (holeFits es e (faced + lowestMarked mask)))
-                (from-face (atMarks mask) d e ps es i j (omega (arith, long)) hj m (rw here s)
-                ∙ ap (λ (x : ℕ). join (some (faceCode i j ∷ [])) (walkFrom (atMarks mask) d e ps es (i + sizeIn x) (j + sizeIn (at es j)))) here)
-                ∙ faced-join (holeFits es e (faced + lowestMarked mask)) i j after (omega arith)
-                ∙ ap (λ (x : ℕ). holeFits es e (faced + x) j && allFaced (holeFits es e (faced + lowestMarked mask)) after) (sym is-low)
-
-            pub hole-stops : holeFits es e (faced + low) j ≡ false → false ≡ suitsAt es face faced mask
-            hole-stops h = sym (next ∙ ap (λ (b : Bool). b && allFaced (holeFits es e (faced + lowestMarked mask)) after) h) ∙ w .whole
-
-            pub hole-goes-on : holeFits es e (faced + low) j ≡ true → Inv (i + sizeIn (at es (face + i))) (j + sizeIn (at es j))
-            hole-goes-on h = record {
-              whole = sym (next ∙ ap (λ (b : Bool). b && allFaced (holeFits es e (faced + lowestMarked mask)) after) h) ∙ w .whole;
-              beside = λ l. absurd (let a = lowest-min mask i m in omega arith);
-              passed = λ l. omega (arith, lowest-inside);
-            }
-
-        module _ (m : marked mask i ≡ false) where
-          pub node-stops : eqb (keyOf d (at es (face + i))) (keyOf e (at es j)) ≡ false → false ≡ suitsAt es face faced mask
-          node-stops h =
-              disagreed (from-differs (atMarks mask) d e ps es i j (omega (arith, long)) hj m
-              (ap (λ (x : ℕ). eqb (keyOf d x) (keyOf e (at es j))) here ∙ h))
-
-          pub node-goes-on : eqb (keyOf d (at es (face + i))) (keyOf e (at es j)) ≡ true → Inv (i + 1) (j + 1)
-          node-goes-on h = record {
-            whole = sym (ap (allFaced (holeFits es e (faced + lowestMarked mask)))
-                (from-same (atMarks mask) d e ps es i j (omega (arith, long)) hj m (ap (λ (x : ℕ). eqb (keyOf d x) (keyOf e (at es j))) here ∙ h))) ∙ w .whole;
-            beside = λ l. let b = w .beside (omega arith) in omega arith;
-            passed = λ l. go l (decLt (lowestMarked mask) i);
+          pub hole-goes-on : holeFits es e low j ≡ true → Next (i + x) (j + y)
+          hole-goes-on h = record {
+            table = w .table;
+            inside = w .inside;
+            isSize = w .isSize;
+            isLow = w .isLow;
+            whole = sym (faced-join (holeFits es e low) i j (walkLeft (i + x) (j + y)) small ∙ ap (λ (b : Bool). b && left es face mask d e low (i + x) (j + y)) h)
+                ∙ answered (join (some (faceCode i j ∷ [])) (walkLeft (i + x) (j + y))) passes;
+            beside = λ l. absurd (let a = lowest-min mask i m in omega (arith, node-counted));
+            passed = λ l. lowest-inside;
           }
             where
-              go : lowestMarked mask < i + 1 → Dec (lowestMarked mask < i) → faced + lowestMarked mask < length es
-              go l (yes x) = w .passed x
-              go l (no x) = let b = w .beside (omega arith) in omega arith
+              small : i < 65536
+              small = omega (arith, w .isSize)
+
+        pub hole-stops : holeFits es e low j ≡ false → false ≡ suitsAt es face faced mask
+        hole-stops h =
+            let x : ℕ = sizeIn (at es (face + i)) in
+            let y : ℕ = sizeIn (at es j) in
+            sym (faced-join (holeFits es e low) i j (walkLeft (i + x) (j + y)) (omega (arith, w .isSize))
+            ∙ ap (λ (b : Bool). b && left es face mask d e low (i + x) (j + y)) h)
+            ∙ answered (join (some (faceCode i j ∷ [])) (walkLeft (i + x) (j + y))) (passes x y refl refl)
+
+      module _ (m : marked mask i ≡ false) where
+        keys : eqb (keyOf d (at ps i)) (keyOf e (at es j)) ≡ eqb (keyOf d (at es (face + i))) (keyOf e (at es j))
+        keys = ap (λ (x : ℕ). eqb (keyOf d x) (keyOf e (at es j))) here
+
+        pub node-stops : eqb (keyOf d (at es (face + i))) (keyOf e (at es j)) ≡ false → false ≡ suitsAt es face faced mask
+        node-stops h = answered none (from-differs (atMarks mask) d e ps es i j (omega (arith, long)) hj m (keys ∙ h))
+
+        pub node-goes-on : eqb (keyOf d (at es (face + i))) (keyOf e (at es j)) ≡ true → Next (i + 1) (j + 1)
+        node-goes-on h = record {
+          table = w .table;
+          inside = w .inside;
+          isSize = w .isSize;
+          isLow = w .isLow;
+          whole = answered (walkLeft (i + 1) (j + 1)) (from-same (atMarks mask) d e ps es i j (omega (arith, long)) hj m (keys ∙ h));
+          beside = λ l. let b = w .beside (omega arith) in omega arith;
+          passed = λ l. go l (decLt (lowestMarked mask) i);
+        }
+          where
+            go : lowestMarked mask < i + 1 → Dec (lowestMarked mask < i) → low < length es
+            go l (yes x) = w .passed x
+            go l (no x) = let b = w .beside (omega arith) in omega (arith, w .isLow)

@@ -1,30 +1,30 @@
 -- What `suits` answers: whether some argument in its holes makes the body what is faced.
 use mathlib.Core.Path.{_≡_, refl, ap, ap₂, sym, _∙_, subst}
 use mathlib.Core.Logic.{_↔_, inl, inr, _⊎_}
-use Prim.Native.Nat.{ℕ, suc, _+_, _<_, _≤_}
+use Prim.Native.Nat.{ℕ, _+_, _<_, _≤_}
 use native.Mathlib.Omega.{arith}
 use mathlib.Core.Bool.{Bool, true, false, _&&_, false≢true}
 use mathlib.Core.List.{List, [], _∷_, map, List·Memᴰ·not-nil}
 use mathlib.Core.Option.{Option, none, some, Option·some-injective}
 use lib.ListN.{length, drop}
 use Rattle.meaning.specs.Limits.{maxFaceNodes, maxDepth}
-use Rattle.meaning.specs.Basics.{every, All, _∈_}
+use Rattle.meaning.specs.Basics.{every, _∈_}
 use Rattle.meaning.specs.Term.{one, size, nodeAt, hole, Terms, Term, IsExpression}
 use Rattle.meaning.specs.Problem.{Problem, namedExpressions, expressions}
 use Rattle.meaning.specs.Shift.{Closed, ClosedTerm}
 use Rattle.meaning.specs.Filling.{IsBody}
 use Rattle.meaning.specs.Face.{Face, walk}
 use Rattle.meaning.specs.Readable.{WithinLimits}
-use Rattle.meaning.specs.Choice.{Marks, punch, punchTerm, Choice}
+use Rattle.meaning.specs.Choice.{Marks, punchTerm, Choice}
 use Rattle.meaning.specs.Value.{lowestHole}
 use Rattle.meaning.specs.PlaceValue.{maskOf}
-use Rattle.meaning.proofs.Lists.{never, T-true, true-T, all-mem, mem-all, mem-at, every-all, all-every}
+use Rattle.meaning.proofs.Lists.{T-true, true-T, all-mem, mem-all, mem-at, every-all, all-every}
 use Rattle.meaning.proofs.Nodes.{Stands, here, below, beside, node-stands}
 use Rattle.meaning.proofs.Proper.{readable-expression, expressions-readable}
 use Rattle.meaning.proofs.RowBodies.{punch-one}
 use Rattle.meaning.proofs.Solutions.{punch-body}
 use Rattle.meaning.proofs.Sources.{lowest-is, lowest-there}
-use Rattle.tokens.specs.Token.{depthIn, tokens, expressionTokens}
+use Rattle.tokens.specs.Token.{depthIn, expressionTokens}
 use Rattle.tokens.specs.Key.{at, part}
 use Rattle.tokens.proofs.Codes.{viewFrom}
 use Rattle.tokens.proofs.KeyLaws.{stands-depth, stands-part}
@@ -32,7 +32,7 @@ use Rattle.demands.specs.Demand.{lowered}
 use Rattle.demands.specs.Fit.{Suits, SuitsWalked}
 use Rattle.demands.specs.LowestMark.{LowestMark}
 use Rattle.demands.proofs.LowestNode.{Unmarked, unmarked-walk, lowest-hole}
-use Rattle.demands.proofs.SlotKinds.{IsHoleOf, body-face}
+use Rattle.demands.proofs.SlotKinds.{body-face}
 use Rattle.demands.proofs.Suiting.{suits-walked}
 use Rattle.lockstep.specs.Walk.{expressionNode, lockstep}
 use Rattle.lockstep.proofs.WalkTrees.{seenWalk, flat-trees}

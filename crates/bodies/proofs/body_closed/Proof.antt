@@ -1,16 +1,14 @@
--- `bodies::body_closed` meets its contract. The loop's invariant: what is left of the face is closed just where the whole is. The measure is
--- the number of nodes left.
-use mathlib.Core.Path.{_≡_, sym, _∙_}
-use Prim.Native.Nat.{_+_, _-_}
+-- `bodies::body_closed` meets its contract. The loop's invariant is `Testing`; the measure is the number of nodes left of the face.
+use mathlib.Core.Path.{sym, _∙_}
+use Prim.Native.Nat.{_-_}
 use native.Mathlib.Omega.{arith}
-use Rattle.bodies.specs.BodyClosed.{bodyClosedAt}
-use Rattle.bodies.proofs.ClosedLaws.{leftClosed, closed-begins, closed-ends, closed-passes, closed-goes-on, closed-stops}
+use Rattle.bodies.proofs.ClosedLaws.{Testing, size-counted, closed-begins, closed-ends, closed-passes, closed-goes-on, closed-stops}
 use borrow.Author.Needs.{needs}
 use Rattle.bodies.proofs.body_closed.Statement.{statement}
 use Rattle.bodies.proofs.body_closed.Tie as tie
 
 abbrev Inv-loop : tie.InvT-loop
-Inv-loop es face mask root n d i₀ i = leftClosed es face mask d i ≡ bodyClosedAt es face mask
+Inv-loop es face mask root n d i₀ i = Testing es face mask n d i
 
 abbrev μ-loop : tie.MeasureT-loop
 μ-loop es face mask root n d i₀ i = n - i
@@ -30,7 +28,7 @@ depth-requires c κs = search needs
 loop-holds : tie.Need-loop-holds Inv-loop μ-loop
 loop-holds c =
     let s = c .before .before .before .before in
-    closed-begins (s .args .es .now) (s .args .face) (s .args .mask) (c .before .size .result) (c .depth .result) (s .pre .1) (c .before .size .ensures) (c .depth .ensures)
+    closed-begins (s .args .mask) (s .pre .0) (s .pre .1) (c .before .size .ensures) (c .depth .ensures)
 
 add-x : tie.Need-add-x Inv-loop μ-loop
 add-x c = search needs
@@ -52,30 +50,23 @@ add-i c = search needs
 
 loop-less : tie.Need-loop-less Inv-loop μ-loop
 loop-less c =
-    let s = c .before .before .before .before .before .before .before .before .before .before in
     let l = c .before .before .before .before .before .loop in
-    omega (arith, c .size2 .ensures, s .pre .0 .counted (s .args .face + l .i) (omega (arith, s .pre .1 .ends, c .before .before .before .before .before .before .before .size .ensures)))
+    omega (arith, c .size2 .ensures, size-counted (l .inv) (c .before .before .before .before .loop-test .taken))
 
 loop-again : tie.Need-loop-again Inv-loop μ-loop
 loop-again c =
-    let s = c .before .before .before .before .before .before .before .before .before .before in
     let l = c .before .before .before .before .before .loop in
-    rw (c .size2 .ensures)
-    (closed-passes (s .args .es .now) (s .args .face) (s .args .mask) (c .before .before .before .before .before .before .before .size .result) (c .before .before .before .before .before .before .depth .result) (s .pre .1) (c .before .before .before .before .before .before .before .size .ensures) (c .before .before .before .before .before .before .depth .ensures)
-    (l .i) (c .before .before .before .before .loop-test .taken) (sym (c .before .before .marked .ensures) ∙ c .before .if1 .taken)
-    (s .pre .0 .counted (s .args .face + l .i) (omega (arith, s .pre .1 .ends, c .before .before .before .before .before .before .before .size .ensures)))
-    ∙ l .inv)
+    closed-passes (l .inv) (c .before .before .before .before .loop-test .taken) (sym (c .before .before .marked .ensures) ∙ c .before .if1 .taken)
+    (c .size2 .result) (c .size2 .ensures)
 
 reaches-requires : tie.Need-reaches-requires Inv-loop μ-loop
 reaches-requires c κs = search needs
 
 returns : tie.Need-returns Inv-loop μ-loop
 returns c =
-    let s = c .before .before .before .before .before .before .before .before .before .before .before in
     let l = c .before .before .before .before .before .before .loop in
-    closed-stops (s .args .es .now) (s .args .face) (s .args .mask) (c .before .before .before .before .before .before .before .before .size .result) (c .before .before .before .before .before .before .before .depth .result) (s .pre .1) (c .before .before .before .before .before .before .before .before .size .ensures) (c .before .before .before .before .before .before .before .depth .ensures)
-    (l .i) (c .before .before .before .before .before .loop-test .taken) (sym (c .before .before .before .marked .ensures) ∙ c .before .before .if1 .left) (sym (c .before .reaches .ensures) ∙ c .if2 .taken)
-    ∙ l .inv
+    closed-stops (l .inv) (c .before .before .before .before .before .loop-test .taken) (sym (c .before .before .before .marked .ensures) ∙ c .before .before .if1 .left)
+    (sym (c .before .reaches .ensures) ∙ c .if2 .taken)
 
 add-i-2 : tie.Need-add-i-2 Inv-loop μ-loop
 add-i-2 c = search needs
@@ -85,17 +76,12 @@ loop-less-2 c = search needs
 
 loop-again-2 : tie.Need-loop-again-2 Inv-loop μ-loop
 loop-again-2 c =
-    let s = c .before .before .before .before .before .before .before .before .before .before .before in
     let l = c .before .before .before .before .before .before .loop in
-    closed-goes-on (s .args .es .now) (s .args .face) (s .args .mask) (c .before .before .before .before .before .before .before .before .size .result) (c .before .before .before .before .before .before .before .depth .result) (s .pre .1) (c .before .before .before .before .before .before .before .before .size .ensures) (c .before .before .before .before .before .before .before .depth .ensures)
-    (l .i) (c .before .before .before .before .before .loop-test .taken) (sym (c .before .before .before .marked .ensures) ∙ c .before .before .if1 .left) (sym (c .before .reaches .ensures) ∙ c .if2 .left)
-    ∙ l .inv
+    closed-goes-on (l .inv) (c .before .before .before .before .before .loop-test .taken) (sym (c .before .before .before .marked .ensures) ∙ c .before .before .if1 .left)
+    (sym (c .before .reaches .ensures) ∙ c .if2 .left)
 
 returns-2 : tie.Need-returns-2 Inv-loop μ-loop
-returns-2 c =
-    let s = c .before .before .before .before .before .before in
-    let l = c .before .loop in
-    closed-ends (s .args .es .now) (s .args .face) (s .args .mask) (c .before .before .before .size .result) (c .before .before .depth .result) (s .pre .1) (c .before .before .before .size .ensures) (c .before .before .depth .ensures) (l .i) (c .loop-test .left) ∙ l .inv
+returns-2 c = closed-ends (c .before .loop .inv) (c .loop-test .left)
 
 pub body-closed-spec : {M : Type 1} → statement M
 body-closed-spec =

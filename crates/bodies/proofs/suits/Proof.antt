@@ -1,15 +1,16 @@
 -- `bodies::suits` meets its contract. The loop's invariant is `Walking`; the measure is the number of nodes left of the face.
-use mathlib.Core.Path.{_≡_, sym, _∙_}
+use mathlib.Core.Path.{sym, _∙_}
 use Prim.Native.Nat.{_+_, _-_}
 use native.Mathlib.Omega.{arith}
 use borrow.Author.Tests.{not-true, not-false}
-use Rattle.bodies.proofs.SuitsLaws.{lowest-room, Walking, suits-begins, suits-ends, suits-out, lowest-inside, hole-stops, hole-goes-on, node-stops, node-goes-on}
+use Rattle.bodies.proofs.SuitsLaws.{lowest-room, Walking, suits-begins, suits-ends, suits-out, node-counted, lowest-inside}
+use Rattle.bodies.proofs.SuitsLaws.{hole-stops, hole-goes-on, node-stops, node-goes-on}
 use borrow.Author.Needs.{needs}
 use Rattle.bodies.proofs.suits.Statement.{statement}
 use Rattle.bodies.proofs.suits.Tie as tie
 
 abbrev Inv-loop : tie.InvT-loop
-Inv-loop es face faced mask root n d e low i₀ j₀ i j = Walking es face faced mask d e i j
+Inv-loop es face faced mask root n d e low i₀ j₀ i j = Walking es face faced mask n d e low i j
 
 abbrev μ-loop : tie.MeasureT-loop
 μ-loop es face faced mask root n d e low i₀ j₀ i j = n - i
@@ -46,15 +47,11 @@ add-low c =
 loop-holds : tie.Need-loop-holds Inv-loop μ-loop
 loop-holds c =
     let s = c .before .before .before .before .before .before .before in
-    suits-begins (s .args .es .now) (s .args .face) (s .args .faced) (s .args .mask) (c .before .before .before .before .size .result) (c .before .before .before .depth .result) (c .before .depth2 .result)
-    (s .pre .1 .0 (s .args .face) (s .pre .1 .1 .0)) (c .before .before .before .before .size .ensures) (c .before .before .before .depth .ensures) (c .before .depth2 .ensures)
+    suits-begins (s .args .faced) (s .args .mask) (s .pre .0) (s .pre .1 .0 (s .args .face) (s .pre .1 .1 .0)) (c .before .before .before .before .size .ensures)
+    (c .before .before .before .depth .ensures) (c .before .depth2 .ensures) (c .lowest .ensures)
 
 returns : tie.Need-returns Inv-loop μ-loop
-returns c =
-    let s = c .before .before .before .before .before .before .before .before .before .before in
-    let l = c .before .before .loop in
-    suits-out (s .args .es .now) (s .args .face) (s .args .faced) (s .args .mask) (c .before .before .before .before .before .before .before .size .result) (c .before .before .before .before .before .before .depth .result) (c .before .before .before .before .depth2 .result)
-    (s .pre .1 .0 (s .args .face) (s .pre .1 .1 .0)) (c .before .before .before .before .before .before .before .size .ensures) (c .before .before .before .before .before .before .depth .ensures) (c .before .before .before .before .depth2 .ensures) (l .i) (l .j) (l .inv) (c .before .loop-test .taken) (c .if1 .taken)
+returns c = suits-out (c .before .before .loop .inv) (c .before .loop-test .taken) (c .if1 .taken)
 
 add-x : tie.Need-add-x Inv-loop μ-loop
 add-x c = search needs
@@ -65,7 +62,7 @@ mul-x c = search needs
 shared-slice-read-x : tie.Need-shared-slice-read-x Inv-loop μ-loop
 shared-slice-read-x c =
     let s = c .before .before .before .before .before .before .before .before .before .before .before in
-    omega (arith, s .pre .1 .0 (s .args .face) (s .pre .1 .1 .0) .ends, c .before .before .before .before .before .before .before .before .size .ensures)
+    omega (arith, s .pre .1 .0 (s .args .face) (s .pre .1 .1 .0) .ends, c .before .before .before .loop .inv .isSize)
 
 mul-y : tie.Need-mul-y Inv-loop μ-loop
 mul-y c = search needs
@@ -81,19 +78,12 @@ hole-fits-requires c κs =
     let s = c .before .before .before .before .before .before .before .before .before .before .before .before .before .before in
     let l = c .before .before .before .before .before .before .loop in
     let low =
-    lowest-inside (s .args .es .now) (s .args .face) (s .args .faced) (s .args .mask) (c .before .before .before .before .before .before .before .before .before .before .before .size .result) (c .before .before .before .before .before .before .before .before .before .before .depth .result) (c .before .before .before .before .before .before .before .before .depth2 .result)
-    (s .pre .1 .0 (s .args .face) (s .pre .1 .1 .0)) (c .before .before .before .before .before .before .before .before .before .before .before .size .ensures) (c .before .before .before .before .before .before .before .before .before .before .depth .ensures) (c .before .before .before .before .before .before .before .before .depth2 .ensures)
-    (l .i) (l .j) (l .inv) (c .before .before .before .before .before .loop-test .taken) (omega arith) (sym (c .before .marked .ensures) ∙ c .if2 .taken) (c .before .before .before .before .before .before .before .lowest .result) (c .before .before .before .before .before .before .before .lowest .ensures) in
+    lowest-inside (l .inv) (c .before .before .before .before .before .loop-test .taken) (omega arith) (sym (c .before .marked .ensures) ∙ c .if2 .taken) in
     (s .pre .1 .0 (s .args .faced + c .before .before .before .before .before .before .before .lowest .result) low, s .pre .1 .0 (l .j) (omega arith))
 
 returns-2 : tie.Need-returns-2 Inv-loop μ-loop
 returns-2 c =
-    let s = c .before .before .before .before .before .before .before .before .before .before .before .before .before .before .before .before in
-    let l = c .before .before .before .before .before .before .before .before .loop in
-    hole-stops (s .args .es .now) (s .args .face) (s .args .faced) (s .args .mask) (c .before .before .before .before .before .before .before .before .before .before .before .before .before .size .result) (c .before .before .before .before .before .before .before .before .before .before .before .before .depth .result) (c .before .before .before .before .before .before .before .before .before .before .depth2 .result)
-    (s .pre .1 .0 (s .args .face) (s .pre .1 .1 .0)) (c .before .before .before .before .before .before .before .before .before .before .before .before .before .size .ensures) (c .before .before .before .before .before .before .before .before .before .before .before .before .depth .ensures) (c .before .before .before .before .before .before .before .before .before .before .depth2 .ensures)
-    (l .i) (l .j) (l .inv) (c .before .before .before .before .before .before .before .loop-test .taken) (omega arith) (sym (c .before .before .before .marked .ensures) ∙ c .before .before .if2 .taken) (c .before .before .before .before .before .before .before .before .before .lowest .result) (c .before .before .before .before .before .before .before .before .before .lowest .ensures)
-    (s .pre .0 .counted (s .args .face + l .i) (omega (arith, s .pre .1 .0 (s .args .face) (s .pre .1 .1 .0) .ends, c .before .before .before .before .before .before .before .before .before .before .before .before .before .size .ensures)))
+    hole-stops (c .before .before .before .before .before .before .before .before .loop .inv) (c .before .before .before .before .before .before .before .loop-test .taken) (omega arith) (sym (c .before .before .before .marked .ensures) ∙ c .before .before .if2 .taken)
     (sym (c .before .hole-fits .ensures) ∙ not-true _ (c .if3 .taken))
 
 size-requires-2 : tie.Need-size-requires-2 Inv-loop μ-loop
@@ -110,31 +100,22 @@ add-j c = search needs
 
 loop-less : tie.Need-loop-less Inv-loop μ-loop
 loop-less c =
-    let s = c .before .before .before .before .before .before .before .before .before .before .before .before .before .before .before .before .before .before in
     let l = c .before .before .before .before .before .before .before .before .before .before .loop in
-    omega (arith, c .before .size2 .ensures, s .pre .0 .counted (s .args .face + l .i) (omega (arith, s .pre .1 .0 (s .args .face) (s .pre .1 .1 .0) .ends, c .before .before .before .before .before .before .before .before .before .before .before .before .before .before .before .size .ensures)))
+    omega (arith, c .before .size2 .ensures, node-counted (l .inv) (c .before .before .before .before .before .before .before .before .before .loop-test .taken))
 
 loop-again : tie.Need-loop-again Inv-loop μ-loop
 loop-again c =
-    let s = c .before .before .before .before .before .before .before .before .before .before .before .before .before .before .before .before .before .before in
     let l = c .before .before .before .before .before .before .before .before .before .before .loop in
-    rw (c .before .size2 .ensures, c .size3 .ensures)
-    (hole-goes-on (s .args .es .now) (s .args .face) (s .args .faced) (s .args .mask) (c .before .before .before .before .before .before .before .before .before .before .before .before .before .before .before .size .result) (c .before .before .before .before .before .before .before .before .before .before .before .before .before .before .depth .result) (c .before .before .before .before .before .before .before .before .before .before .before .before .depth2 .result)
-    (s .pre .1 .0 (s .args .face) (s .pre .1 .1 .0)) (c .before .before .before .before .before .before .before .before .before .before .before .before .before .before .before .size .ensures) (c .before .before .before .before .before .before .before .before .before .before .before .before .before .before .depth .ensures) (c .before .before .before .before .before .before .before .before .before .before .before .before .depth2 .ensures)
-    (l .i) (l .j) (l .inv) (c .before .before .before .before .before .before .before .before .before .loop-test .taken) (omega arith) (sym (c .before .before .before .before .before .marked .ensures) ∙ c .before .before .before .before .if2 .taken) (c .before .before .before .before .before .before .before .before .before .before .before .lowest .result) (c .before .before .before .before .before .before .before .before .before .before .before .lowest .ensures)
-    (s .pre .0 .counted (s .args .face + l .i) (omega (arith, s .pre .1 .0 (s .args .face) (s .pre .1 .1 .0) .ends, c .before .before .before .before .before .before .before .before .before .before .before .before .before .before .before .size .ensures)))
-    (sym (c .before .before .before .hole-fits .ensures) ∙ not-false _ (c .before .before .if3 .left)))
+    hole-goes-on (l .inv) (c .before .before .before .before .before .before .before .before .before .loop-test .taken) (omega arith) (sym (c .before .before .before .before .before .marked .ensures) ∙ c .before .before .before .before .if2 .taken)
+    (c .before .size2 .result) (c .size3 .result) (c .before .size2 .ensures) (c .size3 .ensures)
+    (sym (c .before .before .before .hole-fits .ensures) ∙ not-false _ (c .before .before .if3 .left))
 
 same-node-requires : tie.Need-same-node-requires Inv-loop μ-loop
 same-node-requires c κs = search needs
 
 returns-3 : tie.Need-returns-3 Inv-loop μ-loop
 returns-3 c =
-    let s = c .before .before .before .before .before .before .before .before .before .before .before .before .before .before .before .before in
-    let l = c .before .before .before .before .before .before .before .before .loop in
-    node-stops (s .args .es .now) (s .args .face) (s .args .faced) (s .args .mask) (c .before .before .before .before .before .before .before .before .before .before .before .before .before .size .result) (c .before .before .before .before .before .before .before .before .before .before .before .before .depth .result) (c .before .before .before .before .before .before .before .before .before .before .depth2 .result)
-    (s .pre .1 .0 (s .args .face) (s .pre .1 .1 .0)) (c .before .before .before .before .before .before .before .before .before .before .before .before .before .size .ensures) (c .before .before .before .before .before .before .before .before .before .before .before .before .depth .ensures) (c .before .before .before .before .before .before .before .before .before .before .depth2 .ensures)
-    (l .i) (l .j) (l .inv) (c .before .before .before .before .before .before .before .loop-test .taken) (omega arith) (sym (c .before .before .before .marked .ensures) ∙ c .before .before .if2 .left)
+    node-stops (c .before .before .before .before .before .before .before .before .loop .inv) (c .before .before .before .before .before .before .before .loop-test .taken) (omega arith) (sym (c .before .before .before .marked .ensures) ∙ c .before .before .if2 .left)
     (sym (c .before .same-node .ensures) ∙ not-true _ (c .if4 .taken))
 
 add-i-2 : tie.Need-add-i-2 Inv-loop μ-loop
@@ -148,19 +129,11 @@ loop-less-2 c = search needs
 
 loop-again-2 : tie.Need-loop-again-2 Inv-loop μ-loop
 loop-again-2 c =
-    let s = c .before .before .before .before .before .before .before .before .before .before .before .before .before .before .before .before in
-    let l = c .before .before .before .before .before .before .before .before .loop in
-    node-goes-on (s .args .es .now) (s .args .face) (s .args .faced) (s .args .mask) (c .before .before .before .before .before .before .before .before .before .before .before .before .before .size .result) (c .before .before .before .before .before .before .before .before .before .before .before .before .depth .result) (c .before .before .before .before .before .before .before .before .before .before .depth2 .result)
-    (s .pre .1 .0 (s .args .face) (s .pre .1 .1 .0)) (c .before .before .before .before .before .before .before .before .before .before .before .before .before .size .ensures) (c .before .before .before .before .before .before .before .before .before .before .before .before .depth .ensures) (c .before .before .before .before .before .before .before .before .before .before .depth2 .ensures)
-    (l .i) (l .j) (l .inv) (c .before .before .before .before .before .before .before .loop-test .taken) (omega arith) (sym (c .before .before .before .marked .ensures) ∙ c .before .before .if2 .left)
+    node-goes-on (c .before .before .before .before .before .before .before .before .loop .inv) (c .before .before .before .before .before .before .before .loop-test .taken) (omega arith) (sym (c .before .before .before .marked .ensures) ∙ c .before .before .if2 .left)
     (sym (c .before .same-node .ensures) ∙ not-false _ (c .if4 .left))
 
 returns-4 : tie.Need-returns-4 Inv-loop μ-loop
-returns-4 c =
-    let s = c .before .before .before .before .before .before .before .before .before in
-    let l = c .before .loop in
-    suits-ends (s .args .es .now) (s .args .face) (s .args .faced) (s .args .mask) (c .before .before .before .before .before .before .size .result) (c .before .before .before .before .before .depth .result) (c .before .before .before .depth2 .result)
-    (s .pre .1 .0 (s .args .face) (s .pre .1 .1 .0)) (c .before .before .before .before .before .before .size .ensures) (c .before .before .before .before .before .depth .ensures) (c .before .before .before .depth2 .ensures) (l .i) (l .j) (l .inv) (c .loop-test .left)
+returns-4 c = suits-ends (c .before .loop .inv) (c .loop-test .left)
 
 pub suits-spec : {M : Type 1} → statement M
 suits-spec =
