@@ -3,7 +3,7 @@
 --   i, j         the application's node among the patterns, the subexpression's node among the expressions
 --   under        the number of binders by which the subexpression lies deeper than the application; it uses none of them
 use mathlib.Core.Path.{_≡_, refl, ap, ap₂, sym, _∙_, subst}
-use mathlib.Core.List.{List, [], _∷_, _++_, append-nil}
+use mathlib.Core.List.{List, _++_, append-nil}
 use mathlib.Core.Option.{Option, some}
 use Prim.Native.Nat.{ℕ, zero, suc, _+_, _-_, _<_, _≤_}
 use native.Mathlib.Omega.{arith}
@@ -12,7 +12,7 @@ use native.Mathlib.Decide.{decLt}
 use lib.ListN.{length, take, drop}
 use lib.Seq.{drop-drop, take-at}
 use Rattle.meaning.specs.Term.{Forest, Tree, nil, cons, one, size, trees, nodeAt, symbol, variable, application, binder, own, slot, metavariable, function, hole, Named, NamedTerm, Terms, Term}
-use Rattle.meaning.specs.Scope.{enter, namelessLabel, nameless, namelessTerm}
+use Rattle.meaning.specs.Scope.{enter, namelessLabel, nameless}
 use Rattle.meaning.specs.Problem.{Problem, patterns, expressions}
 use Rattle.meaning.specs.Filling.{argument}
 use Rattle.meaning.specs.Lower.{lowerTerm}

@@ -109,47 +109,42 @@ module _ (table : List ℕ) (i : ℕ) (t : Term) (n : AtNode table i t) where
       let z : i + 0 ≡ i = add-zero i in
       ap (at table) (sym z) ∙ sym (getD-drop i table 0 0) ∙ ap (λ (l : List ℕ). at l 0) (n .stands .split)
 
--- What the token of a slot says
-pub slot-token : (table : List ℕ) (i : ℕ) (z : Slot) (cs : Terms) → AtNode table i (slot z, cs)
-    → (tagIn (at table i) ≡ tagOf (slot z)) × (payloadIn (at table i) ≡ payloadOf [] (slot z))
-unfolding payloadOf
-slot-token table i z cs n =
-    let label : tagOf (n .named .0) ≡ tagOf (slot z) = go (n .named .0) (sym (ap (λ (u : Term). u .0) (n .term))) .0 in (
-      ap tagIn (node-token table i (slot z, cs) n) ∙ tag-at (n .scope) (n .named .0) (n .named .1) deep small ∙ label,
-      ap payloadIn (node-token table i (slot z, cs) n) ∙ payload-at (n .scope) (n .named .0) (n .named .1) deep small
-          ∙ go (n .named .0) (sym (ap (λ (u : Term). u .0) (n .term))) .1,
-    )
-  where
-    deep : length (n .scope) < 256
-    deep = omega (arith, n .held .depths, some-levels (n .levels) (n .context) (n .named) (n .held .readable))
+-- The token of a slot has its tag and its number
+module _ (table : List ℕ) (i : ℕ) (z : Slot) (cs : Terms) (n : AtNode table i (slot z, cs)) where
+  slot-label : (l : Named) → namelessLabel (n .scope) l ≡ slot z → l ≡ slot z
+  slot-label (own (symbol m)) e = never (cc)
+  slot-label (own (variable x)) e = never (cc)
+  slot-label (own (application m)) e = never (cc)
+  slot-label (own (binder b x)) e = never (cc)
+  slot-label (slot y) e = let w : y ≡ z = cc in ap (λ (x : Slot). slot x) w
 
-    small : suc (size (n .named .1)) < 65536
-    small = omega (arith, n .held .sizes)
+  slot-token : at table i ≡ tokenAt (n .scope) (slot z) (n .named .1)
+  slot-token =
+      node-token table i (slot z, cs) n
+      ∙ ap (λ (l : Named). tokenAt (n .scope) l (n .named .1)) (slot-label (n .named .0) (sym (ap (λ (u : Term). u .0) (n .term))))
 
-    load : (y : Slot) → payloadOf (n .scope) (slot y) ≡ payloadOf [] (slot y)
-    load (metavariable m) = refl
-    load (function g a) = refl
-    load (hole h) = refl
+  deep : length (n .scope) < 256
+  deep = omega (arith, n .held .depths, some-levels (n .levels) (n .context) (n .named) (n .held .readable))
 
-    go : (l : Named) → namelessLabel (n .scope) l ≡ slot z → (tagOf l ≡ tagOf (slot z)) × (payloadOf (n .scope) l ≡ payloadOf [] (slot z))
-    go (own (symbol m)) e = never (cc)
-    go (own (variable x)) e = never (cc)
-    go (own (application m)) e = never (cc)
-    go (own (binder b x)) e = never (cc)
-    go (slot y) e = let q : y ≡ z = cc in (ap (λ (x : Slot). tagOf (slot x)) q, load y ∙ ap (λ (x : Slot). payloadOf [] (slot x)) q)
+  small : suc (size (n .named .1)) < 65536
+  small = omega (arith, n .held .sizes)
 
--- Whether it is the token of an application of f
+  pub node-tag : tagIn (at table i) ≡ tagOf (slot z)
+  node-tag = ap tagIn slot-token ∙ tag-at (n .scope) (slot z) (n .named .1) deep small
+
+  pub node-payload : payloadIn (at table i) ≡ payloadOf (n .scope) (slot z)
+  node-payload = ap payloadIn slot-token ∙ payload-at (n .scope) (slot z) (n .named .1) deep small
+
+-- Whether the token of a slot is that of an application of f
 pub node-applies : (table : List ℕ) (i : ℕ) (z : Slot) (cs : Terms) (f : ℕ) → AtNode table i (slot z, cs)
     → eqb (tagIn (at table i)) 6 && eqb f (payloadIn (at table i)) ≡ isApplication f z
 unfolding payloadOf
-node-applies table i z cs f n =
-    let t = slot-token table i z cs n in
-    ap₂ (λ (g m : ℕ). eqb g 6 && eqb f m) (t .0) (t .1) ∙ go z
+node-applies table i z cs f n = ap₂ (λ (g m : ℕ). eqb g 6 && eqb f m) (node-tag table i z cs n) (node-payload table i z cs n) ∙ said (n .scope) z
   where
-    go : (y : Slot) → eqb (tagOf (slot y)) 6 && eqb f (payloadOf [] (slot y)) ≡ isApplication f y
-    go (metavariable m) = refl
-    go (function g a) = refl
-    go (hole h) = refl
+    said : (sc : List ℕ) (z : Slot) → eqb (tagOf (slot z)) 6 && eqb f (payloadOf sc (slot z)) ≡ isApplication f z
+    said sc (metavariable m) = refl
+    said sc (function g a) = refl
+    said sc (hole h) = refl
 
 -- THE THEOREM: meaning's node numbers are the places of the tables
 module _ (p : Problem) (w : WithinLimits p) where

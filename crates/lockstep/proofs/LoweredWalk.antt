@@ -3,7 +3,7 @@
 use mathlib.Core.Path.{_≡_, refl, ap, sym, _∙_, subst}
 use mathlib.Core.List.{List, _++_}
 use mathlib.Core.Option.{Option, some}
-use Prim.Native.Nat.{ℕ, suc, _+_, _-_, _≤_, _<_}
+use Prim.Native.Nat.{ℕ, _+_, _-_, _≤_, _<_}
 use native.Mathlib.Nat.{zero-add}
 use native.Mathlib.Omega.{arith}
 use native.Mathlib.Decide.{decLt}
@@ -12,7 +12,7 @@ use Rattle.meaning.specs.Term.{Forest, nil, cons, one, size, trees, symbol, var
 use Rattle.meaning.specs.Scope.{nameless, namelessTerm}
 use Rattle.meaning.specs.Shift.{raise, shiftLabel, shift, shiftTerm, closedVariable, closedLabel, Closed}
 use Rattle.meaning.specs.Lower.{lowerTerm}
-use Rattle.meaning.specs.Equal.{outside, see, View}
+use Rattle.meaning.specs.Equal.{outside, see}
 use Rattle.meaning.specs.Face.{walk}
 use Rattle.meaning.specs.Read.{Context, inArgument}
 use Rattle.meaning.specs.Readable.{Readable}

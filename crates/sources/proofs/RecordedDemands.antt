@@ -17,7 +17,7 @@ use Rattle.tokens.specs.Key.{at, Inside}
 use Rattle.tokens.proofs.KeyLaws.{stands-inside}
 use Rattle.lockstep.specs.Walk.{patternNode, expressionNode}
 use Rattle.lockstep.specs.Recorded.{Records, RecordedBy}
-use Rattle.faces.proofs.NodeTokens.{AtNode, node-inside, slot-token}
+use Rattle.faces.proofs.NodeTokens.{AtNode, node-inside, node-tag, node-payload}
 use Rattle.sources.specs.Demand.{Demand, demandAt, demandsIn}
 use Rattle.sources.specs.Kept.{Asks, Reads}
 use Rattle.sources.proofs.KeptMeaning.{MovedAt, Says, AllSay}
@@ -51,10 +51,10 @@ said-asks es (d ∷ ds) (s ∷ ss) a = (one (a .0), said-asks es ds ss (a .1))
 module _ (ps es : List ℕ) (P E : ℕ → Option Term) (patternAt : (i : ℕ) (t : Term) → P i ≡ some t → AtNode ps i t)
     (expressionAt : (j : ℕ) (t : Term) → E j ≡ some t → MovedAt es j t) where
   -- One face, by the kind of its slot
-  demand-says : (n : ℕ) (z : Slot) (x : Face) → x .what ≡ z → Records P E n x → SmallSlot z
-      → AllSay es (choose (eqb (tagOf (slot z)) 5) ((payloadOf [] (slot z), expressionNode n) ∷ []) []) (sourceAt z (x .node) (x .term))
+  demand-says : (n : ℕ) (sc : List ℕ) (z : Slot) (x : Face) → x .what ≡ z → Records P E n x → SmallSlot z
+      → AllSay es (choose (eqb (tagOf (slot z)) 5) ((payloadOf sc (slot z), expressionNode n) ∷ []) []) (sourceAt z (x .node) (x .term))
   unfolding payloadOf
-  demand-says n (metavariable m) x e r small = (
+  demand-says n sc (metavariable m) x e r small = (
     record {
       number = refl;
       small = small;
@@ -63,16 +63,17 @@ module _ (ps es : List ℕ) (P E : ℕ → Option Term) (patternAt : (i : ℕ) (
     },
     tt,
   )
-  demand-says n (function f a) x e r small = tt
-  demand-says n (hole i) x e r small = tt
+  demand-says n sc (function f a) x e r small = tt
+  demand-says n sc (hole i) x e r small = tt
 
   face-says : (n : ℕ) (x : Face) → Records P E n x → SmallSlot (x .what) → AllSay es (demandAt ps n) (sourceOf x)
   unfolding demandAt
   face-says n x r small =
-      let t = slot-token ps (patternNode n) (x .what) (x .children) (patternAt (patternNode n) (slot (x .what), x .children) (r .slots)) in
+      let a = patternAt (patternNode n) (slot (x .what), x .children) (r .slots) in
       subst (λ (ds : List Demand). AllSay es ds (sourceOf x))
-      (sym (ap₂ (λ (g m : ℕ). choose (eqb g 5) ((m, expressionNode n) ∷ []) []) (t .0) (t .1)))
-      (demand-says n (x .what) x refl r small)
+      (sym (ap₂ (λ (g m : ℕ). choose (eqb g 5) ((m, expressionNode n) ∷ []) [])
+      (node-tag ps (patternNode n) (x .what) (x .children) a) (node-payload ps (patternNode n) (x .what) (x .children) a)))
+      (demand-says n (a .scope) (x .what) x refl r small)
 
   -- THE THEOREM
   pub recorded-say : (ns : List ℕ) (xs : List Face) → RecordedBy P E ns xs → All (λ x. SmallSlot (x .what)) xs
