@@ -16,7 +16,7 @@ use Rattle.meaning.specs.Scope.{enter, namelessLabel, nameless}
 use Rattle.meaning.specs.Problem.{Problem, patterns, expressions}
 use Rattle.meaning.specs.Filling.{argument}
 use Rattle.meaning.specs.Lower.{lowerTerm}
-use Rattle.meaning.specs.Face.{walk}
+use Rattle.meaning.specs.Face.{Face, walk}
 use Rattle.meaning.specs.Read.{Context, inArgument, contextBelow}
 use Rattle.meaning.specs.Readable.{Readable, WithinLimits}
 use Rattle.meaning.proofs.Lists.{never}
@@ -146,21 +146,28 @@ module _ (p : Problem) (w : WithinLimits p) (i f n : ℕ) (cs : Terms) (applied 
         ≡ lockstep atSlots (length (below .scope)) (length (across .scope)) 0 (suc i) j (tokens (below .scope) (below .named))
         (tokens (across .scope) (one (across .named)) ++ across .stands .after)
     span-walk =
-        ap₂ (λ (a b : ℕ). lockstep atSlots a b 0 (i + 1) j (take (i + sizeIn (at (patternTokens p) i) - (i + 1)) (drop (i + 1) (patternTokens p))) (drop j (expressionTokens p)))
+        ap₂ (λ (a b : ℕ). lockstep atSlots a b 0 (i + 1) j
+        (take (i + sizeIn (at (patternTokens p) i) - (i + 1)) (drop (i + 1) (patternTokens p))) (drop j (expressionTokens p)))
         (below .depth) across-depth
         ∙ ap₂ (lockstep atSlots (length (below .scope)) (length (across .scope)) 0 (i + 1) j) span-tokens (across .stands .split)
         ∙ ap (λ (a : ℕ). lockstep atSlots (length (below .scope)) (length (across .scope)) 0 a j (tokens (below .scope) (below .named))
         (tokens (across .scope) (one (across .named)) ++ across .stands .after)) (add-one i)
 
+    -- The patterns' nodes by their numbers, and those of the lowered subexpression, which begins at node j
+    abbrev pub Meets : Option (List ℕ) → Option (List Face) → Type 0
+    Meets ns xs = Both (RecordedBy (λ m. nodeAt m (patterns p)) (λ m. nodeAt (m - j) (one u))) ns xs
+
     -- THE THEOREM: the walk of the span fails just where that of the argument against the lowered subexpression fails, and else records its
     -- faces in order. k is the number of binders that the definitions count above the application
-    pub argument-walk : (k : ℕ) → Both (RecordedBy (λ m. nodeAt m (patterns p)) (λ m. nodeAt (m - j) (one u)))
-        (spanWalk (patternTokens p) (expressionTokens p) (argumentSpan j)) (walk k j (one (argument cs 0)) (one u))
+    pub argument-walk : (k : ℕ) → Meets (spanWalk (patternTokens p) (expressionTokens p) (argumentSpan j)) (walk k j (one (argument cs 0)) (one u))
     argument-walk k =
-        subst (λ (o : Option (List ℕ)). Both (RecordedBy (λ m. nodeAt m (patterns p)) (λ m. nodeAt (m - j) (one u))) o (walk k j (one (argument cs 0)) (one u))) (sym span-walk)
-        (subst (λ (a : Terms). Both (RecordedBy (λ m. nodeAt m (patterns p)) (λ m. nodeAt (m - j) (one u))) flat (walk k j a (one u))) (below .is ∙ sym (only cs (sym (ap trees (below .is)) ∙ same-count ∙ below .single)))
-        (lowered-walk (below .scope) (across .scope) under (sym across-depth ∙ deeper ∙ ap (λ (m : ℕ). under + m) (below .depth)) (below .named) (across .named) u
-        (ap (lowerTerm under) (sym (across .term)) ∙ lowers) (below .levels) (across .levels) (across .context) (below .readable) (below .room) (below .single) (across .held)
+        subst (λ (o : Option (List ℕ)). Meets o (walk k j (one (argument cs 0)) (one u)))
+        (sym span-walk)
+        (subst (λ (a : Terms). Meets flat (walk k j a (one u)))
+        (below .is ∙ sym (only cs (sym (ap trees (below .is)) ∙ same-count ∙ below .single)))
+        (lowered-walk (below .scope) (across .scope) under (sym across-depth ∙ deeper ∙ ap (λ (m : ℕ). under + m) (below .depth))
+        (below .named) (across .named) u (ap (lowerTerm under) (sym (across .term)) ∙ lowers)
+        (below .levels) (across .levels) (across .context) (below .readable) (below .room) (below .single) (across .held)
         (λ m. nodeAt m (patterns p)) (λ m. nodeAt (m - j) (one u)) k (suc i) j (across .stands .after)
         (subst (Looks (λ m. nodeAt m (patterns p)) (suc i)) (sym (below .is))
         (look-below (λ m. nodeAt m (patterns p)) i (slot (function f n)) cs nil (looks-at (patterns p) i (slot (function f n), cs) applied)))

@@ -76,7 +76,8 @@ module _ (n d : ℕ) where
 lowered-within : (n d : ℕ) (t a : Term) → lowerTerm n t ≡ some a → Closed (n + d) (one t) → Closed (0 + d) (one a)
 lowered-within n d t a e h =
     shift-within n d 0 (one a)
-    (subst (λ (m : ℕ). Closed m (one (shiftTerm n a))) (sym (zero-add (n + d))) (subst (λ (x : Term). Closed (n + d) (one x)) (sym (shift-lower-term n t a e)) h))
+    (subst (λ (m : ℕ). Closed m (one (shiftTerm n a))) (sym (zero-add (n + d)))
+    (subst (λ (x : Term). Closed (n + d) (one x)) (sym (shift-lower-term n t a e)) h))
 
 -- THE THEOREM: the argument's tokens against those of what the hole holds. k is the number of binders that the walk counts from
 module _ (root root′ : List ℕ) (n : ℕ) (deeper : length root′ ≡ n + length root) (c : Forest Named) (v : NamedTerm) (u : Term)

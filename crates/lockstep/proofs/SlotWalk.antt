@@ -181,14 +181,17 @@ module _ (p e : ℕ → Option Term) where
     seen-both n k i j (cons l c s) nil q h h′ lp le few = tt
     seen-both n k i j (cons l c s) (cons l′ c′ s′) q h h′ lp le few =
         join-both (seenMeet seenSlots i j (seenLabel root k l) (seenLabel root k l′) below)
-        (seenWalk seenSlots (suc i + size (viewFrom root (inner l k) c)) (suc j + size (viewFrom root (inner l′ k) c′)) (viewFrom root k s) (viewFrom root k s′))
+        (seenWalk seenSlots (suc i + size (viewFrom root (inner l k) c)) (suc j + size (viewFrom root (inner l′ k) c′))
+        (viewFrom root k s) (viewFrom root k s′))
         (meet n j l c (l′, c′) (walk (inner l n) (suc j) c c′)) (walk n (suc j + size c′) s s′)
-        (meet-both n k i j l l′ c c′ (q .0) (h .0) (h′ .0) (omega arith) (look-here p i l c s lp) (look-here e j l′ c′ s′ le) below (walk (inner l n) (suc j) c c′)
+        (meet-both n k i j l l′ c c′ (q .0) (h .0) (h′ .0) (omega arith) (look-here p i l c s lp) (look-here e j l′ c′ s′ le)
+        below (walk (inner l n) (suc j) c c′)
         (λ z. children z (seen-both (inner l n) (inner l k) (suc i) (suc j) c c′ (q .1)
         (subst (λ (m : ℕ). Closed m c) (inner-plus (length root) k l) (h .1))
         (subst (λ (m : ℕ). Closed m c′) (ap (λ (m : Nameless). inner m (k + length root)) (sym z) ∙ inner-plus (length root) k l) (h′ .1))
         (look-below p i l c s lp) (look-below e j l′ c′ s′ le) (omega arith))))
-        (later (seen-both n k (suc i + size c) (suc j + size c′) s s′ (q .2) (h .2) (h′ .2) (look-later p i l c s lp) (look-later e j l′ c′ s′ le) (omega arith)))
+        (later (seen-both n k (suc i + size c) (suc j + size c′) s s′ (q .2) (h .2) (h′ .2)
+        (look-later p i l c s lp) (look-later e j l′ c′ s′ le) (omega arith)))
       where
         below : Option (List ℕ)
         below = seenWalk seenSlots (suc i) (suc j) (viewFrom root (inner l k) c) (viewFrom root (inner l′ k) c′)
@@ -197,7 +200,8 @@ module _ (p e : ℕ → Option Term) where
             → Both (RecordedBy p e) (seenWalk seenSlots (suc i) (suc j) (viewFrom root (inner l k) c) (viewFrom root (inner l k) c′)) (walk (inner l n) (suc j) c c′)
             → Both (RecordedBy p e) below (walk (inner l n) (suc j) c c′)
         children z r =
-            subst (λ (m : Nameless). Both (RecordedBy p e) (seenWalk seenSlots (suc i) (suc j) (viewFrom root (inner l k) c) (viewFrom root (inner m k) c′)) (walk (inner l n) (suc j) c c′)) z r
+            subst (λ (m : Nameless). Both (RecordedBy p e)
+            (seenWalk seenSlots (suc i) (suc j) (viewFrom root (inner l k) c) (viewFrom root (inner m k) c′)) (walk (inner l n) (suc j) c c′)) z r
 
         later : Both (RecordedBy p e) (seenWalk seenSlots (suc i + size c) (suc j + size c′) (viewFrom root k s) (viewFrom root k s′)) (walk n (suc j + size c′) s s′)
             → Both (RecordedBy p e)
