@@ -46,7 +46,8 @@ module _ (hole : ℕ → Bool) (ms : Marks) (told : (i : ℕ) → hole i ≡ isS
     flat i xs = closedFrom hole d 0 i xs
 
     -- One node, with the tokens below it and after it
-    module _ (i k : ℕ) (sc : List ℕ) (l : Named) (c : Forest Named) (xs : List ℕ) (room : length sc < 256) (small : suc (size c) < 65536) where
+    module _ (i k : ℕ) (sc : List ℕ) (l : Named) (c : Forest Named) (xs : List ℕ) (room : length sc < 256)
+        (small : suc (size c) < 65536) where
       node-hole : hole i ≡ true → flat i (tokenAt sc l c ∷ (tokens (enter l sc) c ++ xs)) ≡ flat (suc i + size c) xs
       node-hole e =
           let n : suc (size c) - 1 ≡ size c = omega arith in
@@ -63,11 +64,13 @@ module _ (hole : ℕ → Bool) (ms : Marks) (told : (i : ℕ) → hole i ≡ isS
       closed-node : (ctx : Context) → length sc ≡ k + d → NodeFits ctx l c → (b t : Terms) (after : Bool)
           → flat (suc i) (tokens (enter l sc) c ++ xs) ≡ isClosed (inner (namelessLabel sc l) k) b && flat (suc i + size c) xs
           → flat (suc i + size c) xs ≡ isClosed k t && after
-          → flat i (tokenAt sc l c ∷ (tokens (enter l sc) c ++ xs)) ≡ isClosed k (punchNode (mark (drop i ms)) (namelessLabel sc l) b t) && after
+          → flat i (tokenAt sc l c ∷ (tokens (enter l sc) c ++ xs))
+          ≡ isClosed k (punchNode (mark (drop i ms)) (namelessLabel sc l) b t) && after
       unfolding l′
       closed-node ctx deep fits b t after below later = go (mark (drop i ms)) refl
         where
-          go : (m : Mark) → mark (drop i ms) ≡ m → flat i (tokenAt sc l c ∷ (tokens (enter l sc) c ++ xs)) ≡ isClosed k (punchNode m l′ b t) && after
+          go : (m : Mark) → mark (drop i ms) ≡ m
+              → flat i (tokenAt sc l c ∷ (tokens (enter l sc) c ++ xs)) ≡ isClosed k (punchNode m l′ b t) && after
           go (some h) e = node-hole (told i ∙ ap isSome e) ∙ later
           go none e =
               closed-own hole d i (tokenAt sc l c) (tokens (enter l sc) c ++ xs) (told i ∙ ap isSome e)
@@ -76,7 +79,8 @@ module _ (hole : ℕ → Bool) (ms : Marks) (told : (i : ℕ) → hole i ≡ isS
               (below ∙ ap (λ (y : Bool). isClosed (inner l′ k) b && y) later)
               ∙ four (isClosedLabel k l′) (isClosed (inner l′ k) b) (isClosed k t) after
 
-    closed-trees : (i k levels : ℕ) (ctx : Context) (sc : List ℕ) (u : Forest Named) (xs : List ℕ) → length sc ≡ k + d → Readable levels ctx u
+    closed-trees : (i k levels : ℕ) (ctx : Context) (sc : List ℕ) (u : Forest Named) (xs : List ℕ) → length sc ≡ k + d
+        → Readable levels ctx u
         → Room levels sc u → flat i (tokens sc u ++ xs) ≡ isClosed k (punch (drop i ms) (nameless sc u)) && flat (i + size u) xs
     unfolding tokens
     closed-trees i k levels ctx sc nil xs deep r m = let e : i ≡ i + 0 = omega arith in ap (λ (j : ℕ). flat j xs) e
@@ -86,18 +90,22 @@ module _ (hole : ℕ → Bool) (ms : Marks) (told : (i : ℕ) → hole i ≡ isS
         let same : size (nameless (enter l sc) c) ≡ size c = relabel-size enter namelessLabel (enter l sc) c in
         ap (λ (ys : List ℕ). flat i (tokenAt sc l c ∷ ys)) (append-assoc (tokens (enter l sc) c) (tokens sc s) xs)
         ∙ closed-node i k sc l c (tokens sc s ++ xs) (room-depth levels sc l c s m) (room-size levels sc l c s m) ctx deep (r .0)
-        (punch (drop (suc i) ms) (nameless (enter l sc) c)) (punch (drop (suc i + size c) ms) (nameless sc s)) (flat (i + suc (size c + size s)) xs)
-        (closed-trees (suc i) (inner (namelessLabel sc l) k) levels (contextBelow l ctx) (enter l sc) c (tokens sc s ++ xs) (enter-deep k d sc l deep) (r .1)
+        (punch (drop (suc i) ms) (nameless (enter l sc) c)) (punch (drop (suc i + size c) ms) (nameless sc s))
+        (flat (i + suc (size c + size s)) xs)
+        (closed-trees (suc i) (inner (namelessLabel sc l) k) levels (contextBelow l ctx) (enter l sc) c (tokens sc s ++ xs)
+        (enter-deep k d sc l deep) (r .1)
         (room-below levels sc l c s m))
         (closed-trees (suc i + size c) k (suc levels) ctx sc s xs deep (r .2) (room-later levels sc l c s m)
         ∙ ap (λ (j : ℕ). isClosed k (punch (drop (suc i + size c) ms) (nameless sc s)) && flat j xs) n)
         ∙ ap (λ (b : Terms). isClosed k b && flat (i + suc (size c + size s)) xs)
-        (ap (λ (j : ℕ). punchNode (mark (drop i ms)) (namelessLabel sc l) (punch (drop (suc i) ms) (nameless (enter l sc) c)) (punch (drop (suc i + j) ms) (nameless sc s))) (sym same)
+        (ap (λ (j : ℕ). punchNode (mark (drop i ms)) (namelessLabel sc l) (punch (drop (suc i) ms) (nameless (enter l sc) c))
+        (punch (drop (suc i + j) ms) (nameless sc s))) (sym same)
         ∙ sym (punch-left ms i (namelessLabel sc l) (nameless (enter l sc) c) (nameless sc s)))
 
 -- A face that stands in a table
 closed-stands : (levels : ℕ) (ctx : Context) (es : List ℕ) (f : ℕ) (sc : List ℕ) (t : NamedTerm) → Held levels ctx sc t → Stands es f sc t
-    → (ms : Marks) → length ms ≤ maxFaceNodes → bodyClosedAt es f (maskOf maxFaceNodes ms) ≡ isClosed 0 (one (punchTerm ms (namelessTerm sc t)))
+    → (ms : Marks) → length ms ≤ maxFaceNodes
+    → bodyClosedAt es f (maskOf maxFaceNodes ms) ≡ isClosed 0 (one (punchTerm ms (namelessTerm sc t)))
 unfolding bodyClosedAt closedFrom
 closed-stands levels ctx es f sc t h s ms few =
     let hole : ℕ → Bool = marked (maskOf maxFaceNodes ms) in
@@ -110,7 +118,8 @@ closed-stands levels ctx es f sc t h s ms few =
 
 -- THE BODY IS CLOSED: "Values and bodies have no variable bound outside themselves"
 pub body-closed-means : (p : Problem) → WithinLimits p → (f : ℕ) (face : Term) → nodeAt f (expressions p) ≡ some face
-    → (ms : Marks) → length ms ≤ maxFaceNodes → (bodyClosedAt (expressionTokens p) f (maskOf maxFaceNodes ms) ≡ true) ↔ ClosedTerm (punchTerm ms face)
+    → (ms : Marks) → length ms ≤ maxFaceNodes
+    → (bodyClosedAt (expressionTokens p) f (maskOf maxFaceNodes ms) ≡ true) ↔ ClosedTerm (punchTerm ms face)
 body-closed-means p w f face there ms few =
     let n : AtNode (expressionTokens p) f face = expression-node p w f face there in
     let e : bodyClosedAt (expressionTokens p) f (maskOf maxFaceNodes ms) ≡ isClosed 0 (one (punchTerm ms face)) =

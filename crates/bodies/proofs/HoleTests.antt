@@ -48,7 +48,8 @@ module _ (es : List ℕ) (d : ℕ) where
     unfolding tokens
     split-below =
         let e : n + 1 ≡ suc n = omega arith in
-        ap (λ (m : ℕ). drop m es) (sym e) ∙ sym (drop-drop 1 n es) ∙ ap (drop 1) split ∙ append-assoc (tokens (enter l sc) c) (tokens sc s) rest
+        ap (λ (m : ℕ). drop m es) (sym e) ∙ sym (drop-drop 1 n es) ∙ ap (drop 1) split
+        ∙ append-assoc (tokens (enter l sc) c) (tokens sc s) rest
 
     split-later : drop (suc n + size c) es ≡ tokens sc s ++ rest
     split-later =
@@ -61,8 +62,10 @@ module _ (es : List ℕ) (d : ℕ) where
     unfolding tokens
     split-here = split ∙ simp (append-assoc, append-nil)
 
-  pub spots : (k n levels : ℕ) (ctx : Context) (b : Terms) (sc : List ℕ) (v : Forest Named) (rest : List ℕ) → drop n es ≡ tokens sc v ++ rest
-      → length sc ≡ k + d → Readable levels ctx v → Room levels sc v → (hs : List Face) → walk k n b (nameless sc v) ≡ some hs → All (Spotted es d) hs
+  pub spots : (k n levels : ℕ) (ctx : Context) (b : Terms) (sc : List ℕ) (v : Forest Named) (rest : List ℕ)
+      → drop n es ≡ tokens sc v ++ rest
+      → length sc ≡ k + d → Readable levels ctx v → Room levels sc v → (hs : List Face) → walk k n b (nameless sc v) ≡ some hs
+      → All (Spotted es d) hs
   spots k n levels ctx nil sc nil rest split deep r m hs w = let e : [] ≡ hs = cc in subst (All (Spotted es d)) e tt
   spots k n levels ctx nil sc (cons l′ c′ s′) rest split deep r m hs w = never (cc)
   spots k n levels ctx (cons l c s) sc nil rest split deep r m hs w = never (cc)
@@ -73,10 +76,13 @@ module _ (es : List ℕ) (d : ℕ) where
       let z : size (nameless (enter l′ sc) c′) ≡ size c′ = relabel-size enter namelessLabel (enter l′ sc) c′ in
       subst (All (Spotted es d)) (sym (y .whole))
       (all-append (Spotted es d) (y .inside) (y .later)
-      (spots (inner (own o) k) (suc n) levels (contextBelow l′ ctx) c (enter l′ sc) c′ (tokens sc s′ ++ rest) (split-below n sc l′ c′ s′ rest split)
-      (enter-deep k d sc l′ deep ∙ ap (λ (a : Nameless). inner a k + d) (sym e)) (r .1) (room-below levels sc l′ c′ s′ m) (y .inside) (y .areInside))
+      (spots (inner (own o) k) (suc n) levels (contextBelow l′ ctx) c (enter l′ sc) c′ (tokens sc s′ ++ rest)
+      (split-below n sc l′ c′ s′ rest split)
+      (enter-deep k d sc l′ deep ∙ ap (λ (a : Nameless). inner a k + d) (sym e)) (r .1) (room-below levels sc l′ c′ s′ m) (y .inside)
+      (y .areInside))
       (spots k (suc n + size (nameless (enter l′ sc) c′)) (suc levels) ctx s sc s′ rest
-      (ap (λ (a : ℕ). drop (suc n + a) es) z ∙ split-later n sc l′ c′ s′ rest split) deep (r .2) (room-later levels sc l′ c′ s′ m) (y .later) (y .areLater)))
+      (ap (λ (a : ℕ). drop (suc n + a) es) z ∙ split-later n sc l′ c′ s′ rest split) deep (r .2) (room-later levels sc l′ c′ s′ m)
+      (y .later) (y .areLater)))
   spots k n (suc levels) ctx (cons (slot z) c s) sc (cons l′ c′ s′) rest split deep r m hs w =
       let y = walked-slot k n z c s (namelessTerm sc (l′, c′)) (nameless sc s′) hs w in
       let q : size (nameless (enter l′ sc) c′) ≡ size c′ = relabel-size enter namelessLabel (enter l′ sc) c′ in
@@ -94,7 +100,8 @@ module _ (es : List ℕ) (d : ℕ) where
           deep = deep;
         },
         spots k (suc n + size (nameless (enter l′ sc) c′)) (suc levels) ctx s sc s′ rest
-            (ap (λ (a : ℕ). drop (suc n + a) es) q ∙ split-later n sc l′ c′ s′ rest split) deep (r .2) (room-later levels sc l′ c′ s′ m) (y .later) (y .areLater),
+            (ap (λ (a : ℕ). drop (suc n + a) es) q ∙ split-later n sc l′ c′ s′ rest split) deep (r .2) (room-later levels sc l′ c′ s′ m)
+            (y .later) (y .areLater),
       )
 
 -- Two such faces, with any binders of the body above them: only how many there are counts
@@ -138,10 +145,12 @@ module _ (es : List ℕ) (d : ℕ) where
       (λ z. seen-none h .0 (sym e ∙ q .0 z), λ z. q .1 (e ∙ seen-none h .1 z))
 
   closed-there : (i : ℕ) (t : Term) (n : AtNode es i t) → Closed (length (n .scope)) (one t)
-  closed-there i t n = subst (λ (u : Term). Closed (length (n .scope)) (one u)) (sym (n .term)) (nameless-closed (n .scope) (one (n .named)))
+  closed-there i t n =
+      subst (λ (u : Term). Closed (length (n .scope)) (one u)) (sym (n .term)) (nameless-closed (n .scope) (one (n .named)))
 
   -- The test of equality, where the second uses no binder in between
-  same-seen : (l h : Face) → Spotted es d l → Spotted es d h → usesFace (seen h) ≡ false → (sameAt es (l .node) (h .node) ≡ true) ↔ (seen h ≡ seen l)
+  same-seen : (l h : Face) → Spotted es d l → Spotted es d h → usesFace (seen h) ≡ false
+      → (sameAt es (l .node) (h .node) ≡ true) ↔ (seen h ≡ seen l)
   same-seen l h s r free =
       let n : AtNode es (l .node) (l .term) = s .there in
       let m : AtNode es (h .node) (h .term) = r .there in
@@ -151,7 +160,8 @@ module _ (es : List ℕ) (d : ℕ) where
       same-means (n .levels) (m .levels) (n .context) (m .context) es (l .node) (h .node) (n .scope) (m .scope) (n .named) (m .named)
       (n .held) (m .held) (n .stands) (m .stands) in
       let b =
-      equal-levels d (m .scope) (binders h) (n .scope) (binders l) (h .term) (l .term) (omega (arith, r .deep, count h)) (omega (arith, s .deep, count l))
+      equal-levels d (m .scope) (binders h) (n .scope) (binders l) (h .term) (l .term) (omega (arith, r .deep, count h))
+      (omega (arith, s .deep, count l))
       (closed-there (h .node) (h .term) m) (closed-there (l .node) (l .term) n) free in
       (λ e. b .1 (y ∙ sym (a .0 e) ∙ sym x), λ e. a .1 (sym x ∙ sym (b .0 e) ∙ y))
 

@@ -11,7 +11,8 @@ use mathlib.Core.Option.{Option, none, some}
 use lib.ListN.{drop}
 use lib.Dec.{eqb, ltb}
 use Rattle.meaning.specs.Basics.{choose, andThen, isSome, join, guard}
-use Rattle.meaning.specs.Term.{nil, cons, size, symbol, variable, application, binder, own, slot, hole, Variable, free, bound, Nameless, Terms, Term, inner, ownLabel, IsExpression}
+use Rattle.meaning.specs.Term.{nil, cons, size, symbol, variable, application, binder, own, slot}
+use Rattle.meaning.specs.Term.{hole, Variable, free, bound, Nameless, Terms, Term, inner, ownLabel, IsExpression}
 use Rattle.meaning.specs.Shift.{withVariable, closedVariable, closedLabel, Closed}
 use Rattle.meaning.specs.Equal.{Seen, seenFree, inside, outside, see}
 use Rattle.meaning.specs.Face.{Face, agrees, meet, walk}
@@ -50,7 +51,8 @@ module _ (root : List ℕ) (k : ℕ) where
   clear-unseen (free x) e = refl
   clear-unseen (bound i) e = go (ltb i k) e
     where
-      go : (b : Bool) → inClear (choose b (inside i) (outside (levelFrom root (i - k)))) ≡ true → unseen (choose b (inside i) (outside (levelFrom root (i - k)))) ≡ bound i
+      go : (b : Bool) → inClear (choose b (inside i) (outside (levelFrom root (i - k)))) ≡ true
+          → unseen (choose b (inside i) (outside (levelFrom root (i - k)))) ≡ bound i
       go true q = refl
       go false q = absurd (true≢false (sym q))
 
@@ -109,7 +111,8 @@ unfolding matches
 matches-self (own o) h = T-true (agrees-self o)
 matches-self (slot z) h = absurd h
 
-meet-matches : (k n : ℕ) (l : Nameless) (c : Terms) (t : Term) (below : Option (List Face)) → ownLabel l → meet k n l c t below ≡ guard (matches l (t .0)) below
+meet-matches : (k n : ℕ) (l : Nameless) (c : Terms) (t : Term) (below : Option (List Face)) → ownLabel l
+    → meet k n l c t below ≡ guard (matches l (t .0)) below
 unfolding matches
 meet-matches k n (own o) c t below h = refl
 meet-matches k n (slot z) c t below h = absurd h
@@ -149,7 +152,8 @@ met-join none b = refl
 met-join (some x) none = refl
 met-join (some x) (some y) = ap some (map-append (λ (z : Face). z .node) x y)
 
-guard-both : (b : Bool) (a : Option (List ℕ)) (c : Option (List Face)) → (b ≡ true → nodesOf a ≡ nodesMet c) → nodesOf (guard b a) ≡ nodesMet (guard b c)
+guard-both : (b : Bool) (a : Option (List ℕ)) (c : Option (List Face)) → (b ≡ true → nodesOf a ≡ nodesMet c)
+    → nodesOf (guard b a) ≡ nodesMet (guard b c)
 guard-both true a c h = h refl
 guard-both false a c h = refl
 
@@ -172,12 +176,14 @@ module _ (stops : ℕ → Bool) (ms : Marks) (told : (i : ℕ) → stops i ≡ i
   stop i l = stops i
 
   -- One node of each; w and w′ are the walks of the views of the children, and of what comes after
-  module _ (i j k k′ : ℕ) (l l′ : Nameless) (b t c′ s′ : Terms) (w w′ : Option (List ℕ)) (same : k ≡ k′) (mine : ownLabel l) (theirs : ownLabel l′)
+  module _ (i j k k′ : ℕ) (l l′ : Nameless) (b t c′ s′ : Terms) (w w′ : Option (List ℕ)) (same : k ≡ k′) (mine : ownLabel l)
+      (theirs : ownLabel l′)
       (small : i < 65536) (later : nodesOf w′ ≡ nodesMet (walk k (suc j + size c′) t s′)) where
     here : Option (List ℕ)
     here = seenMeet stop i j (seenLabel root k l) (seenLabel root′ k′ l′) w
 
-    node-marked : (h : ℕ) → mark (drop i ms) ≡ some h → nodesOf (join here w′) ≡ nodesMet (walk k j (cons (slot (hole h)) nil t) (cons l′ c′ s′))
+    node-marked : (h : ℕ) → mark (drop i ms) ≡ some h
+        → nodesOf (join here w′) ≡ nodesMet (walk k j (cons (slot (hole h)) nil t) (cons l′ c′ s′))
     unfolding here
     node-marked h e =
         let n : (i + 65536 * j) / 65536 ≡ j = omega arith in
@@ -198,7 +204,9 @@ module _ (stops : ℕ → Bool) (ms : Marks) (told : (i : ℕ) → stops i ≡ i
         ∙ sym (met-join (meet k j l b (l′, c′) (walk (inner l k) (suc j) b c′)) (walk k (suc j + size c′) t s′))
       where
         agree : eqb (code (seenLabel root k l)) (code (seenLabel root′ k′ l′)) ≡ matches l l′
-        agree = ap (λ (n : ℕ). eqb (code (seenLabel root k l)) (code (seenLabel root′ n l′))) (sym same) ∙ codes-match root root′ k l l′ closed mine theirs
+        agree =
+            ap (λ (n : ℕ). eqb (code (seenLabel root k l)) (code (seenLabel root′ n l′))) (sym same)
+            ∙ codes-match root root′ k l l′ closed mine theirs
 
     node : Closed k (punchNode (mark (drop i ms)) l b t)
         → (mark (drop i ms) ≡ none → matches l l′ ≡ true → nodesOf w ≡ nodesMet (walk (inner l k) (suc j) b c′))
@@ -212,7 +220,8 @@ module _ (stops : ℕ → Bool) (ms : Marks) (told : (i : ℕ) → stops i ≡ i
         go (some x) e h f = node-marked x e
 
   -- THE THEOREM
-  pub marked-walk : (i j k k′ : ℕ) (u v : Terms) → k ≡ k′ → IsExpression u → IsExpression v → Closed k (punch (drop i ms) u) → i + size u ≤ 65536
+  pub marked-walk : (i j k k′ : ℕ) (u v : Terms) → k ≡ k′ → IsExpression u → IsExpression v → Closed k (punch (drop i ms) u)
+      → i + size u ≤ 65536
       → nodesOf (seenWalk stop i j (viewFrom root k u) (viewFrom root′ k′ v)) ≡ nodesMet (walk k j (punch (drop i ms) u) v)
   unfolding here
   marked-walk i j k k′ nil nil same x y h small = refl
@@ -228,11 +237,14 @@ module _ (stops : ℕ → Bool) (ms : Marks) (told : (i : ℕ) → stops i ≡ i
       let n′ : size (viewFrom root′ (inner l′ k′) c′) ≡ size c′ = relabel-size inner (seenLabel root′) (inner l′ k′) c′ in
       node i j k k′ l l′ b t c′ s′
       (seenWalk stop (suc i) (suc j) (viewFrom root (inner l k) c) (viewFrom root′ (inner l′ k′) c′))
-      (seenWalk stop (suc i + size (viewFrom root (inner l k) c)) (suc j + size (viewFrom root′ (inner l′ k′) c′)) (viewFrom root k s) (viewFrom root′ k′ s′))
+      (seenWalk stop (suc i + size (viewFrom root (inner l k) c)) (suc j + size (viewFrom root′ (inner l′ k′) c′)) (viewFrom root k s)
+      (viewFrom root′ k′ s′))
       same (x .0) (y .0) (omega arith)
       (ap nodesOf (ap₂ (λ (a a′ : ℕ). seenWalk stop (suc i + a) (suc j + a′) (viewFrom root k s) (viewFrom root′ k′ s′)) n n′)
-      ∙ marked-walk (suc i + size c) (suc j + size c′) k k′ s s′ same (x .2) (y .2) (closed-later k j l b t (mark (drop i ms)) closed) (omega arith))
+      ∙ marked-walk (suc i + size c) (suc j + size c′) k k′ s s′ same (x .2) (y .2) (closed-later k j l b t (mark (drop i ms)) closed)
+      (omega arith))
       closed
-      (λ e q. marked-walk (suc i) (suc j) (inner l k) (inner l′ k′) c c′ (ap₂ (λ (m : Nameless) (z : ℕ). inner m z) (matches-eq l l′ q) same) (x .1) (y .1)
+      (λ e q. marked-walk (suc i) (suc j) (inner l k) (inner l′ k′) c c′
+      (ap₂ (λ (m : Nameless) (z : ℕ). inner m z) (matches-eq l l′ q) same) (x .1) (y .1)
       (closed-below k j l b t (mark (drop i ms)) e closed .1) (omega arith))
       ∙ ap (λ (z : Terms). nodesMet (walk k j z (cons l′ c′ s′))) (sym (punch-left ms i l c s))

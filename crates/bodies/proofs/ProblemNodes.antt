@@ -31,6 +31,7 @@ some-node (suc i) (cons l c s) h =
 pub expressions-nested : (p : Problem) → WithinLimits p → Nested (expressionTokens p)
 unfolding expressionTokens
 expressions-nested p w i h =
-    let (t, e) = some-node i (expressions p) (omega (arith, tokens-length [] (namedExpressions p), relabel-size enter namelessLabel [] (namedExpressions p))) in
+    let (t, e) = some-node i (expressions p)
+    (omega (arith, tokens-length [] (namedExpressions p), relabel-size enter namelessLabel [] (namedExpressions p))) in
     let n = expression-node p w i t e in
     stands-inside (n .levels) (n .context) (expressionTokens p) i (n .scope) (n .named) (n .held) (n .stands)

@@ -49,7 +49,8 @@ lowest-min : (mask i : ℕ) → marked mask i ≡ true → lowestMarked mask ≤
 unfolding marked lowestMarked
 lowest-min mask i h = first-min (marks width mask) i h
 
-faced-join : (test : ℕ → Bool) (i j : ℕ) (o : Option (List ℕ)) → i < 65536 → allFaced test (join (some (faceCode i j ∷ [])) o) ≡ test j && allFaced test o
+faced-join : (test : ℕ → Bool) (i j : ℕ) (o : Option (List ℕ)) → i < 65536
+    → allFaced test (join (some (faceCode i j ∷ [])) o) ≡ test j && allFaced test o
 faced-join test i j none h = sym (and-false (test j))
 faced-join test i j (some xs) h = let e : (i + 65536 * j) / 65536 ≡ j = omega arith in ap (λ (k : ℕ). test k && allFaced test (some xs)) e
 
@@ -65,7 +66,8 @@ module _ (stop : Stop) (d e : ℕ) (ps es : List ℕ) where
     module _ (hi : i < length ps) where
       from-out : length es ≤ j → walkFrom i j ≡ none
       from-out h =
-          ap₂ (lockstep stop d e 0 i j) (drop-cons ps i 0 hi) (drop-of-length-le es h) ∙ lockstep-out stop d e i j (at ps i) (drop (suc i) ps)
+          ap₂ (lockstep stop d e 0 i j) (drop-cons ps i 0 hi) (drop-of-length-le es h)
+          ∙ lockstep-out stop d e i j (at ps i) (drop (suc i) ps)
 
       module _ (hj : j < length es) where
         opened : walkFrom i j ≡ lockstep stop d e 0 i j (at ps i ∷ drop (suc i) ps) (at es j ∷ drop (suc j) es)
@@ -75,7 +77,8 @@ module _ (stop : Stop) (d e : ℕ) (ps es : List ℕ) where
         from-differs f n = opened ∙ lockstep-differs stop d e i j (at ps i) (at es j) (drop (suc i) ps) (drop (suc j) es) f n
 
         from-same : stop i (at ps i) ≡ false → eqb (keyOf d (at ps i)) (keyOf e (at es j)) ≡ true → walkFrom i j ≡ walkFrom (i + 1) (j + 1)
-        from-same f n = opened ∙ lockstep-same stop d e i j (at ps i) (at es j) (drop (suc i) ps) (drop (suc j) es) f n ∙ rw (add-one i, add-one j)
+        from-same f n =
+            opened ∙ lockstep-same stop d e i j (at ps i) (at es j) (drop (suc i) ps) (drop (suc j) es) f n ∙ rw (add-one i, add-one j)
 
         from-face : stop i (at ps i) ≡ true → 1 ≤ sizeIn (at ps i)
             → walkFrom i j ≡ join (some (faceCode i j ∷ [])) (walkFrom (i + sizeIn (at ps i)) (j + sizeIn (at es j)))
@@ -172,7 +175,9 @@ module _ {es : List ℕ} {face faced mask n d e low i j : ℕ} (w : Walking es f
             inside = w .inside;
             isSize = w .isSize;
             isLow = w .isLow;
-            whole = sym (faced-join (holeFits es e low) i j (walkLeft (i + x) (j + y)) small ∙ ap (λ (b : Bool). b && left es face mask d e low (i + x) (j + y)) h)
+            whole =
+                sym (faced-join (holeFits es e low) i j (walkLeft (i + x) (j + y)) small
+                ∙ ap (λ (b : Bool). b && left es face mask d e low (i + x) (j + y)) h)
                 ∙ answered (join (some (faceCode i j ∷ [])) (walkLeft (i + x) (j + y))) passes;
             beside = λ l. absurd (let a = lowest-min mask i m in omega (arith, node-counted));
             passed = λ l. lowest-inside;

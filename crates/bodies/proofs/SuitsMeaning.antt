@@ -63,12 +63,14 @@ module _ (test : ℕ → Bool) where
   faced-nodes none = refl
   faced-nodes (some xs) = sym (every-map expressionNode xs)
 
-  met-in : (o : Option (List Face)) → allNodes (nodesMet o) ≡ true → (hs : List Face) × (o ≡ some hs) × ((h : Face) → h ∈ hs → test (h .node) ≡ true)
+  met-in : (o : Option (List Face)) → allNodes (nodesMet o) ≡ true
+      → (hs : List Face) × (o ≡ some hs) × ((h : Face) → h ∈ hs → test (h .node) ≡ true)
   met-in none e = absurd (false≢true e)
   met-in (some hs) e = (
     hs,
     refl,
-    λ h q. all-mem (λ (x : Face). test (x .node) ≡ true) h hs (every-all (λ (x : Face). test (x .node)) hs (true-T (sym (every-map (λ (x : Face). x .node) hs) ∙ e))) q,
+    λ h q. all-mem (λ (x : Face). test (x .node) ≡ true) h hs
+        (every-all (λ (x : Face). test (x .node)) hs (true-T (sym (every-map (λ (x : Face). x .node) hs) ∙ e))) q,
   )
 
   met-out : (hs : List Face) → ((h : Face) → h ∈ hs → test (h .node) ≡ true) → allNodes (nodesMet (some hs)) ≡ true
@@ -105,7 +107,9 @@ module _ (p : Problem) (w : WithinLimits p) (f n : ℕ) (face e : Term) (atF : n
   isFaced = stands-expression (node-stands n (expressions p) e atN) whole
 
   isBody : IsBody 1 (one body)
-  isBody = subst (IsBody 1) (sym (punch-one ms face)) (punch-body 1 ms (one face) isFace (λ i q. let (k, z) = mem-at ms (some i) q in choice .places k i z))
+  isBody =
+      subst (IsBody 1) (sym (punch-one ms face))
+      (punch-body 1 ms (one face) isFace (λ i q. let (k, z) = mem-at ms (some i) q in choice .places k i z))
 
   fits : length ms ≤ maxFaceNodes
   fits = omega (arith, choice .long, few)
@@ -128,10 +132,12 @@ module _ (p : Problem) (w : WithinLimits p) (f n : ℕ) (face e : Term) (atF : n
       (stands-depth (F .levels) (F .context) es f (F .scope) (F .named) (F .held) (F .stands)) depth
       ∙ ap₂ (lockstep (atMarks mask) (length (F .scope)) (length (E .scope)) 0 0 n)
       (stands-part (F .levels) (F .context) es f (F .scope) (F .named) (F .held) (F .stands)) (E .stands .split)
-      ∙ flat-trees (atMarks mask) (λ i l. marked mask i) (F .scope) (E .scope) (λ i k sc l c r s. refl) 0 n (F .levels) (E .levels) (F .context) (E .context)
+      ∙ flat-trees (atMarks mask) (λ i l. marked mask i) (F .scope) (E .scope) (λ i k sc l c r s. refl) 0 n (F .levels) (E .levels)
+      (F .context) (E .context)
       (one (F .named)) (one (E .named)) (E .stands .after) (F .held .readable) (E .held .readable)
       (record { depths = F .held .depths; sizes = F .held .sizes }) (record { depths = E .held .depths; sizes = E .held .sizes }) refl
-      ∙ ap₂ (λ (x y : Term). seenWalk (λ i l. marked mask i) 0 n (viewFrom (F .scope) 0 (one x)) (viewFrom (E .scope) 0 (one y))) (sym (F .term)) (sym (E .term))
+      ∙ ap₂ (λ (x y : Term). seenWalk (λ i l. marked mask i) 0 n (viewFrom (F .scope) 0 (one x)) (viewFrom (E .scope) 0 (one y)))
+      (sym (F .term)) (sym (E .term))
 
   -- ... and on the terms: the nodes are those that the walk of the body meets
   walked : nodesOf tokensWalk ≡ nodesMet (walk 0 n (one body) (one e))

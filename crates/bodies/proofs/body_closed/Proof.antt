@@ -56,7 +56,8 @@ loop-less c =
 loop-again : tie.Need-loop-again Inv-loop μ-loop
 loop-again c =
     let l = c .before .before .before .before .before .loop in
-    closed-passes (l .inv) (c .before .before .before .before .loop-test .taken) (sym (c .before .before .marked .ensures) ∙ c .before .if1 .taken)
+    closed-passes (l .inv) (c .before .before .before .before .loop-test .taken)
+    (sym (c .before .before .marked .ensures) ∙ c .before .if1 .taken)
     (c .size2 .result) (c .size2 .ensures)
 
 reaches-requires : tie.Need-reaches-requires Inv-loop μ-loop
@@ -65,7 +66,8 @@ reaches-requires c κs = search needs
 returns : tie.Need-returns Inv-loop μ-loop
 returns c =
     let l = c .before .before .before .before .before .before .loop in
-    closed-stops (l .inv) (c .before .before .before .before .before .loop-test .taken) (sym (c .before .before .before .marked .ensures) ∙ c .before .before .if1 .left)
+    closed-stops (l .inv) (c .before .before .before .before .before .loop-test .taken)
+    (sym (c .before .before .before .marked .ensures) ∙ c .before .before .if1 .left)
     (sym (c .before .reaches .ensures) ∙ c .if2 .taken)
 
 add-i-2 : tie.Need-add-i-2 Inv-loop μ-loop
@@ -77,7 +79,8 @@ loop-less-2 c = search needs
 loop-again-2 : tie.Need-loop-again-2 Inv-loop μ-loop
 loop-again-2 c =
     let l = c .before .before .before .before .before .before .loop in
-    closed-goes-on (l .inv) (c .before .before .before .before .before .loop-test .taken) (sym (c .before .before .before .marked .ensures) ∙ c .before .before .if1 .left)
+    closed-goes-on (l .inv) (c .before .before .before .before .before .loop-test .taken)
+    (sym (c .before .before .before .marked .ensures) ∙ c .before .before .if1 .left)
     (sym (c .before .reaches .ensures) ∙ c .if2 .left)
 
 returns-2 : tie.Need-returns-2 Inv-loop μ-loop

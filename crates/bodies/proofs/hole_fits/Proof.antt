@@ -19,7 +19,8 @@ same-requires c κs = search needs
 returns-2 : tie.Need-returns-2
 returns-2 c =
     let s = c .before .before .before .before .args in
-    c .same .ensures ∙ hole-same (s .es .now) (s .e) (s .lowest) (s .node) (sym (c .before .before .uses-between .ensures) ∙ c .before .if1 .left)
+    c .same .ensures ∙ hole-same (s .es .now) (s .e) (s .lowest) (s .node)
+    (sym (c .before .before .uses-between .ensures) ∙ c .before .if1 .left)
 
 pub hole-fits-spec : {M : Type 1} → statement M
 hole-fits-spec = tie.close (tie.spec uses-between-requires returns same-requires returns-2)

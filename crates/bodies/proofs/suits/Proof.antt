@@ -47,7 +47,8 @@ add-low c =
 loop-holds : tie.Need-loop-holds Inv-loop μ-loop
 loop-holds c =
     let s = c .before .before .before .before .before .before .before in
-    suits-begins (s .args .faced) (s .args .mask) (s .pre .0) (s .pre .1 .0 (s .args .face) (s .pre .1 .1 .0)) (c .before .before .before .before .size .ensures)
+    suits-begins (s .args .faced) (s .args .mask) (s .pre .0) (s .pre .1 .0 (s .args .face) (s .pre .1 .1 .0))
+    (c .before .before .before .before .size .ensures)
     (c .before .before .before .depth .ensures) (c .before .depth2 .ensures) (c .lowest .ensures)
 
 returns : tie.Need-returns Inv-loop μ-loop
@@ -78,12 +79,18 @@ hole-fits-requires c κs =
     let s = c .before .before .before .before .before .before .before .before .before .before .before .before .before .before in
     let l = c .before .before .before .before .before .before .loop in
     let low =
-    lowest-inside (l .inv) (c .before .before .before .before .before .loop-test .taken) (omega arith) (sym (c .before .marked .ensures) ∙ c .if2 .taken) in
-    (s .pre .1 .0 (s .args .faced + c .before .before .before .before .before .before .before .lowest .result) low, s .pre .1 .0 (l .j) (omega arith))
+    lowest-inside (l .inv) (c .before .before .before .before .before .loop-test .taken) (omega arith)
+    (sym (c .before .marked .ensures) ∙ c .if2 .taken) in (
+      s .pre .1 .0 (s .args .faced + c .before .before .before .before .before .before .before .lowest .result) low,
+      s .pre .1 .0 (l .j)
+          (omega arith),
+    )
 
 returns-2 : tie.Need-returns-2 Inv-loop μ-loop
 returns-2 c =
-    hole-stops (c .before .before .before .before .before .before .before .before .loop .inv) (c .before .before .before .before .before .before .before .loop-test .taken) (omega arith) (sym (c .before .before .before .marked .ensures) ∙ c .before .before .if2 .taken)
+    hole-stops (c .before .before .before .before .before .before .before .before .loop .inv)
+    (c .before .before .before .before .before .before .before .loop-test .taken) (omega arith)
+    (sym (c .before .before .before .marked .ensures) ∙ c .before .before .if2 .taken)
     (sym (c .before .hole-fits .ensures) ∙ not-true _ (c .if3 .taken))
 
 size-requires-2 : tie.Need-size-requires-2 Inv-loop μ-loop
@@ -101,12 +108,18 @@ add-j c = search needs
 loop-less : tie.Need-loop-less Inv-loop μ-loop
 loop-less c =
     let l = c .before .before .before .before .before .before .before .before .before .before .loop in
-    omega (arith, c .before .size2 .ensures, node-counted (l .inv) (c .before .before .before .before .before .before .before .before .before .loop-test .taken))
+    omega (
+      arith,
+      c .before .size2 .ensures,
+      node-counted (l .inv)
+          (c .before .before .before .before .before .before .before .before .before .loop-test .taken),
+    )
 
 loop-again : tie.Need-loop-again Inv-loop μ-loop
 loop-again c =
     let l = c .before .before .before .before .before .before .before .before .before .before .loop in
-    hole-goes-on (l .inv) (c .before .before .before .before .before .before .before .before .before .loop-test .taken) (omega arith) (sym (c .before .before .before .before .before .marked .ensures) ∙ c .before .before .before .before .if2 .taken)
+    hole-goes-on (l .inv) (c .before .before .before .before .before .before .before .before .before .loop-test .taken) (omega arith)
+    (sym (c .before .before .before .before .before .marked .ensures) ∙ c .before .before .before .before .if2 .taken)
     (c .before .size2 .result) (c .size3 .result) (c .before .size2 .ensures) (c .size3 .ensures)
     (sym (c .before .before .before .hole-fits .ensures) ∙ not-false _ (c .before .before .if3 .left))
 
@@ -115,7 +128,9 @@ same-node-requires c κs = search needs
 
 returns-3 : tie.Need-returns-3 Inv-loop μ-loop
 returns-3 c =
-    node-stops (c .before .before .before .before .before .before .before .before .loop .inv) (c .before .before .before .before .before .before .before .loop-test .taken) (omega arith) (sym (c .before .before .before .marked .ensures) ∙ c .before .before .if2 .left)
+    node-stops (c .before .before .before .before .before .before .before .before .loop .inv)
+    (c .before .before .before .before .before .before .before .loop-test .taken) (omega arith)
+    (sym (c .before .before .before .marked .ensures) ∙ c .before .before .if2 .left)
     (sym (c .before .same-node .ensures) ∙ not-true _ (c .if4 .taken))
 
 add-i-2 : tie.Need-add-i-2 Inv-loop μ-loop
@@ -129,7 +144,9 @@ loop-less-2 c = search needs
 
 loop-again-2 : tie.Need-loop-again-2 Inv-loop μ-loop
 loop-again-2 c =
-    node-goes-on (c .before .before .before .before .before .before .before .before .loop .inv) (c .before .before .before .before .before .before .before .loop-test .taken) (omega arith) (sym (c .before .before .before .marked .ensures) ∙ c .before .before .if2 .left)
+    node-goes-on (c .before .before .before .before .before .before .before .before .loop .inv)
+    (c .before .before .before .before .before .before .before .loop-test .taken) (omega arith)
+    (sym (c .before .before .before .marked .ensures) ∙ c .before .before .if2 .left)
     (sym (c .before .same-node .ensures) ∙ not-false _ (c .if4 .left))
 
 returns-4 : tie.Need-returns-4 Inv-loop μ-loop
