@@ -32,7 +32,8 @@ use Rattle.lockstep.specs.declared.Span.{Span}
 use Rattle.lockstep.specs.Walk.{lockstep, atSlots}
 use Rattle.lockstep.specs.Span.{spanWalk}
 use Rattle.lockstep.specs.Recorded.{RecordedBy, Both}
-use Rattle.lockstep.proofs.SlotWalk.{Looks, look-below}
+use Rattle.lockstep.proofs.SlotWalk.{Looks, look-below, Deep}
+use Rattle.lockstep.proofs.TokenDepths.{tokens-deep}
 use Rattle.lockstep.proofs.LoweredWalk.{lowered-walk}
 use Rattle.faces.proofs.NodeTokens.{AtNode, pattern-node, expression-node}
 
@@ -155,12 +156,13 @@ module _ (p : Problem) (w : WithinLimits p) (i f n : ℕ) (cs : Terms) (applied 
 
     -- The patterns' nodes by their numbers, and those of the lowered subexpression, which begins at node j
     abbrev pub Meets : Option (List ℕ) → Option (List Face) → Type 0
-    Meets ns xs = Both (RecordedBy (λ m. nodeAt m (patterns p)) (λ m. nodeAt (m - j) (one u))) ns xs
+    Meets ns xs =
+        Both (RecordedBy (λ m. nodeAt m (patterns p)) (λ m. nodeAt (m - j) (one u)) (λ m. depthIn (at (patternTokens p) m))) ns xs
 
     -- THE THEOREM: the walk of the span fails just where that of the argument against the lowered subexpression fails, and else records its
-    -- faces in order. k is the number of binders that the definitions count above the application
-    pub argument-walk : (k : ℕ) → Meets (spanWalk (patternTokens p) (expressionTokens p) (argumentSpan j)) (walk k j (one (argument cs 0)) (one u))
-    argument-walk k =
+    -- faces in order. k is the number of binders above the application
+    pub argument-walk : (k : ℕ) → depthIn (at (patternTokens p) i) ≡ k → Meets (spanWalk (patternTokens p) (expressionTokens p) (argumentSpan j)) (walk k j (one (argument cs 0)) (one u))
+    argument-walk k deep =
         subst (λ (o : Option (List ℕ)). Meets o (walk k j (one (argument cs 0)) (one u)))
         (sym span-walk)
         (subst (λ (a : Terms). Meets flat (walk k j a (one u)))
@@ -168,10 +170,12 @@ module _ (p : Problem) (w : WithinLimits p) (i f n : ℕ) (cs : Terms) (applied 
         (lowered-walk (below .scope) (across .scope) under (sym across-depth ∙ deeper ∙ ap (λ (m : ℕ). under + m) (below .depth))
         (below .named) (across .named) u (ap (lowerTerm under) (sym (across .term)) ∙ lowers)
         (below .levels) (across .levels) (across .context) (below .readable) (below .room) (below .single) (across .held)
-        (λ m. nodeAt m (patterns p)) (λ m. nodeAt (m - j) (one u)) k (suc i) j (across .stands .after)
+        (λ m. nodeAt m (patterns p)) (λ m. nodeAt (m - j) (one u)) (λ m. depthIn (at (patternTokens p) m)) k (suc i) j (across .stands .after)
         (subst (Looks (λ m. nodeAt m (patterns p)) (suc i)) (sym (below .is))
         (look-below (λ m. nodeAt m (patterns p)) i (slot (function f n)) cs nil (looks-at (patterns p) i (slot (function f n), cs) applied)))
         (λ m h. let e : j + m - j ≡ m = omega arith in ap (λ (x : ℕ). nodeAt x (one u)) e)
+        (subst (λ (d : ℕ). Deep (λ m. depthIn (at (patternTokens p) m)) (suc i) d (nameless (below .scope) (below .named))) (sym (below .depth) ∙ deep)
+        (tokens-deep (patternTokens p) (suc i) (below .levels) inArgument (below .scope) (below .named) (below .after) (below .split) (below .readable) (below .room)))
         (omega (arith, below .ends, below .nodes, pattern-table p w .small, relabel-size enter namelessLabel (below .scope) (below .named)))))
       where
         flat : Option (List ℕ)

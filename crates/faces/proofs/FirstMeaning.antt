@@ -17,7 +17,7 @@ use Rattle.meaning.specs.Row.{faceTerm, faceOf}
 use Rattle.meaning.specs.Readable.{WithinLimits, Accepted}
 use Rattle.meaning.proofs.Proper.{accepted-proper, functions-applied}
 use Rattle.meaning.proofs.RowBodies.{face-expression}
-use Rattle.tokens.specs.Token.{sizeIn, patternTokens, expressionTokens}
+use Rattle.tokens.specs.Token.{depthIn, sizeIn, patternTokens, expressionTokens}
 use Rattle.tokens.specs.Key.{at}
 use Rattle.lockstep.specs.Walk.{patternNode, expressionNode}
 use Rattle.lockstep.specs.Recorded.{Records, Both}
@@ -37,7 +37,7 @@ pub record Meets (p : Problem) (j : ℕ) (x : Face) : Type 0 where
   pub term : nodeAt j (expressions p) ≡ some (x .term)
 
 module _ (p : Problem) (w : WithinLimits p) where
-  applies-means : (f n : ℕ) (x : Face) → Records (λ i. nodeAt i (patterns p)) (λ j. nodeAt j (expressions p)) n x → applies (patternTokens p) f n ≡ isApplication f (x .what)
+  applies-means : (f n : ℕ) (x : Face) → Records (λ i. nodeAt i (patterns p)) (λ j. nodeAt j (expressions p)) (λ i. depthIn (at (patternTokens p) i)) n x → applies (patternTokens p) f n ≡ isApplication f (x .what)
   unfolding applies
   applies-means f n x r =
       node-applies (patternTokens p) (patternNode n) (x .what) (x .children) f

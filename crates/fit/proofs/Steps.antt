@@ -70,13 +70,15 @@ module _ (es : List ℕ) (ks : List Source) where
       into kept e =
           let (k, i, j) = then-some o next kept e in
           let (u, (ds, d, a, f)) = s .into k i in
-          let (u′, (ds′, d′, a′, f′)) = s′ k ds f .into kept j in
-          ((u, u′), (
-            ds ++ ds′,
-            ap (λ (x : Option (List Source)). join x demands′) d ∙ ap (join (some ds)) d′,
-            agree-append ks ds ds′ ∙ T-true (T-and (agreeAfter ks ds) (agreeAfter (ks ++ ds) ds′) (true-T a) (true-T a′)),
-            subst (Firsts es kept) (append-assoc ks ds ds′) f′,
-          ))
+          let (u′, (ds′, d′, a′, f′)) = s′ k ds f .into kept j in (
+            (u, u′),
+            (
+              ds ++ ds′,
+              ap (λ (x : Option (List Source)). join x demands′) d ∙ ap (join (some ds)) d′,
+              agree-append ks ds ds′ ∙ T-true (T-and (agreeAfter ks ds) (agreeAfter (ks ++ ds) ds′) (true-T a) (true-T a′)),
+              subst (Firsts es kept) (append-assoc ks ds ds′) f′,
+            ),
+          )
 
       back : fits × fits′ → (ds : List Source) → join demands demands′ ≡ some ds → agreeAfter ks ds ≡ true → isSome (andThen o next) ≡ true
       back u zs e a =

@@ -50,7 +50,14 @@ fn bodies_closed(es: &[u64], firsts: Firsts, row: [u64; MAX_FUNCTIONS]) -> bool
 }
 
 // What the argument of the application that a face is recorded of demands, across from the lowest hole of its function's body.
-fn argument_demanded(ps: &[u64], es: &[u64], face: u64, mask: u64, kept: Sources, scratch: &mut [u64]) -> Agreed
+fn argument_demanded(
+    ps: &[u64],
+    es: &[u64],
+    face: u64,
+    mask: u64,
+    kept: Sources,
+    scratch: &mut [u64],
+) -> Agreed
     requires { ⌜ Tables (now ps) (now es) (now scratch) × Walks (now ps) (now es) face mask × Kept (now es) (kept .nodes) ⌝ }
     ensures { λ r. ⌜ Answers (argumentKept (now (ps .entry)) (now (es .entry)) face mask (kept .nodes)) r ⌝ }
 {
@@ -75,7 +82,15 @@ fn argument_demanded(ps: &[u64], es: &[u64], face: u64, mask: u64, kept: Sources
 
 // One application, by the face and the mask of its function: the body has to suit what is faced, and without a hole the argument demands
 // nothing.
-fn application_demanded(ps: &[u64], es: &[u64], face: u64, node: usize, mask: u64, kept: Sources, scratch: &mut [u64]) -> Agreed
+fn application_demanded(
+    ps: &[u64],
+    es: &[u64],
+    face: u64,
+    node: usize,
+    mask: u64,
+    kept: Sources,
+    scratch: &mut [u64],
+) -> Agreed
     requires { ⌜ Tables (now ps) (now es) (now scratch) × Applies (now ps) (now es) face node mask × Kept (now es) (kept .nodes) ⌝ }
     ensures { λ r. ⌜ Answers (applicationKept (now (ps .entry)) (now (es .entry)) face node mask (kept .nodes)) r ⌝ }
 {
@@ -95,7 +110,16 @@ fn application_demanded(ps: &[u64], es: &[u64], face: u64, node: usize, mask: u6
 }
 
 // One recorded face: that of an application, by the rank of its function.
-fn face_demanded(ps: &[u64], es: &[u64], face: u64, functions: u32, nodes: [usize; MAX_FUNCTIONS], row: [u64; MAX_FUNCTIONS], kept: Sources, scratch: &mut [u64]) -> Agreed
+fn face_demanded(
+    ps: &[u64],
+    es: &[u64],
+    face: u64,
+    functions: u32,
+    nodes: [usize; MAX_FUNCTIONS],
+    row: [u64; MAX_FUNCTIONS],
+    kept: Sources,
+    scratch: &mut [u64],
+) -> Agreed
     requires { ⌜ Tables (now ps) (now es) (now scratch) × Slots (now ps) (now es) functions nodes row face × Kept (now es) (kept .nodes) ⌝ }
     ensures { λ r. ⌜ Answers (faceKept (now (ps .entry)) (now (es .entry)) functions nodes row face (kept .nodes)) r ⌝ }
 {
@@ -111,7 +135,16 @@ fn face_demanded(ps: &[u64], es: &[u64], face: u64, functions: u32, nodes: [usiz
 }
 
 // All recorded faces in order, until one does not fit or its demands disagree.
-fn faces_demanded(ps: &[u64], es: &[u64], faces: &[u64], functions: u32, nodes: [usize; MAX_FUNCTIONS], row: [u64; MAX_FUNCTIONS], sources: Sources, scratch: &mut [u64]) -> Agreed
+fn faces_demanded(
+    ps: &[u64],
+    es: &[u64],
+    faces: &[u64],
+    functions: u32,
+    nodes: [usize; MAX_FUNCTIONS],
+    row: [u64; MAX_FUNCTIONS],
+    sources: Sources,
+    scratch: &mut [u64],
+) -> Agreed
     requires { ⌜ Tables (now ps) (now es) (now scratch) × All (Slots (now ps) (now es) functions nodes row) (now faces) × Kept (now es) (sources .nodes) ⌝ }
     ensures { λ r. ⌜ Answers (facesKept (now (ps .entry)) (now (es .entry)) functions nodes row (now (faces .entry)) (sources .nodes)) r ⌝ }
 {
@@ -133,7 +166,15 @@ fn faces_demanded(ps: &[u64], es: &[u64], faces: &[u64], functions: u32, nodes: 
 
 // What the plain faces demand, and then the applications: "A value comes from the metavariable's first occurrence outside arguments, else
 // from the first application whose function has a hole".
-fn all_faces(ps: &[u64], es: &[u64], faces: &[u64], functions: u32, firsts: Firsts, row: [u64; MAX_FUNCTIONS], scratch: &mut [u64]) -> Agreed
+fn all_faces(
+    ps: &[u64],
+    es: &[u64],
+    faces: &[u64],
+    functions: u32,
+    firsts: Firsts,
+    row: [u64; MAX_FUNCTIONS],
+    scratch: &mut [u64],
+) -> Agreed
     requires { ⌜ Ready (now ps) (now es) (now faces) functions firsts row (now scratch) × (bodiesClosed (now es) (listed firsts) row ≡ true) ⌝ }
     ensures { λ r. ⌜ Answers (demandedAt (now (ps .entry)) (now (es .entry)) (now (faces .entry)) functions firsts row) r ⌝ }
 {
@@ -150,7 +191,15 @@ fn all_faces(ps: &[u64], es: &[u64], faces: &[u64], functions: u32, firsts: Firs
 }
 
 // A row of an accepted problem whose shapes agree. `scratch` is written over.
-pub fn judge(ps: &[u64], es: &[u64], faces: &[u64], functions: u32, firsts: Firsts, row: [u64; MAX_FUNCTIONS], scratch: &mut [u64]) -> Judged
+pub fn judge(
+    ps: &[u64],
+    es: &[u64],
+    faces: &[u64],
+    functions: u32,
+    firsts: Firsts,
+    row: [u64; MAX_FUNCTIONS],
+    scratch: &mut [u64],
+) -> Judged
     requires { ⌜ Ready (now ps) (now es) (now faces) functions firsts row (now scratch) ⌝ }
     ensures { λ r. ⌜ Judges (judgedAt (now (ps .entry)) (now (es .entry)) (now (faces .entry)) functions firsts row) r ⌝ }
 {

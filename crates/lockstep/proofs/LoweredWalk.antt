@@ -27,7 +27,7 @@ use Rattle.tokens.proofs.ProblemTokens.{Room}
 use Rattle.lockstep.specs.Walk.{lockstep, atSlots}
 use Rattle.lockstep.specs.Recorded.{RecordedBy, Both}
 use Rattle.lockstep.proofs.WalkTrees.{seenWalk, flat-trees}
-use Rattle.lockstep.proofs.SlotWalk.{seenSlots, tells-slots, Looks, seen-both}
+use Rattle.lockstep.proofs.SlotWalk.{seenSlots, tells-slots, Looks, Deep, seen-both}
 
 -- A term under n binders more is seen as it was: its outer binders keep their levels
 module _ (root root′ : List ℕ) (n : ℕ) (deeper : length root′ ≡ n + length root) where
@@ -83,15 +83,16 @@ lowered-within n d t a e h =
 module _ (root root′ : List ℕ) (n : ℕ) (deeper : length root′ ≡ n + length root) (c : Forest Named) (v : NamedTerm) (u : Term)
     (lowers : lowerTerm n (namelessTerm root′ v) ≡ some u) where
   pub lowered-walk : (levels levels′ : ℕ) (ctx : Context) → Readable levels inArgument c → Room levels root c → trees c ≡ 1 → Held levels′ ctx root′ v
-      → (p e : ℕ → Option Term) (k i j : ℕ) (es : List ℕ) → Looks p i (nameless root c) → Looks e j (one u) → i + size (nameless root c) ≤ 65536
-      → Both (RecordedBy p e) (lockstep atSlots (length root) (length root′) 0 i j (tokens root c) (tokens root′ (one v) ++ es))
+      → (p e : ℕ → Option Term) (d : ℕ → ℕ) (k i j : ℕ) (es : List ℕ) → Looks p i (nameless root c) → Looks e j (one u) → Deep d i k (nameless root c)
+      → i + size (nameless root c) ≤ 65536
+      → Both (RecordedBy p e d) (lockstep atSlots (length root) (length root′) 0 i j (tokens root c) (tokens root′ (one v) ++ es))
       (walk k j (nameless root c) (one u))
-  lowered-walk levels levels′ ctx r m single held p e k i j es lp le few =
-      subst (λ (o : Option (List ℕ)). Both (RecordedBy p e) o (walk k j (nameless root c) (one u))) (sym same)
-      (seen-both p e root k 0 i j (nameless root c) (one u) (argument-pattern (nameless root c) (readable-argument levels root c r))
+  lowered-walk levels levels′ ctx r m single held p e d k i j es lp le dp few =
+      subst (λ (o : Option (List ℕ)). Both (RecordedBy p e d) o (walk k j (nameless root c) (one u))) (sym same)
+      (seen-both p e d root k 0 i j (nameless root c) (one u) (argument-pattern (nameless root c) (readable-argument levels root c r))
       (subst (λ (a : ℕ). Closed a (nameless root c)) (sym (zero-add (length root))) (nameless-closed root c))
       (lowered-within n (length root) (namelessTerm root′ v) u lowers
-      (subst (λ (a : ℕ). Closed a (one (namelessTerm root′ v))) deeper (nameless-closed root′ (one v)))) lp le few)
+      (subst (λ (a : ℕ). Closed a (one (namelessTerm root′ v))) deeper (nameless-closed root′ (one v)))) lp le dp few)
     where
       room : Room levels′ root′ (one v)
       room = record { depths = held .depths; sizes = held .sizes }

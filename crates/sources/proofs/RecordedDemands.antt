@@ -1,5 +1,5 @@
 -- The demands that recorded faces make are the sources of these faces.
---   P, E   the term at a node of the patterns, and the one that a node of the expressions stands for
+--   P, E, D   the term at a node of the patterns, the one that a node of the expressions stands for, and the binders above a pattern's node
 use mathlib.Core.Path.{_≡_, refl, ap, ap₂, sym, _∙_, subst}
 use mathlib.Core.Bool.{Bool}
 use mathlib.Core.List.{List, [], _∷_, _++_}
@@ -48,10 +48,10 @@ said-asks es (d ∷ ds) (s ∷ ss) a = (one (a .0), said-asks es ds ss (a .1))
           inside = stands-inside (n .levels) (n .context) es (d .1) (n .scope) (n .named) (n .held) (n .stands);
         }
 
-module _ (ps es : List ℕ) (P E : ℕ → Option Term) (patternAt : (i : ℕ) (t : Term) → P i ≡ some t → AtNode ps i t)
+module _ (ps es : List ℕ) (P E : ℕ → Option Term) (D : ℕ → ℕ) (patternAt : (i : ℕ) (t : Term) → P i ≡ some t → AtNode ps i t)
     (expressionAt : (j : ℕ) (t : Term) → E j ≡ some t → MovedAt es j t) where
   -- One face, by the kind of its slot
-  demand-says : (n : ℕ) (sc : List ℕ) (z : Slot) (x : Face) → x .what ≡ z → Records P E n x → SmallSlot z
+  demand-says : (n : ℕ) (sc : List ℕ) (z : Slot) (x : Face) → x .what ≡ z → Records P E D n x → SmallSlot z
       → AllSay es (choose (eqb (tagOf (slot z)) 5) ((payloadOf sc (slot z), expressionNode n) ∷ []) []) (sourceAt z (x .node) (x .term))
   unfolding payloadOf
   demand-says n sc (metavariable m) x e r small = (
@@ -66,7 +66,7 @@ module _ (ps es : List ℕ) (P E : ℕ → Option Term) (patternAt : (i : ℕ) (
   demand-says n sc (function f a) x e r small = tt
   demand-says n sc (hole i) x e r small = tt
 
-  face-says : (n : ℕ) (x : Face) → Records P E n x → SmallSlot (x .what) → AllSay es (demandAt ps n) (sourceOf x)
+  face-says : (n : ℕ) (x : Face) → Records P E D n x → SmallSlot (x .what) → AllSay es (demandAt ps n) (sourceOf x)
   unfolding demandAt
   face-says n x r small =
       let a = patternAt (patternNode n) (slot (x .what), x .children) (r .slots) in
@@ -76,7 +76,7 @@ module _ (ps es : List ℕ) (P E : ℕ → Option Term) (patternAt : (i : ℕ) (
       (demand-says n (a .scope) (x .what) x refl r small)
 
   -- THE THEOREM
-  pub recorded-say : (ns : List ℕ) (xs : List Face) → RecordedBy P E ns xs → All (λ x. SmallSlot (x .what)) xs
+  pub recorded-say : (ns : List ℕ) (xs : List Face) → RecordedBy P E D ns xs → All (λ x. SmallSlot (x .what)) xs
       → AllSay es (demandsIn ps ns) (each sourceOf xs)
   recorded-say [] [] r small = tt
   recorded-say [] (x ∷ xs) r small = absurd r
@@ -86,7 +86,7 @@ module _ (ps es : List ℕ) (P E : ℕ → Option Term) (patternAt : (i : ℕ) (
       (recorded-say ns xs (r .1) (small .1))
 
   -- What the code asks of recorded faces
-  pub recorded-reads : (ns : List ℕ) (xs : List Face) → RecordedBy P E ns xs → All (λ x. SmallSlot (x .what)) xs → All (Reads ps es) ns
+  pub recorded-reads : (ns : List ℕ) (xs : List Face) → RecordedBy P E D ns xs → All (λ x. SmallSlot (x .what)) xs → All (Reads ps es) ns
   recorded-reads [] [] r small = tt
   recorded-reads [] (x ∷ xs) r small = absurd r
   recorded-reads (n ∷ ns) [] r small = absurd r

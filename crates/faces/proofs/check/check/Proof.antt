@@ -2,7 +2,9 @@
 use mathlib.Core.Path.{sym, _∙_}
 use native.Mathlib.Omega.{arith}
 use lib.Seq.{length-take-le}
-use Rattle.faces.proofs.CheckLaws.{found-room, checked-both, checked-many, checked-none, checked-large, checked-faces}
+use Rattle.lockstep.proofs.Answers.{found}
+use Rattle.faces.specs.FlatWalk.{flatWalk}
+use Rattle.faces.proofs.CheckLaws.{checked-both, checked-many, checked-none, checked-large, checked-faces}
 use borrow.Author.Needs.{needs}
 use Rattle.faces.proofs.check.check.Statement.{statement}
 use Rattle.faces.proofs.check.check.Tie as tie
@@ -41,14 +43,14 @@ slice-reshare-prefix-over-limit : tie.Need-slice-reshare-prefix-over-limit
 slice-reshare-prefix-over-limit c =
     let a = c .before .before .before .before .before .before .before .before .before .before .before .before .before .before .before .args in
     let w = c .before .before .before .before .before .walk in
-    found-room (a .ps .now) (a .es .now) (a .out .now) (w .last .1 .1 .0) (w .result) (w .ensures) (c .before .n .given .0 .0) (c .before .n .given .1)
+    found (flatWalk (a .ps .now) (a .es .now)) (a .out .now) (w .last .1 .1 .0) (w .result) (w .ensures) (c .before .n .given .0 .0) (c .before .n .given .1) .room
 
 slice-aggregate-over-limit : tie.Need-slice-aggregate-over-limit
 slice-aggregate-over-limit c =
     let a = c .before .before .before .before .before .before .before .before .before .before .before .before .before .before .before .before .args in
     let w = c .before .before .before .before .before .before .walk in
     sym (length-take-le (c .before .before .n .given .0 .0) (w .last .1 .1 .0)
-    (found-room (a .ps .now) (a .es .now) (a .out .now) (w .last .1 .1 .0) (w .result) (w .ensures) (c .before .before .n .given .0 .0) (c .before .before .n .given .1)))
+    (found (flatWalk (a .ps .now) (a .es .now)) (a .out .now) (w .last .1 .1 .0) (w .result) (w .ensures) (c .before .before .n .given .0 .0) (c .before .before .n .given .1) .room))
 
 over-limit-requires : tie.Need-over-limit-requires
 over-limit-requires c κs = search needs
