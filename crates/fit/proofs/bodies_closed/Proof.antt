@@ -34,10 +34,18 @@ array-read-body-closed-2 : tie.Need-array-read-body-closed-2 Inv-loop μ-loop
 array-read-body-closed-2 c = search needs
 
 body-closed-requires : tie.Need-body-closed-requires Inv-loop μ-loop
-body-closed-requires c κs = ?bc
+body-closed-requires c κs =
+    let s = c .before .before .before .before in
+    (s .pre .table, s .pre .inside (c .before .loop .k) (c .loop-test .taken))
 
 returns : tie.Need-returns Inv-loop μ-loop
-returns c = ?r
+unfolding maxFunctions
+returns c =
+    let a = c .before .before .before in
+    let s = a .before .before .before in
+    closed-fails (s .args .es .now) (s .args .firsts .nodes) (s .args .t3) (s .args .firsts .count) (a .loop .k) (omega (arith, s .pre .fits .array, s .pre .fits .count))
+    (omega (arith, s .pre .masks, s .pre .fits .count)) (c .before .before .loop-test .taken)
+    (ap not (sym (c .before .body-closed .ensures)) ∙ c .if1 .taken) ∙ a .loop .inv
 
 add-k : tie.Need-add-k Inv-loop μ-loop
 add-k c = search needs
@@ -46,10 +54,21 @@ loop-less : tie.Need-loop-less Inv-loop μ-loop
 loop-less c = search needs
 
 loop-again : tie.Need-loop-again Inv-loop μ-loop
-loop-again c = ?la
+unfolding maxFunctions
+loop-again c =
+    let a = c .before .before .before in
+    let s = a .before .before .before in
+    closed-next (s .args .es .now) (s .args .firsts .nodes) (s .args .t3) (s .args .firsts .count) (a .loop .k) (omega (arith, s .pre .fits .array, s .pre .fits .count))
+    (omega (arith, s .pre .masks, s .pre .fits .count)) (c .before .before .loop-test .taken)
+    (ap not (sym (c .before .body-closed .ensures)) ∙ c .if1 .left) ∙ a .loop .inv
 
 returns-2 : tie.Need-returns-2 Inv-loop μ-loop
-returns-2 c = ?r2
+unfolding maxFunctions
+returns-2 c =
+    let a = c .before in
+    let s = a .before .before .before in
+    closed-ends (s .args .es .now) (s .args .firsts .nodes) (s .args .t3) (s .args .firsts .count) (a .loop .k) (omega (arith, s .pre .fits .array, s .pre .fits .count))
+    (omega (arith, s .pre .masks, s .pre .fits .count)) (c .loop-test .left) ∙ a .loop .inv
 
 pub bodies-closed-spec : {M : Type 1} → statement M
 bodies-closed-spec =
