@@ -1,30 +1,36 @@
+-- `all_faces` meets its contract: the plain faces, and then the applications.
 use borrow.Author.Needs.{needs}
+use Rattle.fit.proofs.CodeLaws.{none-kept, plain-fails, plain-stays, then-applied}
 use Rattle.fit.proofs.all_faces.Statement.{statement}
 use Rattle.fit.proofs.all_faces.Tie as tie
-use Rattle.fit.proofs.all_faces.Reads as reads
-use Rattle.fit.proofs.all_faces.Lts as lts
-use Rattle.fit.proofs.faces_demanded.Reads as faces-demanded-reads
-use Rattle.sources.proofs.all_demanded.Reads as all-demanded-reads
 
--- src/lib.rt:184:9
 all-demanded-requires : tie.Need-all-demanded-requires
-all-demanded-requires c κs = search needs
+all-demanded-requires c κs =
+    let s = c .before .before .before .before in
+    (none-kept (s .args .es .now), s .pre .0 .reads)
 
--- src/lib.rt:186:9
 returns : tie.Need-returns
-returns c = search needs
+returns c =
+    let a = c .before .before .before .before .before .before .before .args in
+    let n = c .before .before .all-demanded in
+    plain-fails (a .ps .now) (a .es .now) (a .faces .now) (a .functions) (a .firsts) (a .row) (n .result) (n .ensures) (c .if1 .taken)
 
--- src/lib.rt:190:5
 faces-demanded-requires : tie.Need-faces-demanded-requires
-faces-demanded-requires c κs = search needs
+faces-demanded-requires c κs =
+    let s = c .before .before .before .before .before .before .before .before .before .before in
+    let a = s .args in
+    let n = c .before .before .before .before .before .all-demanded in
+    (s .pre .0 .tables, s .pre .0 .slots (s .pre .1), plain-stays (a .ps .now) (a .es .now) (a .faces .now) (a .functions) (a .firsts) (a .row) (n .result) (n .ensures) (c .before .before .before .if1 .left) (s .pre .0 .reads))
 
--- src/lib.rt:169:1
 same-length : tie.Need-same-length
 same-length c = search needs
 
--- src/lib.rt:169:1
 returns-2 : tie.Need-returns-2
-returns-2 c = search needs
+returns-2 c =
+    let a = c .before .before .before .before .before .before .before .before .before .before .before .before .before .args in
+    let n = c .before .before .before .before .before .before .before .before .all-demanded in
+    let v = c .before .before .faces-demanded in
+    then-applied (a .ps .now) (a .es .now) (a .faces .now) (a .functions) (a .firsts) (a .row) (n .result) (n .ensures) (c .before .before .before .before .before .before .if1 .left) (v .result) (v .ensures)
 
 pub all-faces-spec : {M : Type 1} → statement M
 all-faces-spec =

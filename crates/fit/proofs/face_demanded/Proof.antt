@@ -78,8 +78,7 @@ application-demanded-requires : tie.Need-application-demanded-requires
 application-demanded-requires c κs =
     let s = c .before .before .before .before .before .before .before .before .before in
     let a = s .args in
-    let e = (c .before .rank .ensures ∙ ap (λ (m : ℕ). count m (a .functions)) (c .before .before .payload .ensures)) in
-    (
+    let e = (c .before .rank .ensures ∙ ap (λ (m : ℕ). count m (a .functions)) (c .before .before .payload .ensures)) in (
       s .pre .0,
       subst (λ (k : ℕ). Applies (a .ps .now) (a .es .now) (a .face) (at (a .t5) k) (at (a .t6) k)) (sym e) (s .pre .1 .applies (sym (c .before .before .before .before .tag .ensures) ∙ c .before .before .before .if1 .left)),
       s .pre .2,

@@ -32,8 +32,7 @@ face-demanded-requires : tie.Need-face-demanded-requires Inv-loop μ-loop
 face-demanded-requires c κs =
     let s = c .before .before .before .before .before .before .before .before in
     let a = s .args in
-    let l = c .before .before .before .loop in
-    (
+    let l = c .before .before .before .loop in (
       tables-again (a .ps .now) (a .es .now) (a .scratch .now) (l .scratch) (s .pre .0) (l .inv .0),
       going-slots (a .ps .now) (a .es .now) (a .functions) (a .nodes) (a .row) (a .faces .now) _ (l .k) (l .kept .nodes) (l .inv .1) (c .before .before .loop-test .taken),
       l .inv .1 .inside,

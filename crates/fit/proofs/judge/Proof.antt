@@ -1,30 +1,34 @@
+-- `judge` meets its contract: one law for each return.
+use mathlib.Core.Path.{ap, sym, _∙_}
+use mathlib.Core.Bool.{not}
 use borrow.Author.Needs.{needs}
+use Rattle.fit.proofs.CodeLaws.{judges-open, closed-all, judges-closed}
 use Rattle.fit.proofs.judge.Statement.{statement}
 use Rattle.fit.proofs.judge.Tie as tie
-use Rattle.fit.proofs.judge.Reads as reads
-use Rattle.fit.proofs.judge.Lts as lts
-use Rattle.fit.proofs.all_faces.Reads as all-faces-reads
-use Rattle.fit.proofs.bodies_closed.Reads as bodies-closed-reads
 
--- src/lib.rt:206:9
 bodies-closed-requires : tie.Need-bodies-closed-requires
 bodies-closed-requires c κs = search needs
 
--- src/lib.rt:207:9
 returns : tie.Need-returns
-returns c = search needs
+returns c =
+    let a = c .before .before .before .before .before .before .args in
+    judges-open (a .ps .now) (a .es .now) (a .faces .now) (a .functions) (a .firsts) (a .row) (ap not (sym (c .before .bodies-closed .ensures)) ∙ c .if1 .taken) _
 
--- src/lib.rt:214:9
 all-faces-requires : tie.Need-all-faces-requires
-all-faces-requires c κs = search needs
+all-faces-requires c κs =
+    let s = c .before .before .before .before .before .before .before in
+    let a = s .args in
+    (s .pre, closed-all (a .ps .now) (a .es .now) (a .faces .now) (a .functions) (a .firsts) (a .row) (ap not (sym (c .before .before .bodies-closed .ensures)) ∙ c .before .if1 .left))
 
--- src/lib.rt:194:1
 same-length : tie.Need-same-length
 same-length c = search needs
 
--- src/lib.rt:194:1
 returns-2 : tie.Need-returns-2
-returns-2 c = search needs
+returns-2 c =
+    let a = c .before .before .before .before .before .before .before .before .before .before .before .args in
+    let r = c .before .before .before .all-faces in
+    judges-closed (a .ps .now) (a .es .now) (a .faces .now) (a .functions) (a .firsts) (a .row)
+    (closed-all (a .ps .now) (a .es .now) (a .faces .now) (a .functions) (a .firsts) (a .row) (ap not (sym (c .before .before .before .before .before .before .bodies-closed .ensures)) ∙ c .before .before .before .before .before .if1 .left)) (r .result) (r .ensures)
 
 pub judge-spec : {M : Type 1} → statement M
 judge-spec =
