@@ -24,7 +24,7 @@ fn marked(mask: u64, i: usize) -> bool
 }
 
 // The lowest node of the face that becomes a hole, where there is one.
-fn lowest(mask: u64) -> usize
+pub fn lowest(mask: u64) -> usize
     ensures { λ r. ⌜ r ≡ lowestMarked mask ⌝ }
 {
     masks::lowest(mask)

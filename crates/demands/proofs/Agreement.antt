@@ -6,7 +6,7 @@ use mathlib.Core.Bool.{Bool, true, false}
 use mathlib.Core.List.{List, [], _∷_, _++_, append-assoc, append-nil, List·Memᴰ·head, List·Memᴰ·append-cases, List·Memᴰ·eq-of-singleton, List·Memᴰ·not-nil, Memᴰ·append-right}
 use mathlib.Core.Option.{Option, none, some}
 use lib.Dec.{eqb, T}
-use Rattle.meaning.specs.Basics.{choose, All, _∈_}
+use Rattle.meaning.specs.Basics.{choose, All, _∈_, orElse}
 use Rattle.meaning.specs.Term.{one, Term}
 use Rattle.meaning.specs.Shift.{ClosedTerm}
 use Rattle.meaning.specs.Filling.{value, Filling}
@@ -21,11 +21,7 @@ use Rattle.demands.specs.Agreeing.{Agreeing, agreesWith, agreeAfter}
 use Rattle.demands.proofs.Holding.{Holds}
 
 -- Looking up in a list that goes on
-abbrev orElse : {A : Type 0} → Option A → Option A → Option A
-orElse none b = b
-orElse (some a) b = some a
-
-lookup-append : (m : ℕ) (ks ds : List Source) → lookup m (ks ++ ds) ≡ orElse (lookup m ks) (lookup m ds)
+pub lookup-append : (m : ℕ) (ks ds : List Source) → lookup m (ks ++ ds) ≡ orElse (lookup m ks) (lookup m ds)
 lookup-append m [] ds = refl
 lookup-append m (k ∷ ks) ds = go (eqb m (k .number)) (lookup-append m ks ds)
   where
@@ -34,16 +30,16 @@ lookup-append m (k ∷ ks) ds = go (eqb m (k .number)) (lookup-append m ks ds)
     go true ih = refl
     go false ih = ih
 
-lookup-earlier : (m : ℕ) (ks ds : List Source) (s : Source) → lookup m ks ≡ some s → lookup m (ks ++ ds) ≡ some s
+pub lookup-earlier : (m : ℕ) (ks ds : List Source) (s : Source) → lookup m ks ≡ some s → lookup m (ks ++ ds) ≡ some s
 lookup-earlier m ks ds s e = lookup-append m ks ds ∙ ap (λ (o : Option Source). orElse o (lookup m ds)) e
 
-lookup-later : (m : ℕ) (ks ds : List Source) → lookup m ks ≡ none → lookup m (ks ++ ds) ≡ lookup m ds
+pub lookup-later : (m : ℕ) (ks ds : List Source) → lookup m ks ≡ none → lookup m (ks ++ ds) ≡ lookup m ds
 lookup-later m ks ds e = lookup-append m ks ds ∙ ap (λ (o : Option Source). orElse o (lookup m ds)) e
 
-lookup-own : (d : Source) (ds : List Source) → lookup (d .number) (d ∷ ds) ≡ some d
+pub lookup-own : (d : Source) (ds : List Source) → lookup (d .number) (d ∷ ds) ≡ some d
 lookup-own d ds = choose-true (some d) (lookup (d .number) ds) (eqb-self (d .number))
 
-lookup-only : (m : ℕ) (d s : Source) → lookup m (d ∷ []) ≡ some s → (s ≡ d) × (m ≡ d .number)
+pub lookup-only : (m : ℕ) (d s : Source) → lookup m (d ∷ []) ≡ some s → (s ≡ d) × (m ≡ d .number)
 lookup-only m d s e = go (eqb m (d .number)) refl e
   where
     go : (t : Bool) → eqb m (d .number) ≡ t → choose t (some d) none ≡ some s → (s ≡ d) × (m ≡ d .number)

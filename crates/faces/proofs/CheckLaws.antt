@@ -16,37 +16,13 @@ use Rattle.lockstep.specs.declared.Shapes.{Shapes}
 use Rattle.lockstep.specs.declared.Shapes.the-variants as shapes
 use Rattle.faces.specs.declared.check.Checked.the-variants as checked
 use lib.Dec.{ltb}
-use Rattle.lockstep.specs.Span.{answerOf, Walked}
+use Rattle.lockstep.specs.Span.{Walked}
+use Rattle.lockstep.proofs.Answers.{Found, found, disagreed}
 use Rattle.faces.specs.FlatWalk.{flatWalk}
 use Rattle.metavariables.specs.Survey.{Surveyed, meets, count, functionsIn, bothIn}
 use Rattle.faces.specs.First.{firstNode, firstsOf, anyLarge}
 use Rattle.faces.specs.Check.{largeIn, afterWalk, verdict, CheckedBy}
 use Rattle.metavariables.proofs.SurveyLaws.{functions-set, both-set, count-set}
-
--- The faces are what is recorded at the front
-record Found (ps es old new : List ℕ) (n : ℕ) : Type 0 where
-  faces : List ℕ
-  walked : flatWalk ps es ≡ some faces
-  long : length faces ≡ n
-  front : take n new ≡ faces
-  rest : new ≡ faces ++ drop (length faces) old
-
-module _ (ps es old new : List ℕ) (q : Shapes) (w : Walked (flatWalk ps es) old new q) (n : ℕ) (e : q ≡ shapes.Faces n) where
-  found : Found ps es old new n
-  found = go (flatWalk ps es) refl (sym e ∙ w .answer)
-    where
-      go : (o : Option (List ℕ)) → flatWalk ps es ≡ o → shapes.Faces n ≡ answerOf o → Found ps es old new n
-      go none h a = absurd (let z : _≡_ {A = ℕ} 0 1 = cc in omega arith)
-      go (some ns) h a =
-          let l : length ns ≡ n = cc in
-          let r : new ≡ ns ++ drop (length ns) old = w .recorded ns h in
-          record { faces = ns; walked = h; long = l; front = ap (take n) r ∙ take-at ns (drop (length ns) old) n l; rest = r }
-
-  pub found-room : n ≤ length new
-  found-room =
-      let f = found in
-      let a = length-append (f .faces) (drop (length (f .faces)) old) in
-      omega (arith, ap length (f .rest), f .long)
 
 module _ (ps : List ℕ) (s : Occurring) (v : Surveyed ps s) where
   large-set : (es ns : List ℕ) → anyLarge es (firstsOf ps ns (s .functions)) ≡ largeIn ps es ns
@@ -74,16 +50,16 @@ module _ (ps : List ℕ) (s : Occurring) (v : Surveyed ps s) where
         after-walk = choose-false _ _ (sym (both-set ps s v) ∙ apart) ∙ choose-false _ _ (le-ltb 8 (length (functionsIn ps)) (omega (arith, count-set ps s v)))
 
         pub checked-none : (q : Shapes) → Walked (flatWalk ps es) old new q → q ≡ shapes.Disagree → CheckedBy ps es old new checked.NoRows
-        checked-none q w e = go (flatWalk ps es) refl (sym e ∙ w .answer)
-          where
-            go : (o : Option (List ℕ)) → flatWalk ps es ≡ o → shapes.Disagree ≡ answerOf o → CheckedBy ps es old new checked.NoRows
-            go none h a = record { answer = sym (after-walk ∙ ap (afterWalk ps es) h); recorded = λ ns w q. absurd (let z : _≡_ {A = ℕ} 0 1 = cc in omega arith) }
-            go (some ns) h a = absurd (let z : _≡_ {A = ℕ} 0 1 = cc in omega arith)
+        checked-none q w e =
+            record {
+              answer = sym (after-walk ∙ ap (afterWalk ps es) (disagreed (flatWalk ps es) old new q w e));
+              recorded = λ ns w q. absurd (let z : _≡_ {A = ℕ} 0 1 = cc in omega arith);
+            }
 
         module _ (q : Shapes) (w : Walked (flatWalk ps es) old new q) (n : ℕ) (e : q ≡ shapes.Faces n) where
           decided : (b : Bool) → b ≡ anyLarge es (firstsOf ps (take n new) (s .functions)) → verdict ps es ≡ choose b (checked.Refused 14) (checked.Faces n)
           decided b t =
-              let f : Found ps es old new n = found ps es old new q w n e in
+              let f : Found (flatWalk ps es) new n = found (flatWalk ps es) old new q w n e in
               let big : largeIn ps es (f .faces) ≡ b = sym (t ∙ ap (λ (ns : List ℕ). anyLarge es (firstsOf ps ns (s .functions))) (f .front) ∙ large-set es (f .faces)) in
               after-walk ∙ ap (afterWalk ps es) (f .walked) ∙ ap₂ (λ (c : Bool) (m : ℕ). choose c (checked.Refused 14) (checked.Faces m)) big (f .long)
 

@@ -5,3 +5,4 @@ pub mod FirstLaws
 pub mod FirstMeaning
 pub mod NodeTokens
 pub mod WalkMeaning
+pub mod ArgumentWalk

@@ -1,6 +1,6 @@
 -- The term at a node stands in the table at the node's number, so that its token says what it is.
 --   AtNode    the term t at node i: the term that the bytes have, in its scope, with its tokens in the table from i on
-use mathlib.Core.Path.{_≡_, ap, ap₂, sym, _∙_}
+use mathlib.Core.Path.{_≡_, refl, ap, ap₂, sym, _∙_}
 use mathlib.Core.Bool.{true, false, _&&_}
 use mathlib.Core.List.{List, [], _∷_, _++_, append-assoc, append-nil}
 use mathlib.Core.Option.{some}
@@ -109,33 +109,42 @@ module _ (table : List ℕ) (i : ℕ) (t : Term) (n : AtNode table i t) where
       let z : i + 0 ≡ i = add-zero i in
       ap (at table) (sym z) ∙ sym (getD-drop i table 0 0) ∙ ap (λ (l : List ℕ). at l 0) (n .stands .split)
 
+-- The token of a slot has its tag and its number
+module _ (table : List ℕ) (i : ℕ) (z : Slot) (cs : Terms) (n : AtNode table i (slot z, cs)) where
+  slot-label : (l : Named) → namelessLabel (n .scope) l ≡ slot z → l ≡ slot z
+  slot-label (own (symbol m)) e = never (cc)
+  slot-label (own (variable x)) e = never (cc)
+  slot-label (own (application m)) e = never (cc)
+  slot-label (own (binder b x)) e = never (cc)
+  slot-label (slot y) e = let w : y ≡ z = cc in ap (λ (x : Slot). slot x) w
+
+  slot-token : at table i ≡ tokenAt (n .scope) (slot z) (n .named .1)
+  slot-token =
+      node-token table i (slot z, cs) n
+      ∙ ap (λ (l : Named). tokenAt (n .scope) l (n .named .1)) (slot-label (n .named .0) (sym (ap (λ (u : Term). u .0) (n .term))))
+
+  deep : length (n .scope) < 256
+  deep = omega (arith, n .held .depths, some-levels (n .levels) (n .context) (n .named) (n .held .readable))
+
+  small : suc (size (n .named .1)) < 65536
+  small = omega (arith, n .held .sizes)
+
+  pub node-tag : tagIn (at table i) ≡ tagOf (slot z)
+  node-tag = ap tagIn slot-token ∙ tag-at (n .scope) (slot z) (n .named .1) deep small
+
+  pub node-payload : payloadIn (at table i) ≡ payloadOf (n .scope) (slot z)
+  node-payload = ap payloadIn slot-token ∙ payload-at (n .scope) (slot z) (n .named .1) deep small
+
 -- Whether the token of a slot is that of an application of f
 pub node-applies : (table : List ℕ) (i : ℕ) (z : Slot) (cs : Terms) (f : ℕ) → AtNode table i (slot z, cs)
     → eqb (tagIn (at table i)) 6 && eqb f (payloadIn (at table i)) ≡ isApplication f z
 unfolding payloadOf
-node-applies table i z cs f n =
-    ap₂ (λ (g m : ℕ). eqb g 6 && eqb f m)
-    (ap tagIn (node-token table i (slot z, cs) n) ∙ tag-at (n .scope) (n .named .0) (n .named .1) deep small)
-    (ap payloadIn (node-token table i (slot z, cs) n) ∙ payload-at (n .scope) (n .named .0) (n .named .1) deep small)
-    ∙ go (n .named .0) (sym (ap (λ (u : Term). u .0) (n .term)))
+node-applies table i z cs f n = ap₂ (λ (g m : ℕ). eqb g 6 && eqb f m) (node-tag table i z cs n) (node-payload table i z cs n) ∙ said (n .scope) z
   where
-    deep : length (n .scope) < 256
-    deep = omega (arith, n .held .depths, some-levels (n .levels) (n .context) (n .named) (n .held .readable))
-
-    small : suc (size (n .named .1)) < 65536
-    small = omega (arith, n .held .sizes)
-
-    same : (y : Slot) → y ≡ z → eqb (tagOf (slot y)) 6 && eqb f (payloadOf (n .scope) (slot y)) ≡ isApplication f z
-    same (metavariable m) e = ap (isApplication f) e
-    same (function g a) e = ap (isApplication f) e
-    same (hole h) e = ap (isApplication f) e
-
-    go : (l : Named) → namelessLabel (n .scope) l ≡ slot z → eqb (tagOf l) 6 && eqb f (payloadOf (n .scope) l) ≡ isApplication f z
-    go (own (symbol m)) e = never (cc)
-    go (own (variable x)) e = never (cc)
-    go (own (application m)) e = never (cc)
-    go (own (binder b x)) e = never (cc)
-    go (slot y) e = same y (cc)
+    said : (sc : List ℕ) (z : Slot) → eqb (tagOf (slot z)) 6 && eqb f (payloadOf sc (slot z)) ≡ isApplication f z
+    said sc (metavariable m) = refl
+    said sc (function g a) = refl
+    said sc (hole h) = refl
 
 -- THE THEOREM: meaning's node numbers are the places of the tables
 module _ (p : Problem) (w : WithinLimits p) where

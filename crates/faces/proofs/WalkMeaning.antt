@@ -18,13 +18,15 @@ use Rattle.meaning.specs.Readable.{WithinLimits}
 use Rattle.meaning.proofs.Proper.{patterns-readable, expressions-readable, readable-pattern}
 use Rattle.meaning.proofs.ShiftLaws.{relabel-size}
 use Rattle.meaning.proofs.ViewLaws.{nameless-closed}
-use Rattle.tokens.specs.Token.{patternTokens, expressionTokens}
+use Rattle.tokens.specs.Token.{depthIn, patternTokens, expressionTokens}
+use Rattle.tokens.specs.Key.{at}
 use Rattle.tokens.proofs.Codes.{viewFrom}
 use Rattle.tokens.proofs.ProblemTokens.{nodes-few, patterns-room, expressions-room}
 use Rattle.lockstep.specs.Walk.{atSlots}
 use Rattle.lockstep.specs.Span.{spanWalk}
 use Rattle.lockstep.proofs.WalkTrees.{seenWalk, flat-trees}
-use Rattle.lockstep.proofs.SlotWalk.{seenSlots, tells-slots, Looks, seen-both, both-none, both-some}
+use Rattle.lockstep.proofs.SlotWalk.{seenSlots, tells-slots, Looks, Deep, seen-both, both-none, both-some}
+use Rattle.lockstep.proofs.TokenDepths.{tokens-deep}
 use Rattle.faces.specs.FlatWalk.{flatWalk}
 use Rattle.faces.specs.Recorded.{Recorded, Means}
 
@@ -47,14 +49,20 @@ module _ (p : Problem) (w : WithinLimits p) where
       ∙ flat-trees atSlots seenSlots [] [] (tells-slots []) 0 0 maxDepth maxDepth inPattern inExpression (namedPatterns p) (namedExpressions p) []
       (patterns-readable p w) (expressions-readable p w) (patterns-room p w) (expressions-room p w) (same-trees p)
 
+  pattern-deep : Deep (λ i. depthIn (at (patternTokens p) i)) 0 0 (patterns p)
+  unfolding patternTokens
+  pattern-deep =
+      tokens-deep (patternTokens p) 0 maxDepth inPattern [] (namedPatterns p) [] (sym (append-nil (patternTokens p))) (patterns-readable p w) (patterns-room p w)
+
   -- THE THEOREM: the walk on the tables fails just where a shape disagrees, and else records the faces in order
   pub walk-means : Means p (flatWalk (patternTokens p) (expressionTokens p)) (faces p)
   walk-means =
       let at0 : (u : Terms) → Looks (λ i. nodeAt i u) 0 u = λ u m h. ap (λ (i : ℕ). nodeAt i u) (zero-add m) in
       subst (λ (o : Option (List ℕ)). Means p o (faces p)) (sym table-walk)
-      (seen-both (λ i. nodeAt i (patterns p)) (λ j. nodeAt j (expressions p)) [] 0 0 0 0 (patterns p) (expressions p)
+      (seen-both (λ i. nodeAt i (patterns p)) (λ j. nodeAt j (expressions p)) (λ i. depthIn (at (patternTokens p) i)) [] 0 0 0 0 (patterns p) (expressions p)
       (readable-pattern maxDepth [] (namedPatterns p) (patterns-readable p w))
       (nameless-closed [] (namedPatterns p)) (nameless-closed [] (namedExpressions p)) (at0 (patterns p)) (at0 (expressions p))
+      pattern-deep
       (omega (arith, nodes-few p w, relabel-size enter namelessLabel [] (namedPatterns p))))
 
   pub walk-none : (flatWalk (patternTokens p) (expressionTokens p) ≡ none) ↔ (faces p ≡ none)

@@ -7,10 +7,13 @@ use mathlib.Core.Option.{Option}
 use Rattle.meaning.specs.Term.{nodeAt}
 use Rattle.meaning.specs.Problem.{Problem, patterns, expressions}
 use Rattle.meaning.specs.Face.{Face}
+use Rattle.tokens.specs.Token.{depthIn, patternTokens}
+use Rattle.tokens.specs.Key.{at}
 use Rattle.lockstep.specs.Recorded.{RecordedBy, Both}
 
 abbrev pub Recorded : Problem → List ℕ → List Face → Type 0
-Recorded q ns xs = RecordedBy (λ i. nodeAt i (patterns q)) (λ j. nodeAt j (expressions q)) ns xs
+Recorded q ns xs =
+    RecordedBy (λ i. nodeAt i (patterns q)) (λ j. nodeAt j (expressions q)) (λ i. depthIn (at (patternTokens q) i)) ns xs
 
 abbrev pub Means : Problem → Option (List ℕ) → Option (List Face) → Type 0
 Means q ns xs = Both (Recorded q) ns xs

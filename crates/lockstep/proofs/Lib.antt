@@ -3,4 +3,6 @@ pub mod WalkLaws
 pub mod WalkTrees
 pub mod SlotWalk
 pub mod SpanLaws
+pub mod Answers
+pub mod TokenDepths
 pub mod LoweredWalk

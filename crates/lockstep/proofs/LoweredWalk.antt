@@ -3,7 +3,7 @@
 use mathlib.Core.Path.{_≡_, refl, ap, sym, _∙_, subst}
 use mathlib.Core.List.{List, _++_}
 use mathlib.Core.Option.{Option, some}
-use Prim.Native.Nat.{ℕ, suc, _+_, _-_, _≤_, _<_}
+use Prim.Native.Nat.{ℕ, _+_, _-_, _≤_, _<_}
 use native.Mathlib.Nat.{zero-add}
 use native.Mathlib.Omega.{arith}
 use native.Mathlib.Decide.{decLt}
@@ -12,7 +12,7 @@ use Rattle.meaning.specs.Term.{Forest, nil, cons, one, size, trees, symbol, var
 use Rattle.meaning.specs.Scope.{nameless, namelessTerm}
 use Rattle.meaning.specs.Shift.{raise, shiftLabel, shift, shiftTerm, closedVariable, closedLabel, Closed}
 use Rattle.meaning.specs.Lower.{lowerTerm}
-use Rattle.meaning.specs.Equal.{outside, see, View}
+use Rattle.meaning.specs.Equal.{outside, see}
 use Rattle.meaning.specs.Face.{walk}
 use Rattle.meaning.specs.Read.{Context, inArgument}
 use Rattle.meaning.specs.Readable.{Readable}
@@ -27,7 +27,7 @@ use Rattle.tokens.proofs.ProblemTokens.{Room}
 use Rattle.lockstep.specs.Walk.{lockstep, atSlots}
 use Rattle.lockstep.specs.Recorded.{RecordedBy, Both}
 use Rattle.lockstep.proofs.WalkTrees.{seenWalk, flat-trees}
-use Rattle.lockstep.proofs.SlotWalk.{seenSlots, tells-slots, Looks, seen-both}
+use Rattle.lockstep.proofs.SlotWalk.{seenSlots, tells-slots, Looks, Deep, seen-both}
 
 -- A term under n binders more is seen as it was: its outer binders keep their levels
 module _ (root root′ : List ℕ) (n : ℕ) (deeper : length root′ ≡ n + length root) where
@@ -76,21 +76,23 @@ module _ (n d : ℕ) where
 lowered-within : (n d : ℕ) (t a : Term) → lowerTerm n t ≡ some a → Closed (n + d) (one t) → Closed (0 + d) (one a)
 lowered-within n d t a e h =
     shift-within n d 0 (one a)
-    (subst (λ (m : ℕ). Closed m (one (shiftTerm n a))) (sym (zero-add (n + d))) (subst (λ (x : Term). Closed (n + d) (one x)) (sym (shift-lower-term n t a e)) h))
+    (subst (λ (m : ℕ). Closed m (one (shiftTerm n a))) (sym (zero-add (n + d)))
+    (subst (λ (x : Term). Closed (n + d) (one x)) (sym (shift-lower-term n t a e)) h))
 
 -- THE THEOREM: the argument's tokens against those of what the hole holds. k is the number of binders that the walk counts from
 module _ (root root′ : List ℕ) (n : ℕ) (deeper : length root′ ≡ n + length root) (c : Forest Named) (v : NamedTerm) (u : Term)
     (lowers : lowerTerm n (namelessTerm root′ v) ≡ some u) where
   pub lowered-walk : (levels levels′ : ℕ) (ctx : Context) → Readable levels inArgument c → Room levels root c → trees c ≡ 1 → Held levels′ ctx root′ v
-      → (p e : ℕ → Option Term) (k i j : ℕ) (es : List ℕ) → Looks p i (nameless root c) → Looks e j (one u) → i + size (nameless root c) ≤ 65536
-      → Both (RecordedBy p e) (lockstep atSlots (length root) (length root′) 0 i j (tokens root c) (tokens root′ (one v) ++ es))
+      → (p e : ℕ → Option Term) (d : ℕ → ℕ) (k i j : ℕ) (es : List ℕ) → Looks p i (nameless root c) → Looks e j (one u) → Deep d i k (nameless root c)
+      → i + size (nameless root c) ≤ 65536
+      → Both (RecordedBy p e d) (lockstep atSlots (length root) (length root′) 0 i j (tokens root c) (tokens root′ (one v) ++ es))
       (walk k j (nameless root c) (one u))
-  lowered-walk levels levels′ ctx r m single held p e k i j es lp le few =
-      subst (λ (o : Option (List ℕ)). Both (RecordedBy p e) o (walk k j (nameless root c) (one u))) (sym same)
-      (seen-both p e root k 0 i j (nameless root c) (one u) (argument-pattern (nameless root c) (readable-argument levels root c r))
+  lowered-walk levels levels′ ctx r m single held p e d k i j es lp le dp few =
+      subst (λ (o : Option (List ℕ)). Both (RecordedBy p e d) o (walk k j (nameless root c) (one u))) (sym same)
+      (seen-both p e d root k 0 i j (nameless root c) (one u) (argument-pattern (nameless root c) (readable-argument levels root c r))
       (subst (λ (a : ℕ). Closed a (nameless root c)) (sym (zero-add (length root))) (nameless-closed root c))
       (lowered-within n (length root) (namelessTerm root′ v) u lowers
-      (subst (λ (a : ℕ). Closed a (one (namelessTerm root′ v))) deeper (nameless-closed root′ (one v)))) lp le few)
+      (subst (λ (a : ℕ). Closed a (one (namelessTerm root′ v))) deeper (nameless-closed root′ (one v)))) lp le dp few)
     where
       room : Room levels′ root′ (one v)
       room = record { depths = held .depths; sizes = held .sizes }

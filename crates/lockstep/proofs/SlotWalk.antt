@@ -109,7 +109,7 @@ module _ (look : ℕ → Option Term) (i : ℕ) (l : Nameless) (c s : Terms) (h 
   look-here : look i ≡ some (l, c)
   look-here = let e : i ≡ i + 0 = omega arith in ap look e ∙ h 0 (omega arith)
 
-  look-below : Looks look (suc i) c
+  pub look-below : Looks look (suc i) c
   look-below m g =
       let e : suc i + m ≡ i + suc m = omega arith in
       ap look e ∙ h (suc m) (omega arith) ∙ choose-true _ _ (lt-ltb m (size c) g)
@@ -119,6 +119,11 @@ module _ (look : ℕ → Option Term) (i : ℕ) (l : Nameless) (c s : Terms) (h 
       let e : suc i + size c + m ≡ i + suc (size c + m) = omega arith in
       let d : size c + m - size c ≡ m = omega arith in
       ap look e ∙ h (suc (size c + m)) (omega arith) ∙ choose-false _ _ (le-ltb (size c + m) (size c) (omega arith)) ∙ ap (λ (k : ℕ). nodeAt k s) d
+
+-- There are d i binders above node i, the first of a forest that has k around it, and so for the nodes after it
+abbrev pub Deep : (ℕ → ℕ) → ℕ → ℕ → Terms → Type 0
+Deep d i k nil = Unit {0}
+Deep d i k (cons l c s) = (d i ≡ k) × Deep d (suc i) (inner l k) c × Deep d (suc i + size c) k s
 
 -- Two answers that belong together
 pub both-none : {A B : Type 0} (R : A → B → Type 0) (a : Option A) (b : Option B) → Both R a b → (a ≡ none) ↔ (b ≡ none)
@@ -137,14 +142,14 @@ guard-both R true false a b e h = absurd (false≢true (sym e))
 guard-both R false true a b e h = absurd (false≢true e)
 guard-both R false false a b e h = tt
 
-module _ (p e : ℕ → Option Term) where
-  append-recorded : (ns ns′ : List ℕ) (xs xs′ : List Face) → RecordedBy p e ns xs → RecordedBy p e ns′ xs′ → RecordedBy p e (ns ++ ns′) (xs ++ xs′)
+module _ (p e : ℕ → Option Term) (d : ℕ → ℕ) where
+  append-recorded : (ns ns′ : List ℕ) (xs xs′ : List Face) → RecordedBy p e d ns xs → RecordedBy p e d ns′ xs′ → RecordedBy p e d (ns ++ ns′) (xs ++ xs′)
   append-recorded [] ns′ [] xs′ r r′ = r′
   append-recorded [] ns′ (x ∷ xs) xs′ r r′ = absurd r
   append-recorded (n ∷ ns) ns′ [] xs′ r r′ = absurd r
   append-recorded (n ∷ ns) ns′ (x ∷ xs) xs′ r r′ = (r .0, append-recorded ns ns′ xs xs′ (r .1) r′)
 
-  join-both : (a b : Option (List ℕ)) (x y : Option (List Face)) → Both (RecordedBy p e) a x → Both (RecordedBy p e) b y → Both (RecordedBy p e) (join a b) (join x y)
+  join-both : (a b : Option (List ℕ)) (x y : Option (List Face)) → Both (RecordedBy p e d) a x → Both (RecordedBy p e d) b y → Both (RecordedBy p e d) (join a b) (join x y)
   join-both none b none y r r′ = tt
   join-both none b (some x) y r r′ = absurd r
   join-both (some a) b none y r r′ = absurd r
@@ -154,56 +159,60 @@ module _ (p e : ℕ → Option Term) where
   join-both (some a) (some b) (some x) (some y) r r′ = append-recorded a b x y r r′
 
   module _ (root : List ℕ) where
-    face-both : (n i j : ℕ) (z : Slot) (c : Terms) (t : Term) → i < 65536 → p i ≡ some (slot z, c) → e j ≡ some t
-        → Both (RecordedBy p e) (some (faceCode i j ∷ [])) (some (record { under = n; what = z; children = c; node = j; term = t } ∷ []))
-    face-both n i j z c t h lp le =
+    face-both : (n i j : ℕ) (z : Slot) (c : Terms) (t : Term) → i < 65536 → d i ≡ n → p i ≡ some (slot z, c) → e j ≡ some t
+        → Both (RecordedBy p e d) (some (faceCode i j ∷ [])) (some (record { under = n; what = z; children = c; node = j; term = t } ∷ []))
+    face-both n i j z c t h dp lp le =
         let q : patternNode (faceCode i j) ≡ i = omega arith in
         let r : expressionNode (faceCode i j) ≡ j = omega arith in
-        (record { slots = ap p q ∙ lp; node = r; term = le }, tt)
+        (record { slots = ap p q ∙ lp; under = ap d q ∙ dp; node = r; term = le }, tt)
 
     -- One node of each forest; a and x are the walks of the children, which are alike where the labels are the same
     meet-both : (n k i j : ℕ) (l l′ : Nameless) (c c′ : Terms) → patternLabel l c → closedLabel (k + length root) l → closedLabel (k + length root) l′
-        → i < 65536 → p i ≡ some (l, c) → e j ≡ some (l′, c′) → (a : Option (List ℕ)) (x : Option (List Face)) → (l ≡ l′ → Both (RecordedBy p e) a x)
-        → Both (RecordedBy p e) (seenMeet seenSlots i j (seenLabel root k l) (seenLabel root k l′) a) (meet n j l c (l′, c′) x)
-    meet-both n k i j (own o) l′ c c′ q h h′ few lp le a x ih =
-        subst (λ (w : Option (List ℕ)). Both (RecordedBy p e) w (guard (agrees o l′) x)) (sym (choose-false _ _ (own-goes root k o)))
-        (guard-both (RecordedBy p e) (eqb (code (seenLabel root k (own o))) (code (seenLabel root k l′))) (agrees o l′) a x
+        → i < 65536 → d i ≡ n → p i ≡ some (l, c) → e j ≡ some (l′, c′) → (a : Option (List ℕ)) (x : Option (List Face)) → (l ≡ l′ → Both (RecordedBy p e d) a x)
+        → Both (RecordedBy p e d) (seenMeet seenSlots i j (seenLabel root k l) (seenLabel root k l′) a) (meet n j l c (l′, c′) x)
+    meet-both n k i j (own o) l′ c c′ q h h′ few dp lp le a x ih =
+        subst (λ (w : Option (List ℕ)). Both (RecordedBy p e d) w (guard (agrees o l′) x)) (sym (choose-false _ _ (own-goes root k o)))
+        (guard-both (RecordedBy p e d) (eqb (code (seenLabel root k (own o))) (code (seenLabel root k l′))) (agrees o l′) a x
         (code-agrees root k o h l′ h′) (λ t. ih (agree-label o l′ t)))
-    meet-both n k i j (slot (metavariable m)) l′ c c′ q h h′ few lp le a x ih = face-both n i j (metavariable m) c (l′, c′) few lp le
-    meet-both n k i j (slot (function f b)) l′ c c′ q h h′ few lp le a x ih = face-both n i j (function f b) c (l′, c′) few lp le
-    meet-both n k i j (slot (hole b)) l′ c c′ q h h′ few lp le a x ih = absurd q
+    meet-both n k i j (slot (metavariable m)) l′ c c′ q h h′ few dp lp le a x ih = face-both n i j (metavariable m) c (l′, c′) few dp lp le
+    meet-both n k i j (slot (function f b)) l′ c c′ q h h′ few dp lp le a x ih = face-both n i j (function f b) c (l′, c′) few dp lp le
+    meet-both n k i j (slot (hole b)) l′ c c′ q h h′ few dp lp le a x ih = absurd q
 
     -- THE THEOREM
     pub seen-both : (n k i j : ℕ) (u v : Terms) → IsPattern u → Closed (k + length root) u → Closed (k + length root) v → Looks p i u → Looks e j v
-        → i + size u ≤ 65536 → Both (RecordedBy p e) (seenWalk seenSlots i j (viewFrom root k u) (viewFrom root k v)) (walk n j u v)
-    seen-both n k i j nil nil q h h′ lp le few = tt
-    seen-both n k i j nil (cons l c s) q h h′ lp le few = tt
-    seen-both n k i j (cons l c s) nil q h h′ lp le few = tt
-    seen-both n k i j (cons l c s) (cons l′ c′ s′) q h h′ lp le few =
+        → Deep d i n u → i + size u ≤ 65536 → Both (RecordedBy p e d) (seenWalk seenSlots i j (viewFrom root k u) (viewFrom root k v)) (walk n j u v)
+    seen-both n k i j nil nil q h h′ lp le dp few = tt
+    seen-both n k i j nil (cons l c s) q h h′ lp le dp few = tt
+    seen-both n k i j (cons l c s) nil q h h′ lp le dp few = tt
+    seen-both n k i j (cons l c s) (cons l′ c′ s′) q h h′ lp le dp few =
         join-both (seenMeet seenSlots i j (seenLabel root k l) (seenLabel root k l′) below)
-        (seenWalk seenSlots (suc i + size (viewFrom root (inner l k) c)) (suc j + size (viewFrom root (inner l′ k) c′)) (viewFrom root k s) (viewFrom root k s′))
+        (seenWalk seenSlots (suc i + size (viewFrom root (inner l k) c)) (suc j + size (viewFrom root (inner l′ k) c′))
+        (viewFrom root k s) (viewFrom root k s′))
         (meet n j l c (l′, c′) (walk (inner l n) (suc j) c c′)) (walk n (suc j + size c′) s s′)
-        (meet-both n k i j l l′ c c′ (q .0) (h .0) (h′ .0) (omega arith) (look-here p i l c s lp) (look-here e j l′ c′ s′ le) below (walk (inner l n) (suc j) c c′)
+        (meet-both n k i j l l′ c c′ (q .0) (h .0) (h′ .0) (omega arith) (dp .0) (look-here p i l c s lp)
+        (look-here e j l′ c′ s′ le) below (walk (inner l n) (suc j) c c′)
         (λ z. children z (seen-both (inner l n) (inner l k) (suc i) (suc j) c c′ (q .1)
         (subst (λ (m : ℕ). Closed m c) (inner-plus (length root) k l) (h .1))
         (subst (λ (m : ℕ). Closed m c′) (ap (λ (m : Nameless). inner m (k + length root)) (sym z) ∙ inner-plus (length root) k l) (h′ .1))
-        (look-below p i l c s lp) (look-below e j l′ c′ s′ le) (omega arith))))
-        (later (seen-both n k (suc i + size c) (suc j + size c′) s s′ (q .2) (h .2) (h′ .2) (look-later p i l c s lp) (look-later e j l′ c′ s′ le) (omega arith)))
+        (look-below p i l c s lp) (look-below e j l′ c′ s′ le) (dp .1) (omega arith))))
+        (later (seen-both n k (suc i + size c) (suc j + size c′) s s′ (q .2) (h .2) (h′ .2)
+        (look-later p i l c s lp) (look-later e j l′ c′ s′ le) (dp .2) (omega arith)))
       where
         below : Option (List ℕ)
         below = seenWalk seenSlots (suc i) (suc j) (viewFrom root (inner l k) c) (viewFrom root (inner l′ k) c′)
 
         children : l ≡ l′
-            → Both (RecordedBy p e) (seenWalk seenSlots (suc i) (suc j) (viewFrom root (inner l k) c) (viewFrom root (inner l k) c′)) (walk (inner l n) (suc j) c c′)
-            → Both (RecordedBy p e) below (walk (inner l n) (suc j) c c′)
+            → Both (RecordedBy p e d) (seenWalk seenSlots (suc i) (suc j) (viewFrom root (inner l k) c) (viewFrom root (inner l k) c′)) (walk (inner l n) (suc j) c c′)
+            → Both (RecordedBy p e d) below (walk (inner l n) (suc j) c c′)
         children z r =
-            subst (λ (m : Nameless). Both (RecordedBy p e) (seenWalk seenSlots (suc i) (suc j) (viewFrom root (inner l k) c) (viewFrom root (inner m k) c′)) (walk (inner l n) (suc j) c c′)) z r
+            subst (λ (m : Nameless). Both (RecordedBy p e d)
+            (seenWalk seenSlots (suc i) (suc j) (viewFrom root (inner l k) c) (viewFrom root (inner m k) c′)) (walk (inner l n) (suc j) c c′)) z r
 
-        later : Both (RecordedBy p e) (seenWalk seenSlots (suc i + size c) (suc j + size c′) (viewFrom root k s) (viewFrom root k s′)) (walk n (suc j + size c′) s s′)
-            → Both (RecordedBy p e)
+        later : Both (RecordedBy p e d) (seenWalk seenSlots (suc i + size c) (suc j + size c′) (viewFrom root k s) (viewFrom root k s′)) (walk n (suc j + size c′) s s′)
+            → Both (RecordedBy p e d)
             (seenWalk seenSlots (suc i + size (viewFrom root (inner l k) c)) (suc j + size (viewFrom root (inner l′ k) c′)) (viewFrom root k s) (viewFrom root k s′))
             (walk n (suc j + size c′) s s′)
         later r =
-            subst (λ (w : Option (List ℕ)). Both (RecordedBy p e) w (walk n (suc j + size c′) s s′))
+            subst (λ (w : Option (List ℕ)). Both (RecordedBy p e d) w (walk n (suc j + size c′) s s′))
             (ap₂ (λ (a b : ℕ). seenWalk seenSlots (suc i + a) (suc j + b) (viewFrom root k s) (viewFrom root k s′))
             (sym (relabel-size inner (seenLabel root) (inner l k) c)) (sym (relabel-size inner (seenLabel root) (inner l′ k) c′))) r

@@ -166,7 +166,7 @@ inner-more j k (own (application n)) h = h
 inner-more j k (own (binder b x)) h = omega arith
 inner-more j k (slot z) h = h
 
-closed-more : (j k : ℕ) (u : Terms) → j ≤ k → Closed j u → Closed k u
+pub closed-more : (j k : ℕ) (u : Terms) → j ≤ k → Closed j u → Closed k u
 closed-more j k nil h c = tt
 closed-more j k (cons l c s) h d =
     (closed-more-label j k l h (d .0), closed-more (inner l j) (inner l k) c (inner-more j k l h) (d .1), closed-more j k s h (d .2))

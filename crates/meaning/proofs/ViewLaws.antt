@@ -12,8 +12,8 @@ use native.Mathlib.Omega.{arith}
 use native.Mathlib.Decide.{decLt}
 use lib.ListN.{length, getElem?}
 use lib.Dec.{eqb}
-use Rattle.meaning.specs.Basics.{choose}
-use Rattle.meaning.specs.Term.{Forest, nil, cons, graft, one, relabel, symbol, variable, application, binder, Label, own, slot, Named, Variable, free, bound, Nameless, NamedTerm, Terms, Term, inner}
+use Rattle.meaning.specs.Basics.{choose, AllOf}
+use Rattle.meaning.specs.Term.{Forest, nil, cons, graft, one, relabel, symbol, variable, application, binder, Label, own, slot, Named, Variable, free, bound, Nameless, NamedTerm, Terms, Term, inner, variableOf}
 use Rattle.meaning.specs.Scope.{resolve, enter, namelessLabel, nameless, namelessTerm}
 use Rattle.meaning.specs.Shift.{withVariable, closedVariable, closedLabel, Closed, ClosedTerm}
 use Rattle.meaning.specs.Equal.{Seen, seenFree, inside, outside, see, View, Equal, EqualWhole}
@@ -191,9 +191,50 @@ nameless-closed sc (cons l c s) = (label l, below l (λ r. nameless-closed r c),
     below (own (binder b x)) ih = ih (x ∷ sc)
     below (slot z) ih = ih sc
 
+-- A term is closed when its view has no variable that is bound outside
+abbrev isInside : {W : Type 0} → Seen W → Type 0
+isInside (seenFree x) = Unit {0}
+isInside (inside i) = Unit {0}
+isInside (outside w) = ⊥
+
+abbrev AllInside : {W : Type 0} → View W → Type 0
+AllInside nil = Unit {0}
+AllInside (cons l c s) = AllOf isInside (variableOf l) × AllInside c × AllInside s
+
+module _ {W : Type 0} (who : ℕ → W) where
+  see-closed : (k : ℕ) (v : Variable) → closedVariable k v ↔ isInside (see who k v)
+  see-closed k (free x) = (λ h. tt, λ h. tt)
+  see-closed k (bound i) = (
+    λ h. subst isInside (sym (see-low who k i h)) tt,
+    λ h. elim (decLt i k) [
+      | yes q ↦ q
+      | no q ↦ absurd (subst isInside (see-high who k i (omega arith)) h)
+    ],
+  )
+
+  label-inside : (k : ℕ) (l : Nameless) → closedLabel k l ↔ AllOf isInside (variableOf (withVariable (see who k) l))
+  label-inside k (own (symbol n)) = (λ h. tt, λ h. tt)
+  label-inside k (own (variable v)) = see-closed k v
+  label-inside k (own (application n)) = (λ h. tt, λ h. tt)
+  label-inside k (own (binder b x)) = (λ h. tt, λ h. tt)
+  label-inside k (slot z) = (λ h. tt, λ h. tt)
+
+  view-inside : (k : ℕ) (u : Terms) → Closed k u ↔ AllInside (relabel inner (λ j. withVariable (see who j)) k u)
+  view-inside k nil = (λ h. tt, λ h. tt)
+  view-inside k (cons l c s) =
+      let a = label-inside k l in
+      let b = view-inside (inner l k) c in
+      let d = view-inside k s in
+      (λ h. (a .0 (h .0), b .0 (h .1), d .0 (h .2)), λ h. (a .1 (h .0), b .1 (h .1), d .1 (h .2)))
+
 -- Main theorems. For closed terms equality is that of the nameless terms, whatever the binders outside are
 pub equal-closed : {W : Type 0} (who who′ : ℕ → W) (t u : Term) → ClosedTerm t → ClosedTerm u → Equal who who′ t u ↔ (t ≡ u)
 equal-closed who who′ t u h g = equal-alike 0 who who′ (λ i j a b. absurd (omega arith)) t u h g
+
+-- and what is equal to a closed term is that term
+pub closed-equal : {W : Type 0} (who who′ : ℕ → W) (t u : Term) → ClosedTerm t → Equal who who′ t u → t ≡ u
+closed-equal who who′ t u h e =
+    equal-closed who who′ t u h (view-inside who′ 0 (one u) .1 (subst AllInside e (view-inside who 0 (one t) .0 h))) .0 e
 
 -- So whole terms are equal as the bytes have them when they are equal as terms of any surroundings
 pub equal-whole : {W : Type 0} (who who′ : ℕ → W) (t u : NamedTerm) → EqualWhole t u ↔ Equal who who′ (namelessTerm [] t) (namelessTerm [] u)

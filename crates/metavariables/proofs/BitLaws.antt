@@ -3,12 +3,12 @@ use mathlib.Core.Path.{_≡_, refl, ap, ap₂, sym, _∙_}
 use mathlib.Core.Bool.{Bool, true, false, _&&_, _||_, not}
 use mathlib.Core.List.{List, [], _∷_, List·Memᴰ·head, List·Memᴰ·tail}
 use Prim.Native.Nat.{ℕ, zero, suc, _+_, _-_, _/_, _%_, _^_, _<_}
-use native.Mathlib.Nat.{pow-suc, one-mul, div-eq-of-lt, zero-div}
+use native.Mathlib.Nat.{pow-suc, one-mul, div-eq-of-lt, zero-div, mod-lt}
 use native.Mathlib.Omega.{arith}
 use native.Mathlib.Decide.{decLt}
 use lib.ListN.{length}
 use lib.Dec.{eqb}
-use lib.Pow.{pow-lt, pow-add, shl-shr, shr-shr}
+use lib.Pow.{pow-lt, pow-pos, pow-add, shl-shr, shr-shr, field, mod-mod-pow}
 use lib.Bits.{bitAnd, bitOr, and-shr, or-shr}
 use lib.Count.{ones, ones-step}
 use borrow.Author.Tests.{eq-eqb, ne-eqb, eqb-true, eqb-false}
@@ -16,7 +16,7 @@ use Rattle.meaning.specs.Basics.{choose, keep, countFrom, upTo, every, _∈_}
 use Rattle.masks.specs.Mask.{odd}
 use Rattle.masks.proofs.Marks.{odd-no}
 use Rattle.masks.proofs.Nodes.{odd-and, odd-or}
-use Rattle.meaning.proofs.Lists.{by-test, choose-true, choose-false}
+use Rattle.meaning.proofs.Lists.{by-test, choose-true, choose-false, upTo-mem}
 use Rattle.metavariables.specs.Survey.{has, meets, count}
 
 -- Any bit, by the laws of the lowest one
@@ -142,3 +142,18 @@ ones-count (suc w) s h =
         let y : length (keep (has s) (upTo (suc w))) ≡ length (keep (has s) (countFrom 1 w)) =
         ap length (choose-false (0 ∷ keep (has s) (countFrom 1 w)) (keep (has s) (countFrom 1 w)) (has-lowest s ∙ e)) in
         omega (arith, rest)
+
+-- The numbers below w alone
+has-low : (s w m : ℕ) → m < w → has (s % 2 ^ w) m ≡ has s m
+has-low s w m h =
+    let j : ℕ = w - suc m in
+    let d : w ≡ suc j + m = omega arith in
+    let e : suc j ≡ j + 1 = omega arith in
+    ap odd (ap (λ (i : ℕ). s % 2 ^ i / 2 ^ m) d ∙ field s (suc j) m)
+    ∙ ap (λ (n : ℕ). eqb n 1) (ap (λ (i : ℕ). s / 2 ^ m % 2 ^ i % 2) e ∙ mod-mod-pow (s / 2 ^ m) j 1)
+
+pub low-count : (w s : ℕ) → ones (s % 2 ^ w) ≡ count w s
+unfolding count
+low-count w s =
+    ones-count w (s % 2 ^ w) (mod-lt s (pow-pos w))
+    ∙ ap length (keep-same (has (s % 2 ^ w)) (has s) (upTo w) (λ m i. has-low s w m (upTo-mem w m i)))

@@ -4,15 +4,15 @@ use mathlib.Core.Path.{_≡_, refl, ap, ap₂, sym, _∙_}
 use mathlib.Core.Bool.{Bool, true, false, _&&_, _||_, not, or-assoc, or-comm}
 use mathlib.Core.List.{List, _∷_}
 use Prim.Native.Nat.{ℕ, suc, _+_, _*_, _%_, _^_, _<_, _≤_}
-use native.Mathlib.Nat.{one-mul, mod-eq-of-lt}
+use native.Mathlib.Nat.{one-mul, mod-eq-of-lt, mod-lt}
 use native.Mathlib.Numerals.{add-one}
 use native.Mathlib.Omega.{arith}
 use lib.ListN.{length, drop, drop-of-length-le}
 use lib.Seq.{drop-cons}
 use lib.Dec.{eqb}
-use lib.Pow.{pow-lt}
+use lib.Pow.{pow-lt, pow-pos}
 use lib.Bits.{bitAnd, bitOr, and-lt}
-use lib.Count.{ones}
+use lib.Count.{ones, ones-le}
 use borrow.Author.Tests.{eq-eqb, ne-eqb}
 use Rattle.meaning.specs.Limits.{metavariableCount}
 use Rattle.meaning.specs.Basics.{choose, keep, upTo, isIn}
@@ -21,14 +21,17 @@ use Rattle.tokens.specs.Token.{tagIn, payloadIn}
 use Rattle.tokens.specs.Key.{at}
 use Rattle.metavariables.specs.declared.Occurring.{Occurring}
 use Rattle.metavariables.specs.Survey.{has, numbers, Added, Marked, Surveyed, meets, count, functionsIn, bothIn}
-use Rattle.metavariables.proofs.BitLaws.{has-or, has-none, has-one, every-same, keep-same, meets-and, ones-count}
+use Rattle.metavariables.proofs.BitLaws.{has-or, has-none, has-one, every-same, keep-same, meets-and, ones-count, low-count}
+
+-- A 1 shifted to bit m
+pub one-shifted : (m : ℕ) → m < 32 → (1 * 2 ^ m) % 2 ^ 32 ≡ 2 ^ m
+one-shifted m h = ap (λ (n : ℕ). n % 2 ^ 32) (one-mul (2 ^ m)) ∙ mod-eq-of-lt (pow-lt h)
 
 module _ (s m : ℕ) where
   pub added-in : m < 32 → Added s m (bitOr s ((1 * 2 ^ m) % 2 ^ 32))
   unfolding Added
   added-in h k l =
-      let e : (1 * 2 ^ m) % 2 ^ 32 ≡ 2 ^ m = ap (λ (n : ℕ). n % 2 ^ 32) (one-mul (2 ^ m)) ∙ mod-eq-of-lt (pow-lt h) in
-      ap (λ (n : ℕ). has (bitOr s n) k) e ∙ has-or s (2 ^ m) k ∙ ap (λ (b : Bool). has s k || b) (has-one k m) ∙ or-comm (has s k) (eqb k m)
+      ap (λ (n : ℕ). has (bitOr s n) k) (one-shifted m h) ∙ has-or s (2 ^ m) k ∙ ap (λ (b : Bool). has s k || b) (has-one k m) ∙ or-comm (has s k) (eqb k m)
 
   pub added-out : 32 ≤ m → Added s m s
   unfolding Added metavariableCount
@@ -91,6 +94,16 @@ module _ (s : ℕ) (fits : s < 2 ^ 32) where
   pub count-code : ones s ≡ count metavariableCount s
   unfolding metavariableCount
   count-code = ones-count 32 s fits
+
+-- The numbers of a set below m, by a shifted 1
+module _ (s m : ℕ) (h : m < 32) where
+  pub rank-small : ones (s % ((1 * 2 ^ m) % 2 ^ 32)) ≤ 32
+  rank-small =
+      let few = ones-le m (s % 2 ^ m) (mod-lt s (pow-pos m)) in
+      omega (arith, ap (λ (n : ℕ). ones (s % n)) (one-shifted m h))
+
+  pub rank-code : ones (s % ((1 * 2 ^ m) % 2 ^ 32)) ≡ count m s
+  rank-code = ap (λ (n : ℕ). ones (s % n)) (one-shifted m h) ∙ low-count m s
 
 -- The sets that were found, against the tokens
 module _ (ps : List ℕ) (s : Occurring) (v : Surveyed ps s) where

@@ -78,3 +78,11 @@ pub fn function_count(functions: u32) -> usize
 {
     u32::count_ones(functions) as usize
 }
+
+// How many of the set have a smaller number than m: the place of m among them, in ascending order.
+pub fn rank(set: u32, m: u32) -> usize
+    requires { ⌜ m < 32 ⌝ }
+    ensures { λ r. ⌜ r ≡ count m set ⌝ }
+{
+    u32::count_ones(set % (1u32 << m)) as usize
+}

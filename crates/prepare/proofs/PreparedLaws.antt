@@ -21,7 +21,7 @@ use Rattle.meaning.proofs.ProblemReading.{accept-accepted}
 use Rattle.tokens.specs.Token.{patternTokens, expressionTokens}
 use Rattle.metavariables.specs.Survey.{count}
 use Rattle.metavariables.proofs.SurveyMeaning.{function-count-means}
-use Rattle.faces.specs.Recorded.{RecordedBy}
+use Rattle.lockstep.specs.Recorded.{RecordedBy}
 use Rattle.faces.specs.First.{Listed, listed}
 use Rattle.faces.specs.declared.first.Firsts.{Firsts}
 use Rattle.faces.specs.Verdict.{FirstsAt}
@@ -91,11 +91,11 @@ module _ (p : Problem) (ps es fs : List ℕ) (a : Standing) (laid : Laid p ps es
       go false e n = let z : firsts .count ≡ 0 = n .none in record { few = omega arith; whole = λ k l. absurd (omega arith) }
 
 -- What `accept` leaves
-length-recorded : (p e : ℕ → Option Term) (ns : List ℕ) (xs : List Face) → RecordedBy p e ns xs → length ns ≡ length xs
-length-recorded p e [] [] r = refl
-length-recorded p e [] (x ∷ xs) r = absurd r
-length-recorded p e (n ∷ ns) [] r = absurd r
-length-recorded p e (n ∷ ns) (x ∷ xs) r = ap suc (length-recorded p e ns xs (r .1))
+length-recorded : (p e : ℕ → Option Term) (d : ℕ → ℕ) (ns : List ℕ) (xs : List Face) → RecordedBy p e d ns xs → length ns ≡ length xs
+length-recorded p e d [] [] r = refl
+length-recorded p e d [] (x ∷ xs) r = absurd r
+length-recorded p e d (n ∷ ns) [] r = absurd r
+length-recorded p e d (n ∷ ns) (x ∷ xs) r = ap suc (length-recorded p e d ns xs (r .1))
 
 front : (xs later ys : List ℕ) (n : ℕ) → n ≡ length xs → ys ≡ xs ++ later → (take n ys ≡ xs) × (n ≤ length ys)
 front xs later ys n l e = (ap (take n) e ∙ take-at xs later n (sym l), omega (arith, ap length e, length-append xs later))
@@ -109,7 +109,7 @@ module _ (s ps ps′ es es′ fs′ : List ℕ) (bytes : All (λ b. b < 256) s) 
       go (some found) e =
           let r = h .recorded found e in
           let n : length found ≡ a .faces = r .0 in
-          let m = length-recorded _ _ (take (a .faces) fs′) found (r .1) in
+          let m = length-recorded _ _ _ (take (a .faces) fs′) found (r .1) in
           let l = length-take (a .faces) fs′ in
           omega arith
 

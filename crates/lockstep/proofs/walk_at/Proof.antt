@@ -27,7 +27,9 @@ returns : tie.Need-returns Inv-loop μ-loop
 returns c =
     let a = c .before .before in
     let s = a .before .before .before .before in
-    walked-disagree (s .args .ps .now) (s .args .es .now) (s .args .out .now) (s .args .span) (s .pre) (a .loop .out) (a .loop .i) (a .loop .j) (a .loop .n) (a .loop .inv) (left-out (s .args .ps .now) (s .args .es .now) (s .args .span) (s .pre .inside) (a .loop .i) (a .loop .j) (c .before .loop-test .taken) (c .if1 .taken))
+    walked-disagree (s .args .ps .now) (s .args .es .now) (s .args .out .now) (s .args .span) (s .pre)
+    (a .loop .out) (a .loop .i) (a .loop .j) (a .loop .n) (a .loop .inv)
+    (left-out (s .args .ps .now) (s .args .es .now) (s .args .span) (s .pre .inside) (a .loop .i) (a .loop .j) (c .before .loop-test .taken) (c .if1 .taken))
 
 mul-x : tie.Need-mul-x Inv-loop μ-loop
 mul-x c = search needs
@@ -75,13 +77,20 @@ loop-less : tie.Need-loop-less Inv-loop μ-loop
 loop-less c =
     let a = c .before .before .before .before .before .before .before .before in
     let s = a .before .before .before .before in
-    omega (arith, s .pre .patterns .counted (a .loop .i) (omega (arith, s .pre .inside, c .before .before .before .before .before .before .before .loop-test .taken)))
+    omega (
+      arith,
+      s .pre .patterns .counted (a .loop .i)
+          (omega (arith, s .pre .inside, c .before .before .before .before .before .before .before .loop-test .taken)),
+    )
 
 loop-again : tie.Need-loop-again Inv-loop μ-loop
 loop-again c =
     let a = c .before .before .before .before .before .before .before .before in
     let s = a .before .before .before .before in
-    let w = walking-face (s .args .ps .now) (s .args .es .now) (s .args .out .now) (s .args .span) (s .pre) (a .loop .out) (a .loop .i) (a .loop .j) (a .loop .n) (a .loop .inv) (c .before .before .before .before .before .before .before .loop-test .taken) (omega arith) (sym (c .before .before .before .is-slot .ensures) ∙ c .before .before .if2 .taken) in
+    let w = walking-face (s .args .ps .now) (s .args .es .now) (s .args .out .now) (s .args .span) (s .pre)
+    (a .loop .out) (a .loop .i) (a .loop .j) (a .loop .n) (a .loop .inv)
+    (c .before .before .before .before .before .before .before .loop-test .taken) (omega arith)
+    (sym (c .before .before .before .is-slot .ensures) ∙ c .before .before .if2 .taken) in
     rw (c .before .size .ensures, c .size2 .ensures) w
 
 same-node-requires : tie.Need-same-node-requires Inv-loop μ-loop
@@ -94,7 +103,9 @@ returns-2 : tie.Need-returns-2 Inv-loop μ-loop
 returns-2 c =
     let a = c .before .before .before .before .before .before .before .before in
     let s = a .before .before .before .before in
-    walked-disagree (s .args .ps .now) (s .args .es .now) (s .args .out .now) (s .args .span) (s .pre) (a .loop .out) (a .loop .i) (a .loop .j) (a .loop .n) (a .loop .inv) (left-differs (s .args .ps .now) (s .args .es .now) (s .args .span) (s .pre .inside) (a .loop .i) (a .loop .j) (c .before .before .before .before .before .before .before .loop-test .taken) (omega arith)
+    walked-disagree (s .args .ps .now) (s .args .es .now) (s .args .out .now) (s .args .span) (s .pre)
+    (a .loop .out) (a .loop .i) (a .loop .j) (a .loop .n) (a .loop .inv)
+    (left-differs (s .args .ps .now) (s .args .es .now) (s .args .span) (s .pre .inside) (a .loop .i) (a .loop .j) (c .before .before .before .before .before .before .before .loop-test .taken) (omega arith)
     (sym (c .before .before .before .is-slot .ensures) ∙ c .before .before .if2 .left) (sym (c .before .same-node .ensures) ∙ not-true _ (c .if3 .taken)))
 
 add-i-2 : tie.Need-add-i-2 Inv-loop μ-loop
@@ -110,7 +121,9 @@ loop-again-2 : tie.Need-loop-again-2 Inv-loop μ-loop
 loop-again-2 c =
     let a = c .before .before .before .before .before .before .before .before in
     let s = a .before .before .before .before in
-    walking-same (s .args .ps .now) (s .args .es .now) (s .args .out .now) (s .args .span) (s .pre) (a .loop .out) (a .loop .i) (a .loop .j) (a .loop .n) (a .loop .inv) (c .before .before .before .before .before .before .before .loop-test .taken) (omega arith)
+    walking-same (s .args .ps .now) (s .args .es .now) (s .args .out .now) (s .args .span) (s .pre)
+    (a .loop .out) (a .loop .i) (a .loop .j) (a .loop .n) (a .loop .inv)
+    (c .before .before .before .before .before .before .before .loop-test .taken) (omega arith)
     (sym (c .before .before .before .is-slot .ensures) ∙ c .before .before .if2 .left) (sym (c .before .same-node .ensures) ∙ not-false _ (c .if3 .left))
 
 same-length-3 : tie.Need-same-length-3 Inv-loop μ-loop
@@ -120,7 +133,9 @@ returns-3 : tie.Need-returns-3 Inv-loop μ-loop
 returns-3 c =
     let a = c .before in
     let s = a .before .before .before .before in
-    walked-end (s .args .ps .now) (s .args .es .now) (s .args .out .now) (s .args .span) (s .pre) (a .loop .out) (a .loop .i) (a .loop .j) (a .loop .n) (a .loop .inv) (c .loop-test .left)
+    walked-end (s .args .ps .now) (s .args .es .now) (s .args .out .now) (s .args .span) (s .pre)
+    (a .loop .out) (a .loop .i) (a .loop .j) (a .loop .n) (a .loop .inv)
+    (c .loop-test .left)
 
 pub walk-at-spec : {M : Type 1} → statement M
 walk-at-spec =

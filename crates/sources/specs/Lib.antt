@@ -1,0 +1,3 @@
+-- Demands on the metavariables, one after the other, on the token tables.
+pub mod Demand
+pub mod Kept
