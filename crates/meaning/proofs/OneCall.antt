@@ -90,7 +90,7 @@ module _ {R : Type 0} (isSolution : R → Bool) where
   alike e (pauses xs r later a l) (pauses ys s later′ b m) = bothPause
 
   -- One row more that is no solution, and one more of the allowance
-  one-before : {n : ℕ} {from : List R} {reply : Reply R (Place R)} (x : R)
+  pub one-before : {n : ℕ} {from : List R} {reply : Reply R (Place R)} (x : R)
       → isSolution x ≡ false → Keeps isSolution n from reply → Keeps isSolution (suc n) (x ∷ from) reply
   one-before x e (finds skipped r later a h l) = finds (x ∷ skipped) r later (e, a) h (omega arith)
   one-before x e (ends from a l) = ends (x ∷ from) (e, a) (omega arith)

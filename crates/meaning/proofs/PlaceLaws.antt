@@ -186,7 +186,7 @@ named-place p v = go (named-row p v) (same-value v (placeValue past))
         none past n = e (n .isValue)
 
 -- The rows from a place on
-mem-split : {A : Type 0} (x : A) (xs : List A) → x ∈ xs → (before later : List A) × (xs ≡ before ++ (x ∷ later))
+pub mem-split : {A : Type 0} (x : A) (xs : List A) → x ∈ xs → (before later : List A) × (xs ≡ before ++ (x ∷ later))
 mem-split x [] m = absurd (List·Memᴰ·not-nil m)
 mem-split {A} x (y ∷ ys) m = ⊎-elim here (λ q. there (mem-split x ys q)) (List·Memᴰ·cases-cons m)
   where

@@ -22,9 +22,9 @@ use Rattle.classes.specs.Tabled.{Tabled}
 use Rattle.classes.proofs.Problem.{row-masks, first-row-of, tabled-tables}
 use Rattle.accept.specs.declared.Standing.{Standing}
 use Rattle.accept.specs.declared.Verdict.the-variants as verdicts
-use Rattle.prepare.specs.Prepared.{Prepares}
+use Rattle.prepare.specs.Prepared.{Prepares, Ready}
 use Rattle.prepare.specs.declared.Prepared.{Prepared}
-use Rattle.prepare.proofs.PreparedLaws.{Ready, prepared-refused, prepared-accepted, ready-tables}
+use Rattle.prepare.proofs.PreparedLaws.{prepared-refused, prepared-accepted, ready-tables}
 use Rattle.places.specs.Places.{valueOf, AtRow, AtPast, IsRowOf, Opens, Begins, Starts}
 use Rattle.places.specs.declared.Place as code
 use Rattle.places.specs.declared.Started.{Started}
@@ -39,15 +39,15 @@ no-rows p e = go (faces p) e
     go (some xs) e = absurd (true≢false e)
 
 -- Values by their parts
-row-value : (r : Row) → placeValue (at r) ≡ record { masks = masksOf r; isPast = false }
+pub row-value : (r : Row) → placeValue (at r) ≡ record { masks = masksOf r; isPast = false }
 unfolding placeValue
 row-value r = refl
 
-past-value : placeValue past ≡ record { masks = replicate maxFunctions 0; isPast = true }
+pub past-value : placeValue past ≡ record { masks = replicate maxFunctions 0; isPast = true }
 unfolding placeValue
 past-value = refl
 
-same-value : (v : code.Place) (w : PlaceValue) → v .masks ≡ w .masks → v .past ≡ w .isPast → valueOf v ≡ w
+pub same-value : (v : code.Place) (w : PlaceValue) → v .masks ≡ w .masks → v .past ≡ w .isPast → valueOf v ≡ w
 same-value v w e f = λ i. record { masks = e i; isPast = f i }
 
 module _ (p : Problem) (a : Accepted p) (ds : List ℕ) (agree : Bool) (told : agree ≡ isSome (faces p)) (tabled : agree ≡ true → Tabled p ds)

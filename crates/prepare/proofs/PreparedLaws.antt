@@ -35,7 +35,7 @@ use Rattle.table.specs.Whole.{tableRoom}
 use Rattle.accept.specs.Acceptance.{Stands, Accepts, Rooms}
 use Rattle.accept.specs.declared.Standing.{Standing}
 use Rattle.accept.specs.declared.Verdict.the-variants as verdicts
-use Rattle.prepare.specs.Prepared.{NoFaces, NodesOf, Laid, Ground, Tabled, Tabling, Prepares}
+use Rattle.prepare.specs.Prepared.{NoFaces, NodesOf, Laid, Ground, Tabled, Tabling, Prepares, Ready}
 use Rattle.prepare.specs.declared.Prepared.{Prepared}
 
 -- The two answers of `nodes_of`
@@ -167,12 +167,6 @@ pub prepared-refused : (x : Answer Problem) (ps es fs ds : List ℕ) (r : Prepar
 unfolding Prepares
 prepared-refused (refused m) ps es fs ds r n h e = let z : m ≡ n = cc in ap refused z
 prepared-refused (got p) ps es fs ds r n h e = absurd (let v = h .2 .verdict in let z : _≡_ {A = ℕ} 0 1 = cc in omega arith)
-
-pub record Ready (x : Answer Problem) (ps es fs ds : List ℕ) (a : Standing) (firsts : Firsts) : Type 0 where
-  pub problem : Problem
-  pub answer : x ≡ got problem
-  pub laid : Laid problem ps es fs a
-  pub tabled : Tabled ps es fs ds a firsts
 
 pub prepared-accepted : (x : Answer Problem) (ps es fs ds : List ℕ) (r : Prepared) (a : Standing) → Prepares x ps es fs ds r
     → r .verdict ≡ verdicts.Accepted a → Ready x ps es fs ds a (r .firsts)

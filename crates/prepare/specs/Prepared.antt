@@ -61,3 +61,10 @@ pub record Tabling (ps es fs ds : List ℕ) (a : Standing) (r : Prepared) : Type
 unfoldable pub Prepares : Answer Problem → List ℕ → List ℕ → List ℕ → List ℕ → Prepared → Type 0
 Prepares (refused n) ps es fs ds r = r .verdict ≡ verdicts.Refused n
 Prepares (got p) ps es fs ds r = (a : Standing) × Laid p ps es fs a × Tabling ps es fs ds a r
+
+-- What a caller has of an accepted problem
+pub record Ready (x : Answer Problem) (ps es fs ds : List ℕ) (a : Standing) (firsts : Firsts) : Type 0 where
+  pub problem : Problem
+  pub answer : x ≡ got problem
+  pub laid : Laid problem ps es fs a
+  pub tabled : Tabled ps es fs ds a firsts

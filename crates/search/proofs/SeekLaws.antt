@@ -1,0 +1,159 @@
+-- Judging rows one after the other: what each call requires, and a law for each answer.
+use mathlib.Core.Path.{_≡_, refl, ap, sym, _∙_, subst}
+use mathlib.Core.Bool.{Bool, true, false, true≢false, false≢true}
+use mathlib.Core.List.{List, [], _∷_, _++_, append-assoc, List·Memᴰ·head, List·Memᴰ·tail, Memᴰ·append-right}
+use Prim.Native.Nat.{ℕ, suc, _+_, _-_, _<_}
+use native.Mathlib.Omega.{arith}
+use lib.ListN.{length, replicate}
+use Rattle.meaning.specs.Limits.{maxFunctions}
+use Rattle.meaning.specs.Basics.{choose, isSome, _∈_}
+use Rattle.meaning.specs.Search.{Place, at, past, placeOf, Reply, found, end, paused, Keeps, finds, ends, pauses}
+use Rattle.meaning.proofs.Lists.{never}
+use Rattle.meaning.proofs.PlaceLaws.{mem-split}
+use Rattle.meaning.proofs.OneCall.{one-before}
+use Rattle.rows.specs.Rows.{MaskRow, maskRows, Tables, Steps}
+use Rattle.classes.proofs.Problem.{row-masks, tabled-tables}
+use Rattle.places.specs.Places.{AtRow, AtPast}
+use Rattle.places.specs.declared.Place as code
+use Rattle.fit.specs.Laid.{Laid, RowOf, Judgeable}
+use Rattle.search.specs.Seeking.{judged, Grounded, Seekable, Turned, Passed, Ended, Paused, maskPlace, maskReply, Seeks}
+use Rattle.search.specs.declared.seek.Fixed.{Fixed}
+use Rattle.search.specs.declared.seek.Turn.{Turn}
+use Rattle.search.specs.declared.seek.Answer.{Answer}
+use Rattle.search.specs.declared.seek.Answer.the-variants as answers
+use Rattle.search.specs.declared.seek.Searched.{Searched}
+
+module _ (ps es fs ds : List ℕ) (fixed : Fixed) (row : MaskRow) (scratch : List ℕ) (h : Seekable ps es fs ds fixed row scratch) where
+  abbrev ground : Grounded ps es fs ds fixed scratch
+  ground = h .grounded
+
+  -- What `judge` requires
+  pub seekable-judgeable : Judgeable ps es fs (fixed .functions) (fixed .firsts) row scratch
+  seekable-judgeable =
+      let laid = ground .laid in
+      let (r, m, e) = row-masks (ground .problem) ds (laid .accepted) (ap isSome (laid .agree)) (ground .tabled) row .0 (h .isRow) in
+      record { problem = ground .problem; laid = laid; isRow = record { choices = r; isRow = m; masks = e }; room = ground .room }
+
+  -- What `next_row` requires
+  pub seekable-tables : Tables ds
+  seekable-tables = tabled-tables (ground .problem) ds (ground .tabled)
+
+-- Places
+at-place : (v : code.Place) (row : MaskRow) → AtRow row v → maskPlace v ≡ at row
+at-place v row h = ap (λ (b : Bool). choose b past (at (v .masks))) (h .here) ∙ ap at (h .masks)
+
+past-place : (v : code.Place) → AtPast v → maskPlace v ≡ past
+past-place v h = ap (λ (b : Bool). choose b past (at (v .masks))) (h .past)
+
+-- The place after a row
+later-place : (t : Turn) (row : MaskRow) (r : Searched) (ds : List ℕ) (before later : List MaskRow) → Steps ds row (t .more) (t .next) → Passed row t r
+    → maskRows ds ≡ before ++ (row ∷ later) → maskPlace (r .place) ≡ placeOf later
+unfolding Steps
+later-place t row r ds before later s p e = go (t .more) refl
+  where
+    go : (b : Bool) → t .more ≡ b → maskPlace (r .place) ≡ placeOf later
+    go true q = at-place (r .place) (t .next) (p .more q) ∙ sym (s before later e .goes q)
+    go false q = past-place (r .place) (p .last q) ∙ sym (s before later e .ends q)
+
+module _ (ps es fs ds : List ℕ) (fixed : Fixed) (row : MaskRow) where
+  abbrev test : MaskRow → Bool
+  test r = judged ps es fs fixed r
+
+  abbrev KeepsFrom : ℕ → Searched → Type 0
+  KeepsFrom n r =
+      (before later : List MaskRow) → maskRows ds ≡ before ++ (row ∷ later)
+      → Keeps test n (row ∷ later) (maskReply (r .answer) (r .row) (r .place))
+
+  -- A Found
+  keeps-found : (n : ℕ) (t : Turn) (r : Searched) → 0 < n → Turned ps es fs ds fixed row t → t .solves ≡ true → Passed row t r → KeepsFrom n r
+  keeps-found n t r l h s p before later e =
+      let reply : maskReply (r .answer) (r .row) (r .place) ≡ found row (placeOf later) =
+      rw (p .answer, p .here, later-place t row r ds before later (h .steps) p e) in
+      subst (Keeps test n (row ∷ later)) (sym reply) (finds [] row later tt (sym (h .solves) ∙ s) l)
+
+  pub seeks-found : (n : ℕ) (t : Turn) (r : Searched) → 0 < n → Turned ps es fs ds fixed row t → t .solves ≡ true → Passed row t r
+      → Seeks ps es fs ds fixed row n r
+  seeks-found n t r l h s p = record { keeps = keeps-found n t r l h s p; clean = λ q. clean (t .more) refl q }
+    where
+      clean : (b : Bool) → t .more ≡ b → r .place .past ≡ true → r .place .masks ≡ replicate maxFunctions 0
+      clean true m q = absurd (true≢false (sym q ∙ p .more m .here))
+      clean false m q = p .last m .masks
+
+  -- An End: no row follows
+  no-later : (t : Turn) (before later : List MaskRow) → Steps ds row (t .more) (t .next) → t .more ≡ false → maskRows ds ≡ before ++ (row ∷ later)
+      → later ≡ []
+  unfolding Steps
+  no-later t before [] s m e = refl
+  no-later t before (x ∷ xs) s m e = never (let z = s before (x ∷ xs) e .ends m in cc)
+
+  pub seeks-ended : (n : ℕ) (t : Turn) (r : Searched) → 0 < n → Turned ps es fs ds fixed row t → t .solves ≡ false → t .more ≡ false → Ended r
+      → Seeks ps es fs ds fixed row n r
+  seeks-ended n t r l h s m d = record {
+    keeps = λ before later e.
+        let none = no-later t before later (h .steps) m e in
+        let reply : maskReply (r .answer) (r .row) (r .place) ≡ end past = rw (d .answer, past-place (r .place) (d .place)) in
+        subst (Keeps test n (row ∷ later)) (sym reply)
+        (subst (λ (l : List MaskRow). Keeps test n (row ∷ l) (end past)) (sym none) (ends (row ∷ []) (sym (h .solves) ∙ s, tt) (omega arith)));
+    clean = λ q. d .place .masks;
+  }
+
+  -- A pause, where no allowance is left
+  pub seeks-paused : (n : ℕ) (r : Searched) → n ≡ 0 → Paused row r → Seeks ps es fs ds fixed row n r
+  seeks-paused n r z d = record {
+    keeps = λ before later e.
+        let reply : maskReply (r .answer) (r .row) (r .place) ≡ paused (at row) = rw (d .answer, at-place (r .place) row (d .place)) in
+        subst (Keeps test n (row ∷ later)) (sym reply) (pauses [] row later tt (omega arith));
+    clean = λ q. absurd (true≢false (sym q ∙ d .place .here));
+  }
+
+  -- One row is passed
+  begins-with : (next : MaskRow) (later : List MaskRow) → placeOf later ≡ at next → (rest : List MaskRow) × (later ≡ next ∷ rest)
+  begins-with next [] e = never (cc)
+  begins-with next (x ∷ xs) e = (xs, let z : x ≡ next = cc in ap {B = List MaskRow} (λ y. y ∷ xs) z)
+
+  pub seeks-on : (n m : ℕ) (t : Turn) (r : Searched) → n ≡ suc m → Turned ps es fs ds fixed row t → t .solves ≡ false → t .more ≡ true
+      → Seeks ps es fs ds fixed (t .next) m r → Seeks ps es fs ds fixed row n r
+  unfolding Steps
+  seeks-on n m t r z h s g k = record {
+    keeps = λ before later e.
+        let (rest, q) = begins-with (t .next) later (h .steps before later e .goes g) in
+        let on : maskRows ds ≡ (before ++ (row ∷ [])) ++ (t .next ∷ rest) =
+        e ∙ ap (λ (l : List MaskRow). before ++ (row ∷ l)) q ∙ sym (append-assoc before (row ∷ []) (t .next ∷ rest)) in
+        let kept = one-before test row (sym (h .solves) ∙ s) (k .keeps (before ++ (row ∷ [])) rest on) in
+        rw (z, q) kept;
+    clean = k .clean;
+  }
+
+  -- ... and the next is again one of the tables
+  pub next-member : (t : Turn) → Turned ps es fs ds fixed row t → t .more ≡ true → row ∈ maskRows ds → t .next ∈ maskRows ds
+  unfolding Steps
+  next-member t h g m =
+      let (before, later, e) = mem-split row (maskRows ds) m in
+      let (rest, q) = begins-with (t .next) later (h .steps before later e .goes g) in
+      subst (λ (l : List MaskRow). t .next ∈ l) (sym (e ∙ ap (λ (l : List MaskRow). before ++ (row ∷ l)) q))
+      (Memᴰ·append-right before (List·Memᴰ·tail (List·Memᴰ·head refl)))
+
+  pub seekable-next : (scratch scratch′ : List ℕ) (t : Turn) → Seekable ps es fs ds fixed row scratch → Turned ps es fs ds fixed row t
+      → t .more ≡ true → length scratch′ ≡ length scratch → Seekable ps es fs ds fixed (t .next) scratch′
+  seekable-next scratch scratch′ t h d g l =
+      let ground = h .grounded in
+      let room = ground .room in
+      record {
+        grounded = record {
+          problem = ground .problem;
+          laid = ground .laid;
+          tabled = ground .tabled;
+          first = ground .first;
+          room = omega arith;
+        };
+        isRow = next-member t d g (h .isRow);
+      }
+
+-- The answers of `found_at`
+pub passed-more : (row : MaskRow) (t : Turn) (r : Searched) → t .more ≡ true → r .answer ≡ answers.Found → r .row ≡ row → AtRow (t .next) (r .place)
+    → Passed row t r
+passed-more row t r e a h p = record { answer = a; here = h; more = λ q. p; last = λ q. absurd (true≢false (sym e ∙ q)) }
+
+pub passed-last : (row : MaskRow) (t : Turn) (r : Searched) → t .more ≡ false → r .answer ≡ answers.Found → r .row ≡ row → AtPast (r .place)
+    → Passed row t r
+passed-last row t r e a h p = record { answer = a; here = h; more = λ q. absurd (true≢false (sym q ∙ e)); last = λ q. p }

@@ -1,0 +1,72 @@
+-- `from_place` meets its contract: a law for each answer.
+use mathlib.Core.Path.{subst}
+use borrow.Author.Needs.{needs}
+use Rattle.places.specs.Places.{Tells}
+use Rattle.search.proofs.CallLaws.{placed-zero, placed-nowhere, placed-past, placed-row, tells-is-row}
+use Rattle.search.proofs.call.from_place.Statement.{statement}
+use Rattle.search.proofs.call.from_place.Tie as tie
+
+refused-requires : tie.Need-refused-requires
+refused-requires c κs = search needs
+
+returns : tie.Need-returns
+returns c = placed-zero _ _ _ _ _ _ _ _ _ (c .before .if1 .taken) (c .refused .ensures)
+
+named-requires : tie.Need-named-requires
+named-requires c κs = c .before .before .before .before .before .before .pre .ready .tabled .tables .long
+
+enum-told : tie.Need-enum-told
+enum-told c = search needs
+
+refused-requires-2 : tie.Need-refused-requires-2
+refused-requires-2 c κs = search needs
+
+enum-told-2 : tie.Need-enum-told-2
+enum-told-2 c = search needs
+
+ended-requires : tie.Need-ended-requires
+ended-requires c κs = search needs
+
+enum-told-3 : tie.Need-enum-told-3
+enum-told-3 c = search needs
+
+from-row-requires : tie.Need-from-row-requires
+from-row-requires c κs =
+    let told = c .before in
+    (c .before .before .before .before .before .before .before .before .before .before .pre, tells-is-row _ _ _ (subst (Tells _ _ _) (told .enum-told3 .given .1) (c .before .before .before .named .ensures)))
+
+returns-2 : tie.Need-returns-2
+returns-2 c =
+    placed-nowhere _ _ _ _ _ _ _ _ _ (c .before .before .before .before .if1 .left) (subst (Tells _ _ _) (c .before .enum-told .given .1) (c .before .before .before .named .ensures))
+    (c .refused2 .ensures)
+
+returns-3 : tie.Need-returns-3
+returns-3 c =
+    placed-past _ _ _ _ _ _ _ _ _ (c .before .before .before .before .if1 .left) (subst (Tells _ _ _) (c .before .enum-told2 .given .1) (c .before .before .before .named .ensures))
+    (c .ended .ensures)
+
+same-length : tie.Need-same-length
+same-length c = search needs
+
+returns-4 : tie.Need-returns-4
+returns-4 c =
+    placed-row _ _ _ _ _ _ _ _ _ (c .before .before .before .before .before .before .before .if1 .left) (subst (Tells _ _ _) (c .before .before .before .before .enum-told3 .given .1) (c .before .before .before .before .before .before .named .ensures))
+    (c .before .before .from-row .ensures)
+
+pub from-place-spec : {M : Type 1} → statement M
+from-place-spec =
+    tie.close
+    (tie.spec
+    refused-requires
+    returns
+    named-requires
+    enum-told
+    refused-requires-2
+    enum-told-2
+    ended-requires
+    enum-told-3
+    from-row-requires
+    returns-2
+    returns-3
+    same-length
+    returns-4)

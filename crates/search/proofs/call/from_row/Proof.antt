@@ -1,0 +1,42 @@
+-- `from_row` meets its contract.
+use mathlib.Core.Path.{refl, sym}
+use lib.Seq.{length-take-le}
+use borrow.Author.Needs.{needs}
+use Rattle.search.proofs.CallLaws.{callable-tables, callable-seekable}
+use Rattle.search.proofs.call.from_row.Statement.{statement}
+use Rattle.search.proofs.call.from_row.Tie as tie
+
+first-row-requires : tie.Need-first-row-requires
+first-row-requires c κs = callable-tables _ _ _ _ _ _ _ (c .before .before .before .before .before .before .pre .0) _ (c .before .before .before .before .before .before .pre .1)
+
+slice-aggregate-seek : tie.Need-slice-aggregate-seek
+slice-aggregate-seek c = sym (length-take-le _ _ (c .before .before .before .before .before .before .before .before .pre .0 .ready .laid .patternsInside))
+
+slice-aggregate-seek-2 : tie.Need-slice-aggregate-seek-2
+slice-aggregate-seek-2 c = sym (length-take-le _ _ (c .before .before .before .before .before .before .before .before .before .pre .0 .ready .laid .expressionsInside))
+
+slice-aggregate-seek-3 : tie.Need-slice-aggregate-seek-3
+slice-aggregate-seek-3 c = sym (length-take-le _ _ (c .before .before .before .before .before .before .before .before .before .before .pre .0 .ready .laid .facesInside))
+
+seek-requires : tie.Need-seek-requires
+seek-requires c κs =
+    let s = c .before .before .before .before .before .before .before .before .before .before .before in
+    callable-seekable _ _ _ _ _ _ _ (s .pre .0) _ (s .pre .1) _ (c .before .before .before .before .first-row .ensures)
+
+same-length : tie.Need-same-length
+same-length c = search needs
+
+returns : tie.Need-returns
+returns c = record { fixed = _; functions = refl; firstNodes = refl; seeks = c .before .before .seek .ensures }
+
+pub from-row-spec : {M : Type 1} → statement M
+from-row-spec =
+    tie.close
+    (tie.spec
+    first-row-requires
+    slice-aggregate-seek
+    slice-aggregate-seek-2
+    slice-aggregate-seek-3
+    seek-requires
+    same-length
+    returns)

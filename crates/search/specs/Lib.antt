@@ -1,0 +1,3 @@
+-- What the search promises.
+pub mod Seeking
+pub mod Calling

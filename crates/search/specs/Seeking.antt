@@ -1,0 +1,80 @@
+-- Judging rows one after the other, in terms of the tables.
+--   judged     whether a row of masks is a solution row, by the test on the tables
+--   Rowed      what one row's turn requires; Seekable, what a search from a row on requires
+--   maskReply  an answer in terms of rows of masks
+--   Seeks      the promise of one call (`Keeps`) over the rows of the tables from a row on
+use mathlib.Core.Path.{_≡_}
+use mathlib.Core.Bool.{Bool, true, false}
+use mathlib.Core.List.{List, _∷_, _++_}
+use Prim.Native.Nat.{ℕ, _≤_}
+use lib.ListN.{length, replicate}
+use Rattle.meaning.specs.Limits.{maxFunctions}
+use Rattle.meaning.specs.Basics.{choose, isSome, _∈_}
+use Rattle.meaning.specs.Problem.{Problem}
+use Rattle.meaning.specs.Search.{at, past, placeOf, Reply, found, end, paused, refusedCall, Keeps}
+use Rattle.meaning.specs.Search as meant
+use Rattle.rows.specs.Rows.{MaskRow, maskRows, Tables, Steps}
+use Rattle.classes.specs.Tabled.{Tabled}
+use Rattle.places.specs.Places.{AtRow, AtPast}
+use Rattle.places.specs.declared.Place.{Place}
+use Rattle.fit.specs.Judging.{judgedAt}
+use Rattle.fit.specs.Laid.{Laid}
+use Rattle.search.specs.declared.seek.Fixed.{Fixed}
+use Rattle.search.specs.declared.seek.Turn.{Turn}
+use Rattle.search.specs.declared.seek.Answer.{Answer}
+use Rattle.search.specs.declared.seek.Answer.the-variants as answers
+use Rattle.search.specs.declared.seek.Searched.{Searched}
+
+abbrev pub judged : List ℕ → List ℕ → List ℕ → Fixed → MaskRow → Bool
+judged ps es fs fixed row = isSome (judgedAt ps es fs (fixed .functions) (fixed .firsts) row)
+
+-- The tables are those of an accepted problem whose shapes agree, and the first row is theirs
+pub record Grounded (ps es fs ds : List ℕ) (fixed : Fixed) (scratch : List ℕ) : Type 0 where
+  pub problem : Problem
+  pub laid : Laid problem ps es fs (fixed .functions) (fixed .firsts)
+  pub tabled : Tabled problem ds
+  pub first : placeOf (maskRows ds) ≡ at (fixed .first)
+  pub room : length ps ≤ length scratch
+
+-- ... and the row is one of theirs
+pub record Seekable (ps es fs ds : List ℕ) (fixed : Fixed) (row : MaskRow) (scratch : List ℕ) : Type 0 where
+  pub grounded : Grounded ps es fs ds fixed scratch
+  pub isRow : row ∈ maskRows ds
+
+pub record Turned (ps es fs ds : List ℕ) (fixed : Fixed) (row : MaskRow) (r : Turn) : Type 0 where
+  pub solves : r .solves ≡ judged ps es fs fixed row
+  pub steps : Steps ds row (r .more) (r .next)
+
+-- The answers of a search from a row on
+pub record Passed (row : MaskRow) (t : Turn) (r : Searched) : Type 0 where
+  pub answer : r .answer ≡ answers.Found
+  pub here : r .row ≡ row
+  pub more : t .more ≡ true → AtRow (t .next) (r .place)
+  pub last : t .more ≡ false → AtPast (r .place)
+
+pub record Ended (r : Searched) : Type 0 where
+  pub answer : r .answer ≡ answers.End
+  pub place : AtPast (r .place)
+
+pub record Paused (row : MaskRow) (r : Searched) : Type 0 where
+  pub answer : r .answer ≡ answers.Paused
+  pub place : AtRow row (r .place)
+
+-- A place and an answer in terms of rows of masks
+abbrev pub maskPlace : Place → meant.Place MaskRow
+maskPlace v = choose (v .past) past (at (v .masks))
+
+abbrev pub maskReply : Answer → MaskRow → Place → Reply MaskRow (meant.Place MaskRow)
+maskReply (answers.Refused n) row v = refusedCall n
+maskReply answers.Found row v = found row (maskPlace v)
+maskReply answers.End row v = end (maskPlace v)
+maskReply answers.Paused row v = paused (maskPlace v)
+
+-- Past the last no mask has a node
+abbrev pub Clean : Place → Type 0
+Clean v = v .past ≡ true → v .masks ≡ replicate maxFunctions 0
+
+pub record Seeks (ps es fs ds : List ℕ) (fixed : Fixed) (row : MaskRow) (n : ℕ) (r : Searched) : Type 0 where
+  pub keeps : (before later : List MaskRow) → maskRows ds ≡ before ++ (row ∷ later)
+      → Keeps (judged ps es fs fixed) n (row ∷ later) (maskReply (r .answer) (r .row) (r .place))
+  pub clean : Clean (r .place)

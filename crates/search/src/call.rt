@@ -1,0 +1,101 @@
+// One search call, from any bytes, any place and any allowance.
+use crate::seek::Answer;
+use crate::seek::Fixed;
+use crate::seek::Searched;
+use crate::seek::ended;
+use crate::seek::seek;
+use accept::Standing;
+use accept::Verdict;
+use faces::first::Firsts;
+use places::Named;
+use places::Place;
+use prepare::prepare;
+use rows::first_row;
+use table::TABLE_ROOM;
+ghost use mathlib.Core.Path.{_≡_};
+ghost use mathlib.Core.Bool.{true};
+ghost use Rattle.rows.specs.Rows.{Tables};
+ghost use Rattle.places.specs.Places.{IsRowOf};
+ghost use Rattle.search.specs.Calling.{Refuses, Callable, Sought, Placed, Answers};
+
+// "A refusal returns its number only. The output buffer and open search stay": the place is the one that was handed in.
+fn refused(number: u8, place: Place) -> Searched
+    ensures { λ r. ⌜ Refuses number place r ⌝ }
+{
+    Searched {
+        answer: Answer::Refused(number),
+        place: place,
+        row: [0u64; Place::FUNCTIONS],
+    }
+}
+
+// From a row of the problem on.
+fn from_row(
+    a: Standing,
+    firsts: Firsts,
+    place: Place,
+    n: u32,
+    ps: &[u64],
+    es: &[u64],
+    fs: &[u64],
+    ds: &[u64],
+    scratch: &mut [u64],
+) -> Searched
+    requires { ⌜ Callable (now ps) (now es) (now fs) (now ds) a firsts (now scratch) ⌝ ∗ ⌜ IsRowOf place (a .agree) (now ds) ⌝ }
+    ensures { λ r. ⌜ Sought (now (ps .entry)) (now (es .entry)) (now (fs .entry)) (now (ds .entry)) a firsts (place .masks) n r ⌝ }
+{
+    let p = a.patterns;
+    let e = a.expressions;
+    let k = a.faces;
+    let row = place.masks;
+    let fixed = Fixed {
+        functions: a.occurring.functions,
+        firsts: firsts,
+        first: first_row(ds),
+    };
+    seek(&ps[..p], &es[..e], &fs[..k], ds, fixed, row, n, scratch)
+}
+
+// "15 n is 0; 16 no such place", and else from the place on.
+fn from_place(
+    a: Standing,
+    firsts: Firsts,
+    place: Place,
+    n: u32,
+    ps: &[u64],
+    es: &[u64],
+    fs: &[u64],
+    ds: &[u64],
+    scratch: &mut [u64],
+) -> Searched
+    requires { ⌜ Callable (now ps) (now es) (now fs) (now ds) a firsts (now scratch) ⌝ }
+    ensures { λ r. ⌜ Placed (now (ps .entry)) (now (es .entry)) (now (fs .entry)) (now (ds .entry)) a firsts place n r ⌝ }
+{
+    if n == 0 {
+        return refused(15, place);
+    }
+    let named = place.named(a.agree, ds);
+    match named {
+        Named::Nothing => refused(16, place),
+        Named::Past => ended(),
+        Named::Row => from_row(a, firsts, place, n, ps, es, fs, ds, scratch),
+    }
+}
+
+// A call on any bytes, place and allowance: document 01's answer, with the place that it leaves.
+pub fn search(problem: &[u8], place: Place, n: u32) -> Searched
+    ensures { λ r. ⌜ Answers (now (problem .entry)) place n r ⌝ }
+{
+    let mut ps = [0u64; TABLE_ROOM];
+    let mut es = [0u64; TABLE_ROOM];
+    let mut fs = [0u64; TABLE_ROOM];
+    let mut ds = [0u64; Place::FUNCTIONS * Place::FACE_NODES];
+    let mut scratch = [0u64; TABLE_ROOM];
+    let prepared = prepare(problem, &mut ps, &mut es, &mut fs, &mut ds);
+    let firsts = prepared.firsts;
+    let verdict = prepared.verdict;
+    match verdict {
+        Verdict::Refused(r) => refused(r, place),
+        Verdict::Accepted(a) => from_place(a, firsts, place, n, &ps, &es, &fs, &ds, &mut scratch),
+    }
+}

@@ -1,0 +1,128 @@
+// Judging rows one after the other, from a row of a prepared problem on. What happens here once a row is small and allocates nothing.
+use faces::first::Firsts;
+use fit::judge;
+use places::Place;
+use rows::next_row;
+ghost use Prim.Native.Nat.{_<_};
+ghost use Rattle.search.specs.Seeking.{Turned, Passed, Ended, Paused, Seekable, Seeks};
+
+// What stays the same from row to row: the set of functions, the nodes of their faces, and the first row, which `next_row` is lent.
+pub struct Fixed {
+    pub functions: u32,
+    pub firsts: Firsts,
+    pub first: [u64; Place::FUNCTIONS],
+}
+
+// One row: whether it is a solution row, and the row after it, if there is one.
+pub struct Turn {
+    pub solves: bool,
+    pub more: bool,
+    pub next: [u64; Place::FUNCTIONS],
+}
+
+pub enum Answer {
+    // "15 n is 0; 16 no such place", and 1 to 14
+    Refused(u8),
+    Found,
+    End,
+    Paused,
+}
+
+// The answer, with the place that the call leaves, and the row of a Found beside it; no other answer's row means anything.
+pub struct Searched {
+    pub answer: Answer,
+    pub place: Place,
+    pub row: [u64; Place::FUNCTIONS],
+}
+
+fn look_at(
+    ps: &[u64],
+    es: &[u64],
+    fs: &[u64],
+    ds: &[u64],
+    fixed: Fixed,
+    row: [u64; Place::FUNCTIONS],
+    scratch: &mut [u64],
+) -> Turn
+    requires { ⌜ Seekable (now ps) (now es) (now fs) (now ds) fixed row (now scratch) ⌝ }
+    ensures { λ r. ⌜ Turned (now (ps .entry)) (now (es .entry)) (now (fs .entry)) (now (ds .entry)) fixed row r ⌝ }
+{
+    let firsts = fixed.firsts;
+    let first = fixed.first;
+    let judged = judge(ps, es, fs, fixed.functions, firsts, row, scratch);
+    let stepped = next_row(ds, first, row);
+    let next = stepped.row;
+    Turn {
+        solves: judged.solves,
+        more: stepped.more,
+        next: next,
+    }
+}
+
+// A Found at the row, and the place after it.
+fn found_at(row: [u64; Place::FUNCTIONS], turn: Turn) -> Searched
+    ensures { λ r. ⌜ Passed row turn r ⌝ }
+{
+    let next = turn.next;
+    let place = if turn.more {
+        Place::at(next)
+    } else {
+        Place::past_last()
+    };
+    Searched {
+        answer: Answer::Found,
+        place: place,
+        row: row,
+    }
+}
+
+pub fn ended() -> Searched
+    ensures { λ r. ⌜ Ended r ⌝ }
+{
+    Searched {
+        answer: Answer::End,
+        place: Place::past_last(),
+        row: [0u64; Place::FUNCTIONS],
+    }
+}
+
+fn pause_at(row: [u64; Place::FUNCTIONS]) -> Searched
+    ensures { λ r. ⌜ Paused row r ⌝ }
+{
+    Searched {
+        answer: Answer::Paused,
+        place: Place::at(row),
+        row: [0u64; Place::FUNCTIONS],
+    }
+}
+
+// Rows from `row` on, at most n: the first solution row, or that none is left, or a pause at the row after n of them.
+pub fn seek(
+    ps: &[u64],
+    es: &[u64],
+    fs: &[u64],
+    ds: &[u64],
+    fixed: Fixed,
+    row: [u64; Place::FUNCTIONS],
+    n: u32,
+    scratch: &mut [u64],
+) -> Searched
+    requires { ⌜ Seekable (now ps) (now es) (now fs) (now ds) fixed row (now scratch) ⌝ }
+    ensures { λ r. ⌜ Seeks (now (ps .entry)) (now (es .entry)) (now (fs .entry)) (now (ds .entry)) fixed row n r ⌝ }
+{
+    let mut at = row;
+    let mut left = n;
+    while 0 < left {
+        let t = look_at(ps, es, fs, ds, fixed, at, scratch);
+        if t.solves {
+            return found_at(at, t);
+        }
+        if !t.more {
+            return ended();
+        }
+        let next = t.next;
+        at = next;
+        left -= 1;
+    }
+    pause_at(at)
+}
