@@ -5,3 +5,4 @@ pub mod Ranks
 pub mod Functions
 pub mod Arguments
 pub mod Applications
+pub mod FacesMeaning
