@@ -78,7 +78,7 @@ module _ (p : Problem) (w : WithinLimits p) (n f : ℕ) (x : Face) (recorded : R
   body = punchTerm ms face
 
   -- "Filling m(t) puts the filled t in each hole of m's body"
-  pub suited : (suitsAt es node (expressionNode n) mask ≡ true) ↔ Suits body (x .term)
+  suited : (suitsAt es node (expressionNode n) mask ≡ true) ↔ Suits body (x .term)
   suited =
       let s = suits-means p w node (x .node) face (x .term) faceAt (recorded .term) ms choice few closed in
       let e : suitsAt es node (expressionNode n) mask ≡ suitsAt es node (x .node) mask = ap (λ (j : ℕ). suitsAt es node j mask) (recorded .node) in
@@ -88,11 +88,11 @@ module _ (p : Problem) (w : WithinLimits p) (n f : ℕ) (x : Face) (recorded : R
   walkedTo q = suits-walked 1 (x .node) body (x .term) isBody .0 q
 
   -- The body has a hole, or none
-  pub data Holes (s : SuitsWalked (x .node) body (x .term)) : Type 0 where
+  data Holes (s : SuitsWalked (x .node) body (x .term)) : Type 0 where
     without : mask ≡ 0 → lowestHole 0 (s .holes) ≡ none → Holes s
     with-lowest : (mask ≡ 0 → ⊥) → Argued p n mask x (s .holes) → Holes s
 
-  pub holes-of : (s : SuitsWalked (x .node) body (x .term)) → Holes s
+  holes-of : (s : SuitsWalked (x .node) body (x .term)) → Holes s
   unfolding maxFaceNodes
   holes-of s = go (lowest-mark ms)
     where
@@ -106,6 +106,14 @@ module _ (p : Problem) (w : WithinLimits p) (n f : ℕ) (x : Face) (recorded : R
           let z : i ≡ 0 = omega (arith, choice .places j i (low .marked)) in
           with-lowest (λ e. omega (arith, filled-mask maxFaceNodes ms i j (omega (arith, choice .long, few)) (low .marked)))
           (argued p w n f x recorded applies spotted face isFace ms choice few s j small (subst (λ (k : ℕ). LowestMark k j ms) z low))
+
+  -- Where the code walks the argument, there is a lowest hole
+  pub walked-argument : suitsAt es node (expressionNode n) mask ≡ true → (mask ≡ 0 → ⊥) → (hs : List Face) × Argued p n mask x hs
+  walked-argument t z = go (walkedTo (suited .0 t)) (holes-of (walkedTo (suited .0 t)))
+    where
+      go : (s : SuitsWalked (x .node) body (x .term)) → Holes s → (hs : List Face) × Argued p n mask x hs
+      go s (without e q) = absurd (z e)
+      go s (with-lowest e a) = (s .holes, a)
 
   -- The demands, by the walk of the body
   module _ (s : SuitsWalked (x .node) body (x .term)) where

@@ -183,8 +183,7 @@ module _ (p : Problem) (w : WithinLimits p) where
         same ns ys e r =
             let moved : All (MovedFace es) ys =
             mem-all (MovedFace es) ys (λ y m. let (g, q) = walk-node (x .under) (h .node) (one (argument (x .children) 0)) (one (holds .0)) ys e y m in
-            moved-in (h .node) (h .under) (h .term) (holds .0) there (holds .1) (y .node) (y .term) g q) in
-            (
+            moved-in (h .node) (h .under) (h .term) (holds .0) there (holds .1) (y .node) (y .term) g q) in (
               recorded-say ps es (λ i. nodeAt i (patterns p)) (λ i. nodeAt (i - h .node) (one (holds .0))) (λ i. depthIn (at ps i)) (pattern-node p w) ns ys r moved,
               recorded-reads ps es (λ i. nodeAt i (patterns p)) (λ i. nodeAt (i - h .node) (one (holds .0))) (λ i. depthIn (at ps i)) (pattern-node p w) ns ys r moved,
             )

@@ -52,7 +52,7 @@ all-closed es (j ∷ js) (m ∷ ms) f =
     T-true (T-and (bodyClosedAt es j m) (bodiesClosed es js ms) (true-T (f 0 (omega arith))) (true-T (all-closed es js ms (λ k h. f (suc k) (omega arith)))))
 
 -- There is a function for each node
-function-of : (p : Problem) (xs : List Face) (fs js : List ℕ) (k : ℕ) → FirstsAt p xs fs js → k < length js → (f : ℕ) × (getElem? fs k ≡ some f)
+pub function-of : (p : Problem) (xs : List Face) (fs js : List ℕ) (k : ℕ) → FirstsAt p xs fs js → k < length js → (f : ℕ) × (getElem? fs k ≡ some f)
 function-of p xs [] [] k r h = absurd (omega arith)
 function-of p xs [] (j ∷ js) k r h = absurd r
 function-of p xs (f ∷ fs) [] k r h = absurd r
@@ -66,13 +66,28 @@ row-long p [] (m ∷ r) c = absurd c
 row-long p (f ∷ fs) [] c = absurd c
 row-long p (f ∷ fs) (m ∷ r) c = ap suc (row-long p fs r (c .1))
 
-pub masks-long : (r : Row) → length r ≤ maxFunctions → length (masksOf r) ≡ maxFunctions
+masks-long : (r : Row) → length r ≤ maxFunctions → length (masksOf r) ≡ maxFunctions
 unfolding masksOf
 masks-long r h =
     let a = length-append (map (maskOf maxFaceNodes) r) (replicate (maxFunctions - length r) 0) in
     let b = length-map r (maskOf maxFaceNodes) in
     let d = length-replicate {A = ℕ} (maxFunctions - length r) 0 in
     omega arith
+
+-- What is laid out, over the tables of the problem
+pub laid-own : (p : Problem) (ps es ns : List ℕ) (s : ℕ) (firsts : Firsts) → Laid p ps es ns s firsts
+    → Laid p (patternTokens p) (expressionTokens p) ns s firsts
+laid-own p ps es ns s firsts l = record {
+  accepted = l .accepted;
+  patterns = refl;
+  expressions = refl;
+  found = l .found;
+  agree = l .agree;
+  recorded = l .recorded;
+  set = l .set;
+  fits = l .fits;
+  nodes = l .nodes;
+}
 
 pub record FunctionAt (p : Problem) (firsts : Firsts) (row : List ℕ) (ms : Marks) (k f : ℕ) : Type 0 where
   pub place : k < firsts .count
@@ -89,6 +104,9 @@ module _ (p : Problem) (ns : List ℕ) (s : ℕ) (firsts : Firsts) (l : Laid p (
   module _ (r : Row) (i : r ∈ rows p) where
     isRow : IsRow p r
     isRow = rows-are p r .0 i
+
+    pub row-masks : length (masksOf r) ≡ maxFunctions
+    row-masks = masks-long r (omega (arith, row-long p (functions p) r (isRow .choice), few-functions p (l .accepted)))
 
     -- THE k-TH FUNCTION
     pub function-at : (k f : ℕ) → getElem? (functions p) k ≡ some f → FunctionAt p firsts (masksOf r) (choiceIn (functions p) r f) k f
@@ -115,7 +133,7 @@ module _ (p : Problem) (ns : List ℕ) (s : ℕ) (firsts : Firsts) (l : Laid p (
         let ms : Marks = choiceIn (functions p) r f in
         let b = body-closed-means p (l .accepted .within) (at (firsts .nodes) k) (faceOf p f) (a .face) ms (omega (arith, a .choice .long, a .small)) in
         let same : bodyClosedAt (expressionTokens p) (at (listed firsts) k) (at (masksOf r) k)
-            ≡ bodyClosedAt (expressionTokens p) (at (firsts .nodes) k) (maskOf maxFaceNodes ms) =
+        ≡ bodyClosedAt (expressionTokens p) (at (firsts .nodes) k) (maskOf maxFaceNodes ms) =
         ap₂ (bodyClosedAt (expressionTokens p)) (getD-take (firsts .count) (firsts .nodes) k 0 (a .place)) (a .mask) in
         (λ q. b .0 (sym same ∙ q), λ q. same ∙ b .1 q)
 
@@ -127,7 +145,7 @@ module _ (p : Problem) (ns : List ℕ) (s : ℕ) (firsts : Firsts) (l : Laid p (
         let a = function-at k f e in
         body-at k f e .0
         (closed-at (expressionTokens p) (listed firsts) (masksOf r) q k (omega (arith, a .place, listed-long))
-        (omega (arith, a .few, masks-long r (omega (arith, row-long p (functions p) r (isRow .choice), few-functions p (l .accepted))))))
+        (omega (arith, a .few, row-masks)))
 
     pub bodies-closed-out : ((f : ℕ) → f ∈ functions p → ClosedTerm (rowBody p r f))
         → bodiesClosed (expressionTokens p) (listed firsts) (masksOf r) ≡ true

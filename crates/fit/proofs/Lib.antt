@@ -6,3 +6,5 @@ pub mod Functions
 pub mod Arguments
 pub mod Applications
 pub mod FacesMeaning
+pub mod Meaning
+pub mod Readiness
