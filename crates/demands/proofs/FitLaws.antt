@@ -40,13 +40,13 @@ module _ (p : Problem) (xs : List Face) (defined : faces p ≡ some xs) (f : ℕ
   abbrev facedTerm : Face → Term
   facedTerm x = x .term
 
-  by-faced : (x : Face) (n : ℕ) → x ∈ xs → x .what ≡ function f n → x .term ∈ facedBy p f
+  pub by-faced : (x : Face) (n : ℕ) → x ∈ xs → x .what ≡ function f n → x .term ∈ facedBy p f
   by-faced x n q e =
       mem-map facedTerm
       (subst (λ (o : Option (List Face)). x ∈ applicationsOf f (orNone o)) (sym defined)
       (mem-keep (λ (y : Face). isApplication f (y .what)) x xs q (ap (isApplication f) e ∙ eqb-self f)))
 
-  faced-by : (e : Term) → e ∈ facedBy p f → (x : Face) × (n : ℕ) × (x ∈ xs) × (x .what ≡ function f n) × (e ≡ x .term)
+  pub faced-by : (e : Term) → e ∈ facedBy p f → (x : Face) × (n : ℕ) × (x ∈ xs) × (x .what ≡ function f n) × (e ≡ x .term)
   faced-by e q =
       let (x, i, t) = map-mem facedTerm e (applicationsOf f (orNone (faces p))) q in
       let (m, isF) = keep-mem (λ (y : Face). isApplication f (y .what)) x xs

@@ -2,12 +2,13 @@
 use mathlib.Core.Path.{_≡_, refl, ap, sym, _∙_, subst}
 use mathlib.Core.Bool.{Bool, true, false, true≢false, false≢true}
 use mathlib.Core.List.{List, [], _∷_, _++_, map, map-append, append-nil, List·Memᴰ·head, Memᴰ·append-right}
+use mathlib.Core.Option.{Option}
 use Prim.Native.Nat.{ℕ, zero, suc, _<_, _≤_}
 use native.Mathlib.Omega.{arith}
 use lib.ListN.{length, take, replicate}
 use lib.Seq.{length-take-le}
 use Rattle.meaning.specs.Limits.{maxFunctions}
-use Rattle.meaning.specs.Basics.{Bytes, choose, isSome, _∈_}
+use Rattle.meaning.specs.Basics.{Bytes, choose, isSome, orNone, _∈_}
 use Rattle.meaning.specs.Problem.{Problem}
 use Rattle.meaning.specs.Face.{Face, faces}
 use Rattle.meaning.specs.Row.{Row}
@@ -36,6 +37,7 @@ use Rattle.places.specs.declared.Place as code
 use Rattle.places.proofs.Naming.{row-value, past-value, same-value, row-named, past-named, nothing-named}
 use Rattle.fit.specs.Laid as fit
 use Rattle.fit.specs.Judging.{judgedAt}
+use Rattle.fit.proofs.Meaning.{judge-means}
 use Rattle.classes.specs.Tabled.{Tabled}
 use Rattle.search.specs.Seeking.{judged, Grounded, Seekable, Ended, Clean, maskPlace, maskReply, Seeks}
 use Rattle.search.specs.Calling.{rowValue, replyWith, hostReply, Answers, Refuses, Callable, Sought, Placed}
@@ -45,9 +47,14 @@ use Rattle.search.specs.declared.seek.Answer.the-variants as answers
 use Rattle.search.specs.declared.seek.Searched.{Searched}
 use Rattle.search.proofs.RowsBack.{placeTo, replyTo, Back, keeps-back}
 
-judge-means : (p : Problem) (ps es fs : List ℕ) (functions : ℕ) (firsts : Firsts) → fit.Laid p ps es fs functions firsts
+-- The test of a row, as the code makes it, is document 01's
+judged-solves : (p : Problem) (ps es fs : List ℕ) (functions : ℕ) (firsts : Firsts) → fit.Laid p ps es fs functions firsts
     → (r : Row) → r ∈ rows p → isSome (judgedAt ps es fs functions firsts (masksOf r)) ≡ solves p r
-judge-means p ps es fs functions firsts h r m = ?
+judged-solves p ps es fs functions firsts h r m =
+    let o : Option (List ℕ) = judgedAt ps es fs functions firsts (masksOf r) in
+    judge-means p ps es fs functions firsts h (masksOf r) (record { choices = r; isRow = m; masks = refl })
+    (record { solves = isSome o; sources = record { nodes = orNone o } })
+    (record { solves = refl; nodes = λ kept e. ap orNone e }) .solution
 
 positive : (n : ℕ) → (n ≡ 0 → ⊥) → 0 < n
 positive zero f = absurd (f refl)
@@ -215,7 +222,7 @@ module _ (s : Bytes) (ps es fs ds : List ℕ) (a : Standing) (firsts : Firsts) (
             → rows p ≡ before ++ (r₀ ∷ later) → (x : Row) → x ∈ r₀ ∷ later → judged ps′ es′ fs′ (d .fixed) (masksOf x) ≡ solves p x
         alike h d before later r₀ split x i =
             rw (d .functions, d .firstNodes)
-            (judge-means p ps′ es′ fs′ (a .occurring .functions) firsts (ready-laid (h .agrees)) x
+            (judged-solves p ps′ es′ fs′ (a .occurring .functions) firsts (ready-laid (h .agrees)) x
             (subst (λ (l : List Row). x ∈ l) (sym split) (Memᴰ·append-right before i)))
 
 -- The answers of `from_place`

@@ -15,7 +15,9 @@ use Rattle.rows.specs.Rows.{MaskRow, maskRows, Tables, Steps}
 use Rattle.classes.proofs.Problem.{row-masks, tabled-tables}
 use Rattle.places.specs.Places.{AtRow, AtPast}
 use Rattle.places.specs.declared.Place as code
-use Rattle.fit.specs.Laid.{Laid, RowOf, Judgeable}
+use Rattle.fit.specs.Laid.{Laid}
+use Rattle.fit.specs.Ready as fit
+use Rattle.fit.proofs.Readiness.{laid-ready}
 use Rattle.search.specs.Seeking.{judged, Grounded, Seekable, Turned, Passed, Ended, Paused, maskPlace, maskReply, Seeks}
 use Rattle.search.specs.declared.seek.Fixed.{Fixed}
 use Rattle.search.specs.declared.seek.Turn.{Turn}
@@ -28,11 +30,12 @@ module _ (ps es fs ds : List ℕ) (fixed : Fixed) (row : MaskRow) (scratch : Lis
   ground = h .grounded
 
   -- What `judge` requires
-  pub seekable-judgeable : Judgeable ps es fs (fixed .functions) (fixed .firsts) row scratch
-  seekable-judgeable =
+  pub seekable-ready : fit.Ready ps es fs (fixed .functions) (fixed .firsts) row scratch
+  seekable-ready =
       let laid = ground .laid in
       let (r, m, e) = row-masks (ground .problem) ds (laid .accepted) (ap isSome (laid .agree)) (ground .tabled) row .0 (h .isRow) in
-      record { problem = ground .problem; laid = laid; isRow = record { choices = r; isRow = m; masks = e }; room = ground .room }
+      laid-ready (ground .problem) ps es fs (fixed .functions) (fixed .firsts) laid row (record { choices = r; isRow = m; masks = e }) scratch
+      (ground .room)
 
   -- What `next_row` requires
   pub seekable-tables : Tables ds
