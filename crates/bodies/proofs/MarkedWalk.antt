@@ -11,7 +11,8 @@ use mathlib.Core.Option.{Option, none, some}
 use lib.ListN.{drop}
 use lib.Dec.{eqb, ltb}
 use Rattle.meaning.specs.Basics.{choose, andThen, isSome, join, guard}
-use Rattle.meaning.specs.Term.{nil, cons, size, symbol, variable, application, binder, own, slot, hole, Variable, free, bound, Nameless, Terms, Term, inner, ownLabel, IsExpression}
+use Rattle.meaning.specs.Term.{nil, cons, size, symbol, variable, application, binder, own, slot, hole, Variable, free, bound, Nameless}
+use Rattle.meaning.specs.Term.{Terms, Term, inner, ownLabel, IsExpression}
 use Rattle.meaning.specs.Shift.{withVariable, closedVariable, closedLabel, Closed}
 use Rattle.meaning.specs.Equal.{Seen, seenFree, inside, outside, see}
 use Rattle.meaning.specs.Face.{Face, agrees, meet, walk}

@@ -11,7 +11,8 @@ use native.Mathlib.Omega.{arith}
 use native.Mathlib.Decide.{decLt}
 use lib.ListN.{length, drop, getElem?}
 use lib.Seq.{drop-append-add}
-use Rattle.meaning.specs.Term.{Forest, nil, cons, one, size, nodeAt, symbol, variable, application, binder, own, slot, Named, Nameless, NamedTerm, Terms}
+use Rattle.meaning.specs.Term.{Forest, nil, cons, one, size, nodeAt, symbol, variable, application, binder, own, slot, Named, Nameless}
+use Rattle.meaning.specs.Term.{NamedTerm, Terms}
 use Rattle.meaning.specs.Scope.{enter, namelessLabel, nameless, namelessTerm}
 use Rattle.meaning.specs.Equal.{View, view}
 use Rattle.meaning.specs.Read.{Context, contextBelow}

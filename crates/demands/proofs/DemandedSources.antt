@@ -10,7 +10,8 @@ use Rattle.meaning.specs.Filling.{argument}
 use Rattle.meaning.specs.Face.{Face, walk, faces}
 use Rattle.meaning.specs.Row.{Row, rowBody}
 use Rattle.meaning.specs.Value.{Source, sourceOf, lowestHole, fromHole, fromApplication, sourcesIn, sources}
-use Rattle.demands.specs.Demand.{eachSome, sourcesMet, lowered, holeDemands, lowestDemand, placeDemands, slotLowest, lowestIn, lowestDemands}
+use Rattle.demands.specs.Demand.{eachSome, sourcesMet, lowered, holeDemands, lowestDemand, placeDemands, slotLowest, lowestIn}
+use Rattle.demands.specs.Demand.{lowestDemands}
 use Rattle.demands.proofs.Answers.{then-some, joined, each-some-is}
 
 met-sources : (o : Option (List Face)) (ds : List Source) → sourcesMet o ≡ some ds → ds ≡ each sourceOf (orNone o)

@@ -11,7 +11,8 @@ use native.Mathlib.Numerals.{add-one}
 use native.Mathlib.Decide.{decLt}
 use lib.ListN.{length, take, drop}
 use lib.Seq.{drop-drop, take-at}
-use Rattle.meaning.specs.Term.{Forest, Tree, nil, cons, one, size, trees, nodeAt, symbol, variable, application, binder, own, slot, metavariable, function, hole, Named, NamedTerm, Terms, Term}
+use Rattle.meaning.specs.Term.{Forest, Tree, nil, cons, one, size, trees, nodeAt, symbol, variable, application, binder, own, slot}
+use Rattle.meaning.specs.Term.{metavariable, function, hole, Named, NamedTerm, Terms, Term}
 use Rattle.meaning.specs.Scope.{enter, namelessLabel, nameless}
 use Rattle.meaning.specs.Problem.{Problem, patterns, expressions}
 use Rattle.meaning.specs.Filling.{argument}

@@ -12,7 +12,8 @@ use lib.Seq.{getD-drop, drop-append-le, drop-append-add}
 use lib.Dec.{eqb, ltb}
 use borrow.Author.Tests.{ltb-true, ltb-false}
 use Rattle.meaning.specs.Limits.{maxDepth}
-use Rattle.meaning.specs.Term.{Forest, nil, cons, one, size, nodeAt, symbol, variable, application, binder, own, slot, Slot, metavariable, function, hole, Named, NamedTerm, Terms, Term}
+use Rattle.meaning.specs.Term.{Forest, nil, cons, one, size, nodeAt, symbol, variable, application, binder, own, slot, Slot, metavariable}
+use Rattle.meaning.specs.Term.{function, hole, Named, NamedTerm, Terms, Term}
 use Rattle.meaning.specs.Scope.{enter, namelessLabel, nameless, namelessTerm}
 use Rattle.meaning.specs.Problem.{Problem, namedPatterns, namedExpressions, patterns, expressions}
 use Rattle.meaning.specs.Face.{isApplication}

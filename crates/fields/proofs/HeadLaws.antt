@@ -12,8 +12,10 @@ use lib.Seq.{drop-drop}
 use borrow.Author.Tests.{ne-eqb, eq-eqb, lt-ltb, le-ltb}
 use Rattle.meaning.specs.Term.{Forest, nil, Named, NamedTerm, trees}
 use Rattle.meaning.specs.Basics.{Bytes}
-use Rattle.meaning.specs.Read.{Answer, refused, got, after, Context, inArgument, Head, wordAt, partsOf, kindOf, headOf, contentOf, Reader, contextBelow, readExactly, readContent, readTerm}
-use Rattle.fields.specs.Heads.{labelOf, fixedOf, dueOf, contentWith, readFields, kindFrom, PartsDone, HeadDone, DueFits, ContentDone, openRead, OpenDone}
+use Rattle.meaning.specs.Read.{Answer, refused, got, after, Context, inArgument, Head, wordAt, partsOf, kindOf, headOf, contentOf, Reader}
+use Rattle.meaning.specs.Read.{contextBelow, readExactly, readContent, readTerm}
+use Rattle.fields.specs.Heads.{labelOf, fixedOf, dueOf, contentWith, readFields, kindFrom, PartsDone, HeadDone, DueFits, ContentDone}
+use Rattle.fields.specs.Heads.{openRead, OpenDone}
 use Rattle.fields.specs.declared.field.Kind as code
 use Rattle.fields.specs.declared.field.Parts.the-variants as parts
 use Rattle.fields.specs.declared.field.Head.the-variants as heads

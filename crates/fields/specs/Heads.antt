@@ -6,7 +6,8 @@
 use mathlib.Core.Path.{_≡_}
 use Prim.Native.Nat.{ℕ, zero, suc, _+_, _-_, _≤_, _<_}
 use lib.ListN.{length, take, drop}
-use Rattle.meaning.specs.Term.{Forest, symbol, variable, application, binder, own, slot, metavariable, function, hole, Named, NamedTerm, trees}
+use Rattle.meaning.specs.Term.{Forest, symbol, variable, application, binder, own, slot, metavariable, function, hole, Named, NamedTerm}
+use Rattle.meaning.specs.Term.{trees}
 use Rattle.meaning.specs.Basics.{Bytes}
 use Rattle.meaning.specs.Read as read
 use Rattle.meaning.specs.Read.{Answer, refused, got, after, Reader, leaf, over, many, readExactly, readAll, contextBelow, readTerm}

@@ -27,7 +27,8 @@ use Rattle.sources.specs.Demand.{openNode, demandAt, demandsIn, keptAfter}
 use Rattle.sources.specs.Kept.{Kept, Asks, Reads, Answers}
 use Rattle.sources.specs.declared.Agreed.{Agreed}
 use Rattle.sources.proofs.KeptLaws.{answer-some, answer-none, kept-stays}
-use Rattle.fit.specs.Judging.{bodiesClosed, argumentSpan, argumentKept, applicationKept, rankAt, faceKept, facesKept, noneKept, demandedAt, judgedAt, Judges}
+use Rattle.fit.specs.Judging.{bodiesClosed, argumentSpan, argumentKept, applicationKept, rankAt, faceKept, facesKept, noneKept}
+use Rattle.fit.specs.Judging.{demandedAt, judgedAt, Judges}
 use Rattle.fit.specs.Ready.{Tables, Walks, Applies, Slots}
 
 -- ---- the bodies, from function k on

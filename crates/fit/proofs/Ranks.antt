@@ -13,7 +13,8 @@ use Rattle.meaning.specs.Problem.{Problem, functions}
 use Rattle.meaning.specs.Face.{Face}
 use Rattle.meaning.specs.Row.{Row, ChoiceEach, choiceIn}
 use Rattle.meaning.specs.PlaceValue.{maskOf, masksOf}
-use Rattle.meaning.proofs.Lists.{never, choose-true, choose-false, eqb-self, eqb-other, at-mem, keep-mem, upTo-mem, keep-distinct, distinct-countFrom}
+use Rattle.meaning.proofs.Lists.{never, choose-true, choose-false, eqb-self, eqb-other, at-mem, keep-mem, upTo-mem, keep-distinct}
+use Rattle.meaning.proofs.Lists.{distinct-countFrom}
 use Rattle.tokens.specs.Key.{at}
 use Rattle.metavariables.specs.Survey.{has, count}
 use Rattle.faces.specs.Verdict.{FirstAt, FirstsAt}

@@ -8,7 +8,8 @@ use native.Mathlib.Nat.{zero-add}
 use native.Mathlib.Omega.{arith}
 use native.Mathlib.Decide.{decLt}
 use lib.ListN.{length}
-use Rattle.meaning.specs.Term.{Forest, nil, cons, one, size, trees, symbol, variable, application, binder, own, slot, Named, NamedTerm, Nameless, Variable, free, bound, Terms, Term, inner}
+use Rattle.meaning.specs.Term.{Forest, nil, cons, one, size, trees, symbol, variable, application, binder, own, slot, Named, NamedTerm}
+use Rattle.meaning.specs.Term.{Nameless, Variable, free, bound, Terms, Term, inner}
 use Rattle.meaning.specs.Scope.{nameless, namelessTerm}
 use Rattle.meaning.specs.Shift.{raise, shiftLabel, shift, shiftTerm, closedVariable, closedLabel, Closed}
 use Rattle.meaning.specs.Lower.{lowerTerm}

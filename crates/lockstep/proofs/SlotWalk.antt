@@ -12,7 +12,8 @@ use lib.ListN.{length}
 use lib.Dec.{eqb}
 use borrow.Author.Tests.{lt-ltb, le-ltb, eq-eqb, ne-eqb}
 use Rattle.meaning.specs.Basics.{join, guard}
-use Rattle.meaning.specs.Term.{nil, cons, size, nodeAt, Own, symbol, variable, application, binder, Label, own, slot, Slot, metavariable, function, hole, Named, Nameless, Variable, Terms, Term, inner}
+use Rattle.meaning.specs.Term.{nil, cons, size, nodeAt, Own, symbol, variable, application, binder, Label, own, slot, Slot, metavariable}
+use Rattle.meaning.specs.Term.{function, hole, Named, Nameless, Variable, Terms, Term, inner}
 use Rattle.meaning.specs.Scope.{namelessLabel}
 use Rattle.meaning.specs.Shift.{closedLabel, Closed}
 use Rattle.meaning.specs.Same.{sameOwn, sameVariable}

@@ -20,7 +20,8 @@ use Rattle.lockstep.specs.declared.Shapes.the-variants as shapes
 use Rattle.lockstep.specs.declared.Span.{Span}
 use Rattle.lockstep.specs.Walk.{isSlot, atSlots, faceCode, lockstep}
 use Rattle.lockstep.specs.Span.{spanWalk, Lent, answerOf, Walked}
-use Rattle.lockstep.proofs.WalkLaws.{join-assoc, join-nothing, lockstep-end, lockstep-out, lockstep-differs, lockstep-same, lockstep-face, lockstep-skip}
+use Rattle.lockstep.proofs.WalkLaws.{join-assoc, join-nothing, lockstep-end, lockstep-out, lockstep-differs, lockstep-same}
+use Rattle.lockstep.proofs.WalkLaws.{lockstep-face, lockstep-skip}
 
 -- What the code computes of one token
 module _ (x g : ℕ) (is : g ≡ tagIn x) where

@@ -27,7 +27,8 @@ use Rattle.tokens.proofs.Levels.{enter-deep}
 use Rattle.tokens.proofs.Codes.{Viewed, code, code-injective, arity, seenLabel, viewFrom, label-code, fits-label}
 use Rattle.tokens.proofs.ProblemTokens.{tokenAt, size-at, Room, room-depth, room-size, room-below, room-later}
 use Rattle.lockstep.specs.Walk.{Stop, faceCode, lockstep}
-use Rattle.lockstep.proofs.WalkLaws.{join-assoc, join-nothing, join-end, lockstep-end, lockstep-differs, lockstep-same, lockstep-face, lockstep-skip}
+use Rattle.lockstep.proofs.WalkLaws.{join-assoc, join-nothing, join-end, lockstep-end, lockstep-differs, lockstep-same}
+use Rattle.lockstep.proofs.WalkLaws.{lockstep-face, lockstep-skip}
 
 abbrev pub SeenStop : Type 0
 SeenStop = ℕ → Viewed → Bool

@@ -8,7 +8,8 @@ use mathlib.Core.List.{List, []}
 use mathlib.Core.Option.{Option, none, some}
 use lib.Dec.{T}
 use Rattle.meaning.specs.Basics.{isSome, join, guard}
-use Rattle.meaning.specs.Term.{nil, cons, size, Own, symbol, variable, application, binder, own, slot, Variable, free, bound, Nameless, Terms, Term, inner}
+use Rattle.meaning.specs.Term.{nil, cons, size, Own, symbol, variable, application, binder, own, slot, Variable, free, bound}
+use Rattle.meaning.specs.Term.{Nameless, Terms, Term, inner}
 use Rattle.meaning.specs.Problem.{Problem, patterns, expressions}
 use Rattle.meaning.specs.Face.{Face, agrees, meet, walk, faces}
 use Rattle.meaning.specs.Agree.{SameNode, symbols, freeVariables, boundVariables, applications, binders, Agree, ends, nodes, isMet}

@@ -6,7 +6,8 @@ use mathlib.Core.Path.{_≡_, refl, ap, ap₂, subst}
 use mathlib.Core.Logic.{_↔_}
 use mathlib.Core.Bool.{Bool, true, _&&_}
 use lib.Dec.{eqb, eqb→eq, eqb-refl, T}
-use Rattle.meaning.specs.Term.{Forest, nil, cons, symbol, variable, application, binder, metavariable, function, hole, own, slot, free, bound, Terms}
+use Rattle.meaning.specs.Term.{Forest, nil, cons, symbol, variable, application, binder, metavariable, function, hole, own, slot}
+use Rattle.meaning.specs.Term.{free, bound, Terms}
 use Rattle.meaning.specs.Same.{alike, sameSlot, sameOwn, sameLabel, sameVariable, sameSeen, sameTerms}
 use Rattle.meaning.specs.Equal.{seenFree, inside, outside, View}
 use Rattle.meaning.specs.Choice.{Owner, nodeOfFace, aboveFace}

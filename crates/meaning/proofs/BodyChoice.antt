@@ -8,7 +8,8 @@ use mathlib.Core.Option.{none, some}
 use native.Mathlib.Omega.{arith}
 use lib.ListN.{length, take, drop, getElem?, length-drop}
 use lib.Seq.{take-add, take-length}
-use Rattle.meaning.specs.Term.{nil, cons, one, size, own, slot, symbol, variable, application, binder, Nameless, Terms, Term, inner, IsExpression}
+use Rattle.meaning.specs.Term.{nil, cons, one, size, own, slot, symbol, variable, application, binder, Nameless, Terms, Term, inner}
+use Rattle.meaning.specs.Term.{IsExpression}
 use Rattle.meaning.specs.Shift.{shiftTerm}
 use Rattle.meaning.specs.Equal.{View, view}
 use Rattle.meaning.specs.Choice.{Mark, Marks, Owner, ownerOf, below, viewsFrom, views, usesFace, Choice, punch, setSize, holesIn}

@@ -5,7 +5,8 @@ use mathlib.Core.Path.{_≡_, refl, ap, sym, _∙_, subst}
 use mathlib.Core.Logic.{_⊎_, inl, inr, ⊎-elim}
 use Prim.Native.Nat.{ℕ, zero, suc, _<_, _≤_}
 use mathlib.Core.Bool.{Bool, false}
-use mathlib.Core.List.{List, [], _∷_, _++_, map, map-map, append-assoc, append-nil, List·Memᴰ·head, List·Memᴰ·tail, List·Memᴰ·cases-cons, List·Memᴰ·not-nil}
+use mathlib.Core.List.{List, [], _∷_, _++_, map, map-map, append-assoc, append-nil, List·Memᴰ·head, List·Memᴰ·tail, List·Memᴰ·cases-cons}
+use mathlib.Core.List.{List·Memᴰ·not-nil}
 use native.Mathlib.Omega.{arith}
 use lib.ListN.{length, take, length-append}
 use lib.Seq.{append-snoc, take-nil}
@@ -19,7 +20,8 @@ use Rattle.meaning.specs.Accept.{accept}
 use Rattle.meaning.specs.Search.{Place, at, past, placeOf, start, Reply, end, refusedCall, Keeps, finds, ends, pauses, From}
 use Rattle.meaning.specs.PlaceValue.{PlaceValue, placeValue, Names}
 use Rattle.meaning.specs.Entry.{HostReply, replyValue, SearchCall}
-use Rattle.meaning.specs.Calls.{Call, left, Run, KeptCall, Kept, callsOf, HostCall, Carried, Held, foundIn, founds, HasEnd, allowed, positive, givenRow, ThirdDemand}
+use Rattle.meaning.specs.Calls.{Call, left, Run, KeptCall, Kept, callsOf, HostCall, Carried, Held, foundIn, founds, HasEnd, allowed}
+use Rattle.meaning.specs.Calls.{positive, givenRow, ThirdDemand}
 use Rattle.meaning.proofs.Lists.{never, choose-true, choose-false}
 use Rattle.meaning.proofs.ByteLaws.{Byte}
 use Rattle.meaning.proofs.PlaceLaws.{from-place}

@@ -4,24 +4,29 @@ use mathlib.Core.Path.{_≡_, refl, ap, sym, _∙_, subst}
 use mathlib.Core.Logic.{_⊎_, inl, inr, ⊎-elim}
 use Prim.Native.Nat.{ℕ, _+_, _<_}
 use mathlib.Core.Bool.{Bool, true, false, false≢true}
-use mathlib.Core.List.{List, [], _∷_, List·Memᴰ·head, List·Memᴰ·tail, List·Memᴰ·append-cases, List·Memᴰ·cases-cons, List·Memᴰ·not-nil, List·Memᴰ·eq-of-singleton, Memᴰ·append-left, Memᴰ·append-right}
+use mathlib.Core.List.{List, [], _∷_, List·Memᴰ·head, List·Memᴰ·tail, List·Memᴰ·append-cases, List·Memᴰ·cases-cons, List·Memᴰ·not-nil}
+use mathlib.Core.List.{List·Memᴰ·eq-of-singleton, Memᴰ·append-left, Memᴰ·append-right}
 use mathlib.Core.Option.{Option, none, some}
 use native.Mathlib.Omega.{arith}
 use lib.Dec.{eqb}
 use Rattle.meaning.specs.Basics.{choose, each, _∈_, orNone}
 use Rattle.meaning.specs.Term.{one, trees, Slot, metavariable, function, hole, Terms, Term, IsExpression}
 use Rattle.meaning.specs.Shift.{ClosedTerm}
-use Rattle.meaning.specs.Problem.{Problem, patterns, expressions, plain, applied, placesOf, Where, alone, argumentOf, Standing, inArguments, standings, isFunction, isPlain}
+use Rattle.meaning.specs.Problem.{Problem, patterns, expressions, plain, applied, placesOf, Where, alone, argumentOf, Standing}
+use Rattle.meaning.specs.Problem.{inArguments, standings, isFunction, isPlain}
 use Rattle.meaning.specs.Filling.{fill, argument, Entry, absent, value, body, Filling, bodyOr, fillHandler, filled, IsBody}
 use Rattle.meaning.specs.Solution.{hasHole, needs, Idle, Solution}
 use Rattle.meaning.specs.Face.{Face}
 use Rattle.meaning.specs.Row.{Row, rowBody, HasBodies}
 use Rattle.meaning.specs.Value.{Source, sourceOf, fromApplication, sourcesIn, sources, lookup}
 use Rattle.meaning.specs.Candidate.{given, candidate}
-use Rattle.meaning.proofs.Lists.{never, by-test, choose-true, choose-false, eqb-eq, eqb-self, mem-each, each-mem, isIn-mem, mem-isIn, not-isIn}
+use Rattle.meaning.proofs.Lists.{never, by-test, choose-true, choose-false, eqb-eq, eqb-self, mem-each, each-mem, isIn-mem, mem-isIn}
+use Rattle.meaning.proofs.Lists.{not-isIn}
 use Rattle.meaning.proofs.Proper.{IsArgument, Proper, applied-functions}
-use Rattle.meaning.proofs.Slots.{slots, standingAt, slot-face, slot-standing, standing-slot, in-arguments, arguments-in, faced-slot, faced-expression, faced-shape, faced-applied}
-use Rattle.meaning.proofs.Sources.{value-is, Walked, walked, HasSource, Told, application-told, application-has, source-at, face-source}
+use Rattle.meaning.proofs.Slots.{slots, standingAt, slot-face, slot-standing, standing-slot, in-arguments, arguments-in, faced-slot}
+use Rattle.meaning.proofs.Slots.{faced-expression, faced-shape, faced-applied}
+use Rattle.meaning.proofs.Sources.{value-is, Walked, walked, HasSource, Told, application-told, application-has, source-at}
+use Rattle.meaning.proofs.Sources.{face-source}
 
 pub record Fitting (p : Problem) (σ : Filling) (b : ℕ → Term) : Type 0 where
   pub proper : Proper p

@@ -18,9 +18,11 @@ use Rattle.meaning.specs.Difference.{Ordered, empty}
 use Rattle.meaning.specs.Choices.{isPlace, chosen, sameOwned, allSame, fitsPlace, areApart, isChoice, allMarks, choices}
 use Rattle.meaning.specs.Row.{Row, faceOf, ChoiceEach, IsRow, EarlierRow}
 use Rattle.meaning.specs.Rows.{rowsOver, rows}
-use Rattle.meaning.proofs.Lists.{never, T-true, true-T, and-T, T-and, eqb-self, eqb-eq, mem-keep, keep-mem, mem-upTo, all-mem, mem-all, every-all, all-every, at-mem, mem-at}
+use Rattle.meaning.proofs.Lists.{never, T-true, true-T, and-T, T-and, eqb-self, eqb-eq, mem-keep, keep-mem, mem-upTo, all-mem}
+use Rattle.meaning.proofs.Lists.{mem-all, every-all, all-every, at-mem, mem-at}
 use Rattle.meaning.proofs.Alike.{sameOwned-eq, sameOwned-refl}
-use Rattle.meaning.proofs.Ordered.{keep-ordered, ordered-distinct, Placed, allMarks-ordered, allMarks-are, OneOfEach, product-ordered, product-are, earlier-strict, earlierRow-strict}
+use Rattle.meaning.proofs.Ordered.{keep-ordered, ordered-distinct, Placed, allMarks-ordered, allMarks-are, OneOfEach}
+use Rattle.meaning.proofs.Ordered.{product-ordered, product-are, earlier-strict, earlierRow-strict}
 
 -- Where one list has an element, so has each list of the same length
 pub at-other : {A B : Type 0} (xs : List A) (ys : List B) (k : ℕ) (x : A) → length xs ≡ length ys → getElem? xs k ≡ some x → (y : B) × (getElem? ys k ≡ some y)

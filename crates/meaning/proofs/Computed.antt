@@ -10,7 +10,8 @@ use Rattle.meaning.specs.Rows.{rows}
 use Rattle.meaning.specs.Candidate.{candidate, solves, solutionRows}
 use Rattle.meaning.specs.Basics.{Bytes}
 use Rattle.meaning.specs.Field.{word, field, encode}
-use Rattle.meaning.specs.Read.{Answer, metavariableIn, functionIn, holeIn, kindOf, partsOf, headOf, contentOf, readExactly, readAll, contextBelow, readTerm, readPair, constraintHead, readConstraints, readProblem}
+use Rattle.meaning.specs.Read.{Answer, metavariableIn, functionIn, holeIn, kindOf, partsOf, headOf, contentOf, readExactly, readAll}
+use Rattle.meaning.specs.Read.{contextBelow, readTerm, readPair, constraintHead, readConstraints, readProblem}
 use Rattle.meaning.specs.Accept.{bothWays, overlarge, checkProblem, accept}
 use Rattle.meaning.specs.Text.{Item, entryOf, textOf, readNumbered, readOpen, readItem, readItems, readText}
 use Rattle.meaning.specs.Encoded.{encodeText}

@@ -18,7 +18,8 @@ use Rattle.meaning.specs.Accept.{accept}
 use Rattle.meaning.specs.Search.{Place, at, past, found, end, refusedCall, finds, ends}
 use Rattle.meaning.specs.PlaceValue.{maskOf, PlaceValue, masksOf, placeValue, Names}
 use Rattle.meaning.specs.Passing.{passes}
-use Rattle.meaning.specs.Entry.{SearchCall, notAccepted, noAllowance, noSuchPlace, searches, WriteCall, noSuchRow, noSolutionRow, tooShort, writes, checkCall}
+use Rattle.meaning.specs.Entry.{SearchCall, notAccepted, noAllowance, noSuchPlace, searches, WriteCall, noSuchRow, noSolutionRow}
+use Rattle.meaning.specs.Entry.{tooShort, writes, checkCall}
 use Rattle.meaning.specs.Case.{oneSymbol, onlyBound}
 use Rattle.meaning.specs.Starred.{hex}
 use Rattle.meaning.proofs.ChoiceLaws.{rows-are}

@@ -15,11 +15,13 @@ use native.Mathlib.Decide.{decLt}
 use lib.ListN.{length, getElem?, length-map}
 use lib.Dec.{ltb}
 use Rattle.meaning.specs.Basics.{choose}
-use Rattle.meaning.specs.Term.{Forest, nil, cons, one, size, relabel, symbol, variable, application, binder, Label, own, slot, Variable, free, bound, Nameless, Terms, Term, inner}
+use Rattle.meaning.specs.Term.{Forest, nil, cons, one, size, relabel, symbol, variable, application, binder, Label, own, slot}
+use Rattle.meaning.specs.Term.{Variable, free, bound, Nameless, Terms, Term, inner}
 use Rattle.meaning.specs.Shift.{withVariable, raise, shiftTerm}
 use Rattle.meaning.specs.Lower.{sink, lowerLabel, lower, lowerTerm}
 use Rattle.meaning.specs.Equal.{Seen, seenFree, inside, outside, see, View, view}
-use Rattle.meaning.specs.Choice.{Mark, Marks, Owner, nodeOfFace, aboveFace, ownerOf, below, viewsFrom, views, ofFace, usesLabel, usesFace, Apart, Choice}
+use Rattle.meaning.specs.Choice.{Mark, Marks, Owner, nodeOfFace, aboveFace, ownerOf, below, viewsFrom, views, ofFace, usesLabel}
+use Rattle.meaning.specs.Choice.{usesFace, Apart, Choice}
 use Rattle.meaning.specs.Choices.{isPlace}
 use Rattle.meaning.proofs.ShiftLaws.{ltb-yes, ltb-no, inner-with, pair-eq, shift-lower-term, lowered}
 use Rattle.meaning.proofs.Lists.{never, or-false, by-test, eqb-self}

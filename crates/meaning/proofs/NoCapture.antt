@@ -15,7 +15,8 @@ use Rattle.meaning.specs.Problem.{Problem, namedPatterns, namedExpressio
 use Rattle.meaning.specs.Filling.{Entry, absent, leftOpen, value, body, Filling, filled}
 use Rattle.meaning.specs.Solution.{Solution}
 use Rattle.meaning.specs.Text.{meant}
-use Rattle.meaning.specs.Textual.{isFree, NamedFilling, textual, UncaughtIn, Uncaught, meantBy, ClosedEntry, Spelling, AlphaEntry, bothAbsent, bothOpen, values, bodies, Respelling}
+use Rattle.meaning.specs.Textual.{isFree, NamedFilling, textual, UncaughtIn, Uncaught, meantBy, ClosedEntry, Spelling, AlphaEntry}
+use Rattle.meaning.specs.Textual.{bothAbsent, bothOpen, values, bodies, Respelling}
 use Rattle.meaning.specs.Case.{var, all, box, equals, notCaught}
 use Rattle.meaning.proofs.Lists.{never, by-test, isIn-mem, mem-isIn}
 use Rattle.meaning.proofs.Renaming.{alpha-nameless, nameless-alpha, equal-is-alpha}

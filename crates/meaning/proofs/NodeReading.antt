@@ -11,12 +11,16 @@ use lib.Dec.{eqb, ltb}
 use borrow.Author.Tests.{ltb-true, ltb-false, lt-ltb, le-ltb, eqb-true, eqb-false, ne-eqb}
 use Rattle.meaning.specs.Limits.{metavariableCount}
 use Rattle.meaning.specs.Basics.{All, Bytes}
-use Rattle.meaning.specs.Term.{Forest, nil, cons, graft, one, trees, symbol, variable, application, binder, own, slot, metavariable, function, hole, Named, NamedTerm}
+use Rattle.meaning.specs.Term.{Forest, nil, cons, graft, one, trees, symbol, variable, application, binder, own, slot, metavariable}
+use Rattle.meaning.specs.Term.{function, hole, Named, NamedTerm}
 use Rattle.meaning.specs.Field.{word, field, tagOf, fixedPart, encode}
-use Rattle.meaning.specs.Read.{got, Context, inPattern, inArgument, inExpression, inBody, Kind, symbolKind, variableKind, applicationKind, binderKind, metavariableKind, functionKind, holeKind, metavariableIn, functionIn, holeIn, kindOf, partsOf, Head, headOf, Content, leaf, over, many, contentOf}
+use Rattle.meaning.specs.Read.{got, Context, inPattern, inArgument, inExpression, inBody, Kind, symbolKind, variableKind}
+use Rattle.meaning.specs.Read.{applicationKind, binderKind, metavariableKind, functionKind, holeKind, metavariableIn, functionIn}
+use Rattle.meaning.specs.Read.{holeIn, kindOf, partsOf, Head, headOf, Content, leaf, over, many, contentOf}
 use Rattle.meaning.specs.Readable.{MetavariableAt, FunctionAt, HoleAt, NodeFits}
 use Rattle.meaning.proofs.Lists.{all-append}
-use Rattle.meaning.proofs.ByteLaws.{Byte, got-is, refused-not, by-got, unless-got, when-got, by-choice, none-left, one-byte, first-byte, exact-word, two-words, word-value, word-bytes, parts-field, field-parts, field-some}
+use Rattle.meaning.proofs.ByteLaws.{Byte, got-is, refused-not, by-got, unless-got, when-got, by-choice, none-left, one-byte}
+use Rattle.meaning.proofs.ByteLaws.{first-byte, exact-word, two-words, word-value, word-bytes, parts-field, field-parts, field-some}
 
 -- Forests: the bytes of the trees one after the other
 pub encode-graft : (t : NamedTerm) (f : Forest Named) → encode (graft t f) ≡ encode (one t) ++ encode f

@@ -15,7 +15,9 @@ use native.Mathlib.Decide.{decLt}
 use lib.ListN.{length, drop}
 use lib.Dec.{eqb, T}
 use Rattle.meaning.specs.Basics.{choose, each, upTo, andThen, orNone, join, guard, _∈_}
-use Rattle.meaning.specs.Term.{Forest, nil, cons, Tree, graft, one, size, nodeAt, relabel, Own, symbol, variable, application, binder, own, slot, Variable, free, bound, Slot, metavariable, function, hole, Named, Nameless, NamedTerm, Terms, Term, inner}
+use Rattle.meaning.specs.Term.{Forest, nil, cons, Tree, graft, one, size, nodeAt, relabel, Own, symbol, variable, application, binder}
+use Rattle.meaning.specs.Term.{own, slot, Variable, free, bound, Slot, metavariable, function, hole, Named, Nameless, NamedTerm}
+use Rattle.meaning.specs.Term.{Terms, Term, inner}
 use Rattle.meaning.specs.Scope.{resolve, enter, namelessLabel, nameless, namelessTerm}
 use Rattle.meaning.specs.Shift.{shiftLabel, shift, closedVariable, closedLabel, Closed, ClosedTerm}
 use Rattle.meaning.specs.Lower.{lowerTerm}

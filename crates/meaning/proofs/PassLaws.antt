@@ -8,7 +8,8 @@ use lib.Dec.{T, eqb}
 use borrow.Author.Tests.{ltb-true, lt-ltb, not-false}
 use native.Mathlib.Omega.{arith}
 use Rattle.meaning.specs.Basics.{every, isIn, _∈_, Distinct}
-use Rattle.meaning.specs.Term.{nil, cons, one, own, slot, metavariable, function, hole, NamedTerm, Nameless, Terms, Term, IsExpression}
+use Rattle.meaning.specs.Term.{nil, cons, one, own, slot, metavariable, function, hole, NamedTerm, Nameless, Terms, Term}
+use Rattle.meaning.specs.Term.{IsExpression}
 use Rattle.meaning.specs.Shift.{ClosedTerm}
 use Rattle.meaning.specs.ClosedTest.{isClosed}
 use Rattle.meaning.specs.Same.{sameTerms}
@@ -16,8 +17,11 @@ use Rattle.meaning.specs.Problem.{Problem, patterns, expressions, plain,
 use Rattle.meaning.specs.Filling.{Entry, absent, leftOpen, value, body, Filling, filled, bodyLabel, IsBody}
 use Rattle.meaning.specs.Solution.{needs, Idle, Solution}
 use Rattle.meaning.specs.Text.{Item, meant, said, Passes}
-use Rattle.meaning.specs.Passing.{isOnce, isBodyLabel, isBody, isWhole, isBodyEntry, isValueEntry, isOpen, isAbsent, isNeeded, once, known, kinds, openUnneeded, unneededOpen, meets, passes}
-use Rattle.meaning.proofs.Lists.{never, T-true, true-T, or-false, and-T, T-and, or-cases, or-left, or-right, eqb-self, eqb-eq, eqb-other, by-test, choose-true, choose-false, mem-map, isIn-mem, mem-isIn, not-isIn, all-mem, mem-all, every-all, all-every}
+use Rattle.meaning.specs.Passing.{isOnce, isBodyLabel, isBody, isWhole, isBodyEntry, isValueEntry, isOpen, isAbsent, isNeeded, once}
+use Rattle.meaning.specs.Passing.{known, kinds, openUnneeded, unneededOpen, meets, passes}
+use Rattle.meaning.proofs.Lists.{never, T-true, true-T, or-false, and-T, T-and, or-cases, or-left, or-right, eqb-self, eqb-eq}
+use Rattle.meaning.proofs.Lists.{eqb-other, by-test, choose-true, choose-false, mem-map, isIn-mem, mem-isIn, not-isIn, all-mem}
+use Rattle.meaning.proofs.Lists.{mem-all, every-all, all-every}
 use Rattle.meaning.proofs.ShiftLaws.{test-closed, closed-test}
 use Rattle.meaning.proofs.Alike.{sameTerms-eq, sameTerms-refl}
 

@@ -14,12 +14,15 @@ use Rattle.meaning.specs.Basics.{All, Bytes}
 use Rattle.meaning.specs.Term.{one}
 use Rattle.meaning.specs.Problem.{Constraint, Problem, functions}
 use Rattle.meaning.specs.Field.{field, encode, encodeConstraint, encodeProblem}
-use Rattle.meaning.specs.Read.{got, inPattern, inExpression, Parts, partsOf, readTerm, readPair, constraintHead, readConstraints, readProblem}
+use Rattle.meaning.specs.Read.{got, inPattern, inExpression, Parts, partsOf, readTerm, readPair, constraintHead, readConstraints}
+use Rattle.meaning.specs.Read.{readProblem}
 use Rattle.meaning.specs.Accept.{bothWays, overlarge, checkProblem, accept}
 use Rattle.meaning.specs.Readable.{ReadableConstraint, WithinLimits, Accepted}
 use Rattle.meaning.proofs.Lists.{append-all, all-append}
-use Rattle.meaning.proofs.ByteLaws.{Byte, got-is, refused-not, by-got, unless-got, when-got, by-choice, none-left, parts-field, field-parts, field-some, field-length, field-bytes, field-content, field-later}
-use Rattle.meaning.proofs.TermReading.{term-read-encodes, term-read-readable, term-encode-read, term-bytes, term-read-whole, term-encode-whole}
+use Rattle.meaning.proofs.ByteLaws.{Byte, got-is, refused-not, by-got, unless-got, when-got, by-choice, none-left, parts-field}
+use Rattle.meaning.proofs.ByteLaws.{field-parts, field-some, field-length, field-bytes, field-content, field-later}
+use Rattle.meaning.proofs.TermReading.{term-read-encodes, term-read-readable, term-encode-read, term-bytes, term-read-whole}
+use Rattle.meaning.proofs.TermReading.{term-encode-whole}
 
 -- A pair of terms
 pair-faithful : (s : Bytes) (c : Constraint) → All Byte s → readPair s ≡ got c → (encode (one (c .pattern)) ++ encode (one (c .expression)) ≡ s) × ReadableConstraint c

@@ -9,7 +9,8 @@ use mathlib.Core.Option.{none, some}
 use lib.ListN.{length, take, drop, replicate, length-append, length-replicate, length-drop}
 use lib.Seq.{drop-append-le, drop-at, take-at, take-add, take-length, take-append-le}
 use native.Mathlib.Omega.{arith}
-use Rattle.meaning.specs.Term.{Forest, nil, cons, Tree, graft, size, own, slot, metavariable, function, hole, Terms, Term, inner, IsExpression}
+use Rattle.meaning.specs.Term.{Forest, nil, cons, Tree, graft, size, own, slot, metavariable, function, hole, Terms, Term, inner}
+use Rattle.meaning.specs.Term.{IsExpression}
 use Rattle.meaning.specs.Shift.{shift, shiftTerm}
 use Rattle.meaning.specs.Filling.{fill, plugHandler, IsBody}
 use Rattle.meaning.specs.Choice.{Mark, Marks, mark, rest, punch, setSize}

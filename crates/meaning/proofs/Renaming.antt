@@ -12,7 +12,8 @@ use mathlib.Core.List.{List, [], _∷_}
 use native.Mathlib.Omega.{arith}
 use lib.Dec.{eqb}
 use Rattle.meaning.specs.Basics.{choose}
-use Rattle.meaning.specs.Term.{Forest, nil, cons, Tree, one, size, symbol, variable, application, binder, own, slot, Named, Variable, free, bound, Nameless, NamedTerm, Term}
+use Rattle.meaning.specs.Term.{Forest, nil, cons, Tree, one, size, symbol, variable, application, binder, own, slot, Named, Variable}
+use Rattle.meaning.specs.Term.{free, bound, Nameless, NamedTerm, Term}
 use Rattle.meaning.specs.Scope.{resolve, enter, namelessLabel, nameless, namelessTerm}
 use Rattle.meaning.specs.Shift.{withVariable}
 use Rattle.meaning.specs.Equal.{Equal, EqualWhole}

@@ -10,7 +10,8 @@ use mathlib.Core.Option.{Option, none, some}
 use lib.Dec.{eqb}
 use Rattle.meaning.specs.Limits.{metavariableCount}
 use Rattle.meaning.specs.Basics.{choose, upTo, orNone, isSome, _∈_, Distinct}
-use Rattle.meaning.specs.Term.{Tree, nil, cons, one, size, Label, own, slot, Slot, metavariable, function, hole, Terms, Term, IsExpression}
+use Rattle.meaning.specs.Term.{Tree, nil, cons, one, size, Label, own, slot, Slot, metavariable, function, hole, Terms, Term}
+use Rattle.meaning.specs.Term.{IsExpression}
 use Rattle.meaning.specs.Problem.{Problem, patterns, expressions, applied, placesOf, isFunction, functions}
 use Rattle.meaning.specs.Filling.{plug, Entry, body, Filling, bodyOr, fillHandler, IsBody}
 use Rattle.meaning.specs.Solution.{Solution}

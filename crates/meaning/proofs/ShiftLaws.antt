@@ -7,7 +7,8 @@ use native.Mathlib.Omega.{arith}
 use native.Mathlib.Decide.{decLt}
 use lib.Dec.{ltb, T, ltb→lt, lt→ltb}
 use Rattle.meaning.specs.Basics.{andThen}
-use Rattle.meaning.specs.Term.{Forest, nil, cons, Tree, one, size, relabel, symbol, variable, application, binder, Label, own, slot, Variable, free, bound, Nameless, Terms, Term, inner, ownLabel, IsExpression}
+use Rattle.meaning.specs.Term.{Forest, nil, cons, Tree, one, size, relabel, symbol, variable, application, binder, Label, own, slot}
+use Rattle.meaning.specs.Term.{Variable, free, bound, Nameless, Terms, Term, inner, ownLabel, IsExpression}
 use Rattle.meaning.specs.Shift.{withVariable, raise, shiftLabel, shift, shiftTerm, closedVariable, closedLabel, Closed, ClosedTerm}
 use Rattle.meaning.specs.Lower.{sink, lowerLabel, lower, lowerTerm}
 use Rattle.meaning.specs.ClosedTest.{isClosedVariable, isClosedLabel, isClosed}

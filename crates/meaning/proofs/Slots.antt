@@ -4,17 +4,21 @@ use mathlib.Core.Path.{_≡_, refl, ap, ap₂, sym, _∙_, subst}
 use mathlib.Core.Logic.{_⊎_, inl, inr, ⊎-elim}
 use Prim.Native.Nat.{ℕ, zero, suc, _+_, _<_}
 use mathlib.Core.Bool.{Bool, true, false, _||_, false≢true}
-use mathlib.Core.List.{List, [], _∷_, _++_, map, map-append, List·Memᴰ·head, List·Memᴰ·tail, List·Memᴰ·append-cases, List·Memᴰ·cases-cons, List·Memᴰ·not-nil, Memᴰ·append-left, Memᴰ·append-right}
+use mathlib.Core.List.{List, [], _∷_, _++_, map, map-append, List·Memᴰ·head, List·Memᴰ·tail, List·Memᴰ·append-cases, List·Memᴰ·cases-cons}
+use mathlib.Core.List.{List·Memᴰ·not-nil, Memᴰ·append-left, Memᴰ·append-right}
 use mathlib.Core.Option.{Option, none, some}
 use native.Mathlib.Omega.{arith}
 use lib.Dec.{eqb}
 use Rattle.meaning.specs.Basics.{each, join, guard, _∈_}
-use Rattle.meaning.specs.Term.{nil, cons, one, size, trees, own, slot, Slot, metavariable, function, hole, Nameless, Terms, Term, inner, IsExpression}
-use Rattle.meaning.specs.Problem.{Problem, patterns, expressions, plain, applications, applied, alone, argumentOf, Standing, inArguments, standings}
+use Rattle.meaning.specs.Term.{nil, cons, one, size, trees, own, slot, Slot, metavariable, function, hole, Nameless, Terms, Term}
+use Rattle.meaning.specs.Term.{inner, IsExpression}
+use Rattle.meaning.specs.Problem.{Problem, patterns, expressions, plain, applications, applied, alone, argumentOf, Standing}
+use Rattle.meaning.specs.Problem.{inArguments, standings}
 use Rattle.meaning.specs.Filling.{argument, IsBody}
 use Rattle.meaning.specs.Solution.{hasHole}
 use Rattle.meaning.specs.Face.{Face, agrees, meet, walk, faces}
-use Rattle.meaning.proofs.Lists.{never, eqb-eq, eqb-self, or-cases, or-left, or-right, each-append, mem-map, map-mem, mem-each, each-mem}
+use Rattle.meaning.proofs.Lists.{never, eqb-eq, eqb-self, or-cases, or-left, or-right, each-append, mem-map, map-mem, mem-each}
+use Rattle.meaning.proofs.Lists.{each-mem}
 use Rattle.meaning.proofs.Proper.{IsArgument, IsPattern, Proper}
 
 abbrev pub slotsNode : Nameless → Terms → List (Slot × Terms) → List (Slot × Terms)

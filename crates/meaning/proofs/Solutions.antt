@@ -11,7 +11,8 @@ use Rattle.meaning.specs.Basics.{keep, every, _∈_, Distinct}
 use Rattle.meaning.specs.Term.{nil, cons, one, size, own, slot, Terms, Term, IsExpression}
 use Rattle.meaning.specs.Shift.{ClosedTerm}
 use Rattle.meaning.specs.Same.{sameTerms}
-use Rattle.meaning.specs.Problem.{Where, standings, Problem, patterns, expressions, plain, applied, placesOf, isFunction, isPlain, functions, metavariables}
+use Rattle.meaning.specs.Problem.{Where, standings, Problem, patterns, expressions, plain, applied, placesOf, isFunction, isPlain}
+use Rattle.meaning.specs.Problem.{functions, metavariables}
 use Rattle.meaning.specs.Filling.{leftOpen, value, body, Filling, filled, IsBody}
 use Rattle.meaning.specs.Solution.{Idle, Solution}
 use Rattle.meaning.specs.Face.{faces}
@@ -21,12 +22,14 @@ use Rattle.meaning.specs.Rows.{rows}
 use Rattle.meaning.specs.Value.{Source, sources, lookup}
 use Rattle.meaning.specs.Candidate.{given, candidate, isClosedEntry, solves, solutionRows, fullList}
 use Rattle.meaning.specs.Readable.{Accepted}
-use Rattle.meaning.proofs.Lists.{never, T-true, true-T, and-T, T-and, by-test, mem-map, map-mem, mem-keep, keep-mem, isIn-mem, mem-isIn, all-mem, mem-all, every-all, all-every}
+use Rattle.meaning.proofs.Lists.{never, T-true, true-T, and-T, T-and, by-test, mem-map, map-mem, mem-keep, keep-mem, isIn-mem}
+use Rattle.meaning.proofs.Lists.{mem-isIn, all-mem, mem-all, every-all, all-every}
 use Rattle.meaning.proofs.ShiftLaws.{test-closed, closed-test}
 use Rattle.meaning.proofs.Alike.{sameTerms-eq, sameTerms-refl}
 use Rattle.meaning.proofs.ChoiceLaws.{rows-are, rows-once}
 use Rattle.meaning.proofs.Proper.{Proper, accepted-proper, applied-functions, functions-applied, applied-occurs, plain-occurs}
-use Rattle.meaning.proofs.Candidate.{Fitting, candidate-function, candidate-plain, candidate-other, fitting-source, fitting-idle, lookup-cases, solution-candidate}
+use Rattle.meaning.proofs.Candidate.{Fitting, candidate-function, candidate-plain, candidate-other, fitting-source, fitting-idle}
+use Rattle.meaning.proofs.Candidate.{lookup-cases, solution-candidate}
 use Rattle.meaning.proofs.Lists.{drop-mem, mem-at, is-some, keep-distinct}
 use Rattle.meaning.proofs.RowBodies.{face-expression, choice-in, row-exists, row-only, body-row}
 

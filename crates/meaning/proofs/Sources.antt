@@ -12,7 +12,8 @@ use Rattle.meaning.specs.Term.{nil, cons, one, trees, Slot, metavariable
 use Rattle.meaning.specs.Shift.{shiftTerm}
 use Rattle.meaning.specs.Lower.{lowerTerm}
 use Rattle.meaning.specs.Problem.{plain}
-use Rattle.meaning.specs.Filling.{Handler, fill, fillTerm, plugHandler, plug, argument, Entry, absent, leftOpen, value, body, Filling, valueOr, bodyOr, fillHandler, IsBody}
+use Rattle.meaning.specs.Filling.{Handler, fill, fillTerm, plugHandler, plug, argument, Entry, absent, leftOpen, value, body, Filling}
+use Rattle.meaning.specs.Filling.{valueOr, bodyOr, fillHandler, IsBody}
 use Rattle.meaning.specs.Solution.{hasHole}
 use Rattle.meaning.specs.Face.{Face, walk}
 use Rattle.meaning.specs.Agree.{Satisfied}

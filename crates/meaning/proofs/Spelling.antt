@@ -8,7 +8,8 @@ use Prim.Native.Nat.{ℕ, zero, suc, _+_, _-_, _*_, _<_, _≤_}
 use mathlib.Core.List.{List, [], _∷_}
 use native.Mathlib.Omega.{arith}
 use native.Mathlib.Decide.{decLt}
-use Rattle.meaning.specs.Term.{Forest, nil, cons, one, relabel, Own, symbol, variable, application, binder, own, slot, Slot, metavariable, function, hole, Named, Variable, free, bound, Nameless, NamedTerm, Terms, Term, inner}
+use Rattle.meaning.specs.Term.{Forest, nil, cons, one, relabel, Own, symbol, variable, application, binder, own, slot, Slot}
+use Rattle.meaning.specs.Term.{metavariable, function, hole, Named, Variable, free, bound, Nameless, NamedTerm, Terms, Term, inner}
 use Rattle.meaning.specs.Scope.{resolve, enter, namelessLabel, nameless, namelessTerm}
 use Rattle.meaning.specs.Shift.{closedVariable, closedLabel, Closed}
 use Rattle.meaning.specs.Filling.{Entry, absent, leftOpen, value, body}

@@ -11,13 +11,17 @@ use lib.ListN.{length, length-append}
 use lib.Dec.{eqb}
 use borrow.Author.Tests.{eqb-true, ne-eqb}
 use Rattle.meaning.specs.Basics.{All, Bytes}
-use Rattle.meaning.specs.Term.{Forest, nil, cons, graft, one, trees, symbol, variable, application, binder, own, slot, metavariable, function, hole, Named, NamedTerm}
+use Rattle.meaning.specs.Term.{Forest, nil, cons, graft, one, trees, symbol, variable, application, binder, own, slot, metavariable}
+use Rattle.meaning.specs.Term.{function, hole, Named, NamedTerm}
 use Rattle.meaning.specs.Field.{field, tagOf, fixedPart, encode}
-use Rattle.meaning.specs.Read.{got, Context, inArgument, headOf, Content, leaf, over, many, contentOf, Reader, readExactly, readAll, contextBelow, readContent, readTerm}
+use Rattle.meaning.specs.Read.{got, Context, inArgument, headOf, Content, leaf, over, many, contentOf, Reader, readExactly, readAll}
+use Rattle.meaning.specs.Read.{contextBelow, readContent, readTerm}
 use Rattle.meaning.specs.Readable.{NodeFits, Readable}
 use Rattle.meaning.proofs.Lists.{append-all, all-append}
-use Rattle.meaning.proofs.ByteLaws.{Byte, got-is, refused-not, by-got, when-got, by-choice, none-left, field-content, field-length, field-bytes}
-use Rattle.meaning.proofs.NodeReading.{encode-graft, encode-one, encode-long, graft-long, some-trees, kindTag, head-field, Opened, content-opened, kindOn, kind-on, contentOn, content-on, field-head, tag-byte, fixed-bytes}
+use Rattle.meaning.proofs.ByteLaws.{Byte, got-is, refused-not, by-got, when-got, by-choice, none-left, field-content, field-length}
+use Rattle.meaning.proofs.ByteLaws.{field-bytes}
+use Rattle.meaning.proofs.NodeReading.{encode-graft, encode-one, encode-long, graft-long, some-trees, kindTag, head-field, Opened}
+use Rattle.meaning.proofs.NodeReading.{content-opened, kindOn, kind-on, contentOn, content-on, field-head, tag-byte, fixed-bytes}
 
 readable-graft : (levels : ℕ) (ctx : Context) (t : NamedTerm) (f : Forest Named) → Readable levels ctx (one t) → Readable levels ctx f → Readable levels ctx (graft t f)
 readable-graft zero ctx t f a b = absurd a

@@ -11,10 +11,12 @@ use lib.ListN.{drop}
 use lib.Dec.{eqb, T}
 use Rattle.meaning.specs.Limits.{metavariableCount, maxDepth}
 use Rattle.meaning.specs.Basics.{choose, isIn, upTo, All, _∈_, Distinct, orNone}
-use Rattle.meaning.specs.Term.{Forest, nil, cons, one, size, trees, nodeAt, symbol, variable, application, binder, own, slot, metavariable, function, hole, Named, NamedTerm, Term, IsExpression}
+use Rattle.meaning.specs.Term.{Forest, nil, cons, one, size, trees, nodeAt, symbol, variable, application, binder, own, slot}
+use Rattle.meaning.specs.Term.{metavariable, function, hole, Named, NamedTerm, Term, IsExpression}
 use Rattle.meaning.specs.Scope.{enter, nameless, namelessTerm}
 use Rattle.meaning.specs.Shift.{ClosedTerm}
-use Rattle.meaning.specs.Problem.{Constraint, Problem, namedExpressions, patterns, expressions, plain, applied, placesOf, isFunction, isPlain, functions, metavariables}
+use Rattle.meaning.specs.Problem.{Constraint, Problem, namedExpressions, patterns, expressions, plain, applied, placesOf, isFunction}
+use Rattle.meaning.specs.Problem.{isPlain, functions, metavariables}
 use Rattle.meaning.specs.Filling.{Entry, absent, value, body, fillHandler, IsBody}
 use Rattle.meaning.specs.Face.{Face, faces, isApplication, firstFace}
 use Rattle.meaning.specs.Choice.{Mark, Marks, mark, rest, punch, punchNode, punchTerm}
@@ -25,7 +27,8 @@ use Rattle.meaning.specs.Candidate.{given, candidate, isClosedEntry, sol
 use Rattle.meaning.specs.Read.{Context, inExpression, inBody, contextBelow}
 use Rattle.meaning.specs.Readable.{NodeFits, Readable, ReadableConstraint, Accepted, ReadableEntry, ReadableItem}
 use Rattle.meaning.specs.Text.{Item, termOr, termAt, faceNode, writtenBody, writtenValue, entryOf, textOf, meant, said, Says}
-use Rattle.meaning.proofs.Lists.{never, true-T, keep-distinct, eqb-eq, eqb-self, eqb-other, by-test, choose-true, choose-false, keep-mem, isIn-mem, mem-isIn, not-isIn, upTo-mem, all-mem, mem-all, distinct-countFrom}
+use Rattle.meaning.proofs.Lists.{never, true-T, keep-distinct, eqb-eq, eqb-self, eqb-other, by-test, choose-true, choose-false}
+use Rattle.meaning.proofs.Lists.{keep-mem, isIn-mem, mem-isIn, not-isIn, upTo-mem, all-mem, mem-all, distinct-countFrom}
 use Rattle.meaning.proofs.ShiftLaws.{test-closed}
 use Rattle.meaning.proofs.ChoiceLaws.{rows-are}
 use Rattle.meaning.proofs.Proper.{Proper, accepted-proper, hole-tagged, applied-occurs, plain-occurs}
@@ -33,7 +36,8 @@ use Rattle.meaning.proofs.Sources.{Walked, walked}
 use Rattle.meaning.proofs.Candidate.{lookup-is, candidate-function, candidate-plain, candidate-other}
 use Rattle.meaning.proofs.RowBodies.{punch-one, face-expression}
 use Rattle.meaning.proofs.Solutions.{passes-meets, passes-closed, passes-fitting}
-use Rattle.meaning.proofs.Nodes.{Stands, here, below, beside, node-stands, face-node, source-node, named-node, scope-drop, punch-names}
+use Rattle.meaning.proofs.Nodes.{Stands, here, below, beside, node-stands, face-node, source-node, named-node, scope-drop}
+use Rattle.meaning.proofs.Nodes.{punch-names}
 
 -- Numbers in order, and so the metavariables of a problem, have none twice
 pub metavariables-once : (p : Problem) → Distinct (metavariables p)

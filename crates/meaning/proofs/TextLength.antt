@@ -9,14 +9,17 @@ use mathlib.Core.Path.{_≡_, refl, ap, sym, _∙_, subst}
 use mathlib.Core.Logic.{_⊎_, inl, inr, ⊎-elim}
 use Prim.Native.Nat.{ℕ, _+_, _-_, _*_, _≤_}
 use mathlib.Core.Bool.{true}
-use mathlib.Core.List.{List, [], _∷_, map, List·Memᴰ·head, List·Memᴰ·tail, List·Memᴰ·eq-of-singleton, List·Memᴰ·append-cases, List·Memᴰ·cases-cons, List·Memᴰ·not-nil}
+use mathlib.Core.List.{List, [], _∷_, map, List·Memᴰ·head, List·Memᴰ·tail, List·Memᴰ·eq-of-singleton, List·Memᴰ·append-cases}
+use mathlib.Core.List.{List·Memᴰ·cases-cons, List·Memᴰ·not-nil}
 use mathlib.Core.Option.{Option, none, some}
 use native.Mathlib.Omega.{arith}
 use lib.ListN.{length, drop}
 use Rattle.meaning.specs.Basics.{each, upTo, _∈_, andThen, orNone}
-use Rattle.meaning.specs.Term.{nil, cons, one, size, trees, own, slot, Slot, metavariable, function, hole, Variable, NamedTerm, Terms, Term, IsExpression}
+use Rattle.meaning.specs.Term.{nil, cons, one, size, trees, own, slot, Slot, metavariable, function, hole, Variable, NamedTerm, Terms}
+use Rattle.meaning.specs.Term.{Term, IsExpression}
 use Rattle.meaning.specs.Lower.{lowerTerm}
-use Rattle.meaning.specs.Problem.{Problem, namedPatterns, namedExpressions, patterns, expressions, plain, applied, functions, metavariables}
+use Rattle.meaning.specs.Problem.{Problem, namedPatterns, namedExpressions, patterns, expressions, plain, applied, functions}
+use Rattle.meaning.specs.Problem.{metavariables}
 use Rattle.meaning.specs.Filling.{plugHandler, argument, Entry, absent, leftOpen, value, body, fillHandler}
 use Rattle.meaning.specs.Face.{Face, walk}
 use Rattle.meaning.specs.Agree.{Satisfied}
@@ -37,8 +40,10 @@ use Rattle.meaning.proofs.Candidate.{lookup-is, candidate-function, can
 use Rattle.meaning.proofs.RowBodies.{FaceOf, face-of, face-expression, body-row}
 use Rattle.meaning.proofs.Solutions.{passes-meets}
 use Rattle.meaning.proofs.TextLaws.{metavariables-once, by-kind, text-entry}
-use Rattle.meaning.proofs.Sums.{total, total-append, total-each, total-map, total-add, total-same, total-most, length-each, length-upTo, Charge, amount, charged-once}
-use Rattle.meaning.proofs.Weights.{weight, labelWeight, encode-weight, trees-weight, nameless-weight, lower-weight, faced, slotted, walk-weight, problem-weight}
+use Rattle.meaning.proofs.Sums.{total, total-append, total-each, total-map, total-add, total-same, total-most, length-each}
+use Rattle.meaning.proofs.Sums.{length-upTo, Charge, amount, charged-once}
+use Rattle.meaning.proofs.Weights.{weight, labelWeight, encode-weight, trees-weight, nameless-weight, lower-weight, faced, slotted}
+use Rattle.meaning.proofs.Weights.{walk-weight, problem-weight}
 
 -- The values that come from some faces, or from a hole, have at most the bytes there
 abbrev given-weight : Source → ℕ

@@ -18,7 +18,9 @@ use Rattle.meaning.specs.Readable.{Readable, ReadableEntry, ReadableItem
 use Rattle.meaning.specs.Text.{Item, orTwenty, readNumbered, readOpen, readItem, readItems, readText}
 use Rattle.meaning.specs.Encoded.{encodeEntry, encodeText}
 use Rattle.meaning.proofs.Lists.{all-append}
-use Rattle.meaning.proofs.ByteLaws.{Byte, got-is, refused-not, by-got, unless-got, when-got, by-choice, none-left, one-byte, first-byte, parts-field, field-parts, field-some, field-length, field-bytes, field-content, field-later, later-fewer}
+use Rattle.meaning.proofs.ByteLaws.{Byte, got-is, refused-not, by-got, unless-got, when-got, by-choice, none-left, one-byte}
+use Rattle.meaning.proofs.ByteLaws.{first-byte, parts-field, field-parts, field-some, field-length, field-bytes, field-content}
+use Rattle.meaning.proofs.ByteLaws.{field-later, later-fewer}
 use Rattle.meaning.proofs.TermReading.{term-read-readable, term-read-whole, term-encode-whole, term-bytes}
 
 -- An item is the field of that tag and content, and readable

@@ -9,13 +9,16 @@ use native.Mathlib.Omega.{arith}
 use lib.ListN.{length}
 use lib.Dec.{eqb}
 use Rattle.meaning.specs.Basics.{choose, All}
-use Rattle.meaning.specs.Term.{Forest, nil, cons, one, symbol, variable, application, binder, own, slot, Slot, metavariable, function, hole, Named, Variable, bound, NamedTerm, Terms, inner}
+use Rattle.meaning.specs.Term.{Forest, nil, cons, one, symbol, variable, application, binder, own, slot, Slot, metavariable, function}
+use Rattle.meaning.specs.Term.{hole, Named, Variable, bound, NamedTerm, Terms, inner}
 use Rattle.meaning.specs.Scope.{resolve, enter, namelessLabel, nameless, namelessTerm}
 use Rattle.meaning.specs.Shift.{raise, shiftLabel, shift, shiftTerm}
 use Rattle.meaning.specs.Rename.{binds}
-use Rattle.meaning.specs.Filling.{Handler, fill, plugHandler, argument, Entry, absent, leftOpen, value, body, valueOr, bodyOr, plug, fillHandler, filled}
+use Rattle.meaning.specs.Filling.{Handler, fill, plugHandler, argument, Entry, absent, leftOpen, value, body, valueOr, bodyOr, plug}
+use Rattle.meaning.specs.Filling.{fillHandler, filled}
 use Rattle.meaning.specs.Text.{meant}
-use Rattle.meaning.specs.Textual.{isVariable, isFree, Avoids, Putting, put, inHoles, NamedFilling, asWritten, textual, Condition, AtSlots, holeUncaught, slotUncaught, UncaughtIn, Uncaught, putTerm, meantBy}
+use Rattle.meaning.specs.Textual.{isVariable, isFree, Avoids, Putting, put, inHoles, NamedFilling, asWritten, textual, Condition}
+use Rattle.meaning.specs.Textual.{AtSlots, holeUncaught, slotUncaught, UncaughtIn, Uncaught, putTerm, meantBy}
 use Rattle.meaning.proofs.Lists.{or-left, or-right, eqb-self, eqb-other, by-test, choose-true, choose-false}
 use Rattle.meaning.proofs.ShiftLaws.{raise-low, raise-high, shift-closed-term, pair-eq}
 use Rattle.meaning.proofs.Renaming.{cons-eq, one-injective}

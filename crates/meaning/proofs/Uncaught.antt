@@ -11,17 +11,21 @@ use native.Mathlib.Omega.{arith}
 use native.Mathlib.Decide.{decLt}
 use lib.Dec.{eqb}
 use Rattle.meaning.specs.Basics.{choose, All}
-use Rattle.meaning.specs.Term.{Forest, nil, cons, graft, one, symbol, variable, application, binder, own, slot, Slot, metavariable, function, hole, Named, free, bound, Nameless, NamedTerm, Terms, Term, inner}
+use Rattle.meaning.specs.Term.{Forest, nil, cons, graft, one, symbol, variable, application, binder, own, slot, Slot, metavariable}
+use Rattle.meaning.specs.Term.{function, hole, Named, free, bound, Nameless, NamedTerm, Terms, Term, inner}
 use Rattle.meaning.specs.Scope.{nameless, namelessTerm}
 use Rattle.meaning.specs.Shift.{closedLabel, Closed}
 use Rattle.meaning.specs.Rename.{binds, Alpha}
 use Rattle.meaning.specs.Filling.{argument, Entry, absent, leftOpen, value, body, Filling, valueOr, bodyOr}
 use Rattle.meaning.specs.Text.{meant}
-use Rattle.meaning.specs.Textual.{isVariable, isFree, putTerm, put, inHoles, NamedFilling, textual, Condition, AtSlots, holeUncaught, UncaughtIn, slotUncaught, Uncaught, ClosedEntry, meantBy, Spelling, AlphaEntry, bothAbsent, bothOpen, values, bodies, Respelling}
+use Rattle.meaning.specs.Textual.{isVariable, isFree, putTerm, put, inHoles, NamedFilling, textual, Condition, AtSlots, holeUncaught}
+use Rattle.meaning.specs.Textual.{UncaughtIn, slotUncaught, Uncaught, ClosedEntry, meantBy, Spelling, AlphaEntry, bothAbsent}
+use Rattle.meaning.specs.Textual.{bothOpen, values, bodies, Respelling}
 use Rattle.meaning.proofs.Lists.{or-false, eqb-self, eqb-other, by-test, choose-true, choose-false}
 use Rattle.meaning.proofs.Renaming.{nameless-alpha}
 use Rattle.meaning.proofs.ViewLaws.{nameless-closed}
-use Rattle.meaning.proofs.Spelling.{name, spellOwn, spellLabel, spell, spellTerm, spellEntry, levels, freeSlot, freeLabel, ceiling, ownCeiling, entryCeiling, enter-levels, spell-means, entry-means}
+use Rattle.meaning.proofs.Spelling.{name, spellOwn, spellLabel, spell, spellTerm, spellEntry, levels, freeSlot, freeLabel, ceiling}
+use Rattle.meaning.proofs.Spelling.{ownCeiling, entryCeiling, enter-levels, spell-means, entry-means}
 
 -- A name that is not free in the parts of a forest is not free in it, and back
 free-node : (y : ℕ) (l : Named) (c s : Forest Named) → isVariable y l ≡ false → (binds y l ≡ false → isFree y c ≡ false)

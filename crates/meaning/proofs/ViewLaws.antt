@@ -13,7 +13,8 @@ use native.Mathlib.Decide.{decLt}
 use lib.ListN.{length, getElem?}
 use lib.Dec.{eqb}
 use Rattle.meaning.specs.Basics.{choose, AllOf}
-use Rattle.meaning.specs.Term.{Forest, nil, cons, graft, one, relabel, symbol, variable, application, binder, Label, own, slot, Named, Variable, free, bound, Nameless, NamedTerm, Terms, Term, inner, variableOf}
+use Rattle.meaning.specs.Term.{Forest, nil, cons, graft, one, relabel, symbol, variable, application, binder, Label, own, slot, Named}
+use Rattle.meaning.specs.Term.{Variable, free, bound, Nameless, NamedTerm, Terms, Term, inner, variableOf}
 use Rattle.meaning.specs.Scope.{resolve, enter, namelessLabel, nameless, namelessTerm}
 use Rattle.meaning.specs.Shift.{withVariable, closedVariable, closedLabel, Closed, ClosedTerm}
 use Rattle.meaning.specs.Equal.{Seen, seenFree, inside, outside, see, View, Equal, EqualWhole}

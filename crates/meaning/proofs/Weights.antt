@@ -9,7 +9,8 @@ use mathlib.Core.Option.{some}
 use native.Mathlib.Omega.{arith}
 use lib.ListN.{length, length-append}
 use lib.Dec.{T}
-use Rattle.meaning.specs.Term.{Forest, nil, cons, one, size, trees, relabel, Own, symbol, variable, application, binder, Label, own, slot, metavariable, function, hole, Named, Variable, Nameless, Terms, Term, inner}
+use Rattle.meaning.specs.Term.{Forest, nil, cons, one, size, trees, relabel, Own, symbol, variable, application, binder, Label, own}
+use Rattle.meaning.specs.Term.{slot, metavariable, function, hole, Named, Variable, Nameless, Terms, Term, inner}
 use Rattle.meaning.specs.Scope.{enter, namelessLabel, nameless}
 use Rattle.meaning.specs.Shift.{shiftLabel}
 use Rattle.meaning.specs.Lower.{lowerTerm}

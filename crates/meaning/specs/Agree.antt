@@ -4,7 +4,8 @@
 -- "If they disagree anywhere, the problem has no rows."
 use Prim.Native.Nat.{ℕ}
 use mathlib.Core.Path.{_≡_}
-use Rattle.meaning.specs.Term.{Nameless, Own, Slot, Terms, Variable, application, binder, bound, cons, free, nil, own, slot, symbol, variable}
+use Rattle.meaning.specs.Term.{Nameless, Own, Slot, Terms, Variable, application, binder, bound, cons, free, nil, own, slot, symbol}
+use Rattle.meaning.specs.Term.{variable}
 use Rattle.meaning.specs.Filling.{Handler, fill}
 use Rattle.meaning.specs.Face.{Face}
 

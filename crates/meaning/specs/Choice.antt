@@ -9,7 +9,8 @@ use mathlib.Core.List.{List, [], _∷_, _++_}
 use mathlib.Core.Option.{Option, none, some}
 use lib.ListN.{length, drop, getElem?}
 use Rattle.meaning.specs.Basics.{holds, ifSome}
-use Rattle.meaning.specs.Term.{Forest, Label, Nameless, Term, Terms, Tree, binderOf, cons, function, hole, metavariable, nil, one, own, size, slot, variableOf}
+use Rattle.meaning.specs.Term.{Forest, Label, Nameless, Term, Terms, Tree, binderOf, cons, function, hole, metavariable, nil, one}
+use Rattle.meaning.specs.Term.{own, size, slot, variableOf}
 use Rattle.meaning.specs.Equal.{Seen, View, inside, outside, seenFree, view}
 
 abbrev pub Mark : Type 0

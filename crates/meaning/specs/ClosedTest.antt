@@ -2,7 +2,8 @@
 use Prim.Native.Nat.{ℕ}
 use mathlib.Core.Bool.{Bool, true, _&&_}
 use lib.Dec.{ltb}
-use Rattle.meaning.specs.Term.{Nameless, Terms, Variable, application, binder, bound, cons, free, inner, nil, own, slot, symbol, variable}
+use Rattle.meaning.specs.Term.{Nameless, Terms, Variable, application, binder, bound, cons, free, inner, nil, own, slot, symbol}
+use Rattle.meaning.specs.Term.{variable}
 
 -- The same as a test
 abbrev pub isClosedVariable : ℕ → Variable → Bool

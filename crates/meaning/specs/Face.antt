@@ -8,7 +8,8 @@ use mathlib.Core.List.{List, [], _∷_}
 use mathlib.Core.Option.{Option, none, some}
 use lib.Dec.{eqb}
 use Rattle.meaning.specs.Basics.{choose, guard, join}
-use Rattle.meaning.specs.Term.{Nameless, Own, Slot, Term, Terms, Variable, cons, function, hole, inner, metavariable, nil, own, size, slot}
+use Rattle.meaning.specs.Term.{Nameless, Own, Slot, Term, Terms, Variable, cons, function, hole, inner, metavariable, nil, own, size}
+use Rattle.meaning.specs.Term.{slot}
 use Rattle.meaning.specs.Problem.{Problem, expressions, patterns}
 use Rattle.meaning.specs.Same.{sameOwn, sameVariable}
 

@@ -5,7 +5,8 @@ use Prim.Native.Nat.{ℕ, _/_, _%_}
 use mathlib.Core.List.{[], _∷_, _++_}
 use lib.ListN.{length}
 use Rattle.meaning.specs.Basics.{Bytes, each}
-use Rattle.meaning.specs.Term.{Forest, Named, application, binder, cons, function, hole, metavariable, nil, one, own, slot, symbol, variable}
+use Rattle.meaning.specs.Term.{Forest, Named, application, binder, cons, function, hole, metavariable, nil, one, own, slot, symbol}
+use Rattle.meaning.specs.Term.{variable}
 use Rattle.meaning.specs.Problem.{Constraint, Problem}
 
 unfoldable pub word : ℕ → Bytes

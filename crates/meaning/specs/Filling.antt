@@ -6,7 +6,8 @@
 -- values and bodies are closed, so that they need no shift.
 use mathlib.Core.Path.{_≡_}
 use Prim.Native.Nat.{ℕ, zero, suc, _<_}
-use Rattle.meaning.specs.Term.{Forest, Label, Nameless, Slot, Term, Terms, Tree, cons, function, graft, hole, inner, metavariable, nil, own, slot}
+use Rattle.meaning.specs.Term.{Forest, Label, Nameless, Slot, Term, Terms, Tree, cons, function, graft, hole, inner, metavariable}
+use Rattle.meaning.specs.Term.{nil, own, slot}
 use Rattle.meaning.specs.Shift.{shiftTerm}
 
 abbrev pub Handler : Type 0

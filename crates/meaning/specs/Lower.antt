@@ -5,7 +5,8 @@ use Prim.Native.Nat.{ℕ, _+_, _-_}
 use mathlib.Core.Option.{Option, none, some}
 use lib.Dec.{ltb}
 use Rattle.meaning.specs.Basics.{andThen, choose}
-use Rattle.meaning.specs.Term.{Nameless, Term, Terms, Variable, application, binder, bound, cons, free, inner, nil, own, slot, symbol, variable}
+use Rattle.meaning.specs.Term.{Nameless, Term, Terms, Variable, application, binder, bound, cons, free, inner, nil, own, slot, symbol}
+use Rattle.meaning.specs.Term.{variable}
 
 abbrev pub sink : ℕ → ℕ → Variable → Option Variable
 sink n k (free x) = some (free x)

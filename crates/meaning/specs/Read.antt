@@ -10,7 +10,8 @@ use lib.ListN.{length, take, drop, getD}
 use lib.Dec.{eqb, ltb}
 use Rattle.meaning.specs.Limits.{maxConstraints, maxDepth, maxInput, metavariableCount}
 use Rattle.meaning.specs.Basics.{Bytes, choose}
-use Rattle.meaning.specs.Term.{Forest, Named, NamedTerm, application, binder, function, graft, hole, metavariable, nil, own, slot, symbol, trees, variable}
+use Rattle.meaning.specs.Term.{Forest, Named, NamedTerm, application, binder, function, graft, hole, metavariable, nil, own, slot}
+use Rattle.meaning.specs.Term.{symbol, trees, variable}
 use Rattle.meaning.specs.Problem.{Constraint, Problem}
 
 pub data Answer (A : Type 0) : Type 0 where

@@ -9,7 +9,8 @@ use Prim.Native.Nat.{ℕ, zero, suc, _<_, _≤_}
 use lib.ListN.{length}
 use Rattle.meaning.specs.Limits.{maxConstraints, maxDepth, maxInput, metavariableCount}
 use Rattle.meaning.specs.Basics.{All}
-use Rattle.meaning.specs.Term.{Forest, Named, NamedTerm, application, binder, cons, function, hole, metavariable, nil, one, own, slot, symbol, trees, variable}
+use Rattle.meaning.specs.Term.{Forest, Named, NamedTerm, application, binder, cons, function, hole, metavariable, nil, one, own, slot}
+use Rattle.meaning.specs.Term.{symbol, trees, variable}
 use Rattle.meaning.specs.Problem.{Constraint, Problem}
 use Rattle.meaning.specs.Read.{Context, contextBelow, got, inArgument, inBody, inExpression, inPattern}
 use Rattle.meaning.specs.Filling.{Entry, absent, body, leftOpen, value}

@@ -4,7 +4,8 @@
 --   sameTerms   two nameless forests; sameView, two views
 use mathlib.Core.Bool.{Bool, true, false, _&&_}
 use lib.Dec.{eqb}
-use Rattle.meaning.specs.Term.{Forest, Label, Own, Slot, Terms, Variable, application, binder, bound, cons, free, function, hole, metavariable, nil, own, slot, symbol, variable}
+use Rattle.meaning.specs.Term.{Forest, Label, Own, Slot, Terms, Variable, application, binder, bound, cons, free, function, hole}
+use Rattle.meaning.specs.Term.{metavariable, nil, own, slot, symbol, variable}
 use Rattle.meaning.specs.Equal.{Seen, View, inside, outside, seenFree}
 
 -- Two forests alike in shape and in each label, by a test of labels

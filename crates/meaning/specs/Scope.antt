@@ -5,7 +5,8 @@ use Prim.Native.Nat.{ℕ, suc}
 use mathlib.Core.List.{List, [], _∷_}
 use lib.Dec.{eqb}
 use Rattle.meaning.specs.Basics.{choose, ifSome}
-use Rattle.meaning.specs.Term.{Forest, Named, NamedTerm, Nameless, Term, Terms, Variable, application, binder, binderOf, bound, free, own, relabel, slot, symbol, variable}
+use Rattle.meaning.specs.Term.{Forest, Named, NamedTerm, Nameless, Term, Terms, Variable, application, binder, binderOf, bound, free}
+use Rattle.meaning.specs.Term.{own, relabel, slot, symbol, variable}
 
 -- The variable x, when i binders lie between it and the scope that is left to search
 abbrev pub resolve : List ℕ → ℕ → ℕ → Variable

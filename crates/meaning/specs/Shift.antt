@@ -4,7 +4,8 @@
 use Prim.Native.Nat.{ℕ, _+_, _<_}
 use lib.Dec.{ltb}
 use Rattle.meaning.specs.Basics.{AllOf, choose}
-use Rattle.meaning.specs.Term.{Label, Nameless, Term, Terms, Variable, application, binder, bound, cons, free, inner, nil, one, own, relabel, slot, symbol, variable, variableOf}
+use Rattle.meaning.specs.Term.{Label, Nameless, Term, Terms, Variable, application, binder, bound, cons, free, inner, nil, one, own}
+use Rattle.meaning.specs.Term.{relabel, slot, symbol, variable, variableOf}
 
 -- A label with another variable in place of its own
 abbrev pub withVariable : {X Y B : Type 0} → (X → Y) → Label X B → Label Y B

@@ -4,7 +4,8 @@
 use Prim.Native.Nat.{ℕ, zero, suc, _/_, _%_, _^_}
 use mathlib.Core.List.{List, [], _∷_, _++_}
 use Rattle.meaning.specs.Basics.{Bytes}
-use Rattle.meaning.specs.Case.{Case, boundValue, noConstraint, notCaught, onePlusOne, oneSymbol, twoApplications, twoValues, underBinder, unusedVariable}
+use Rattle.meaning.specs.Case.{Case, boundValue, noConstraint, notCaught, onePlusOne, oneSymbol, twoApplications, twoValues}
+use Rattle.meaning.specs.Case.{underBinder, unusedVariable}
 
 abbrev pub hex : ℕ → ℕ → Bytes
 hex zero digits = []

@@ -12,7 +12,8 @@ use mathlib.Core.Bool.{Bool, false, _||_}
 use mathlib.Core.List.{List, []}
 use lib.Dec.{eqb}
 use Rattle.meaning.specs.Basics.{All, choose, holds}
-use Rattle.meaning.specs.Term.{Forest, Named, NamedTerm, Slot, Term, Terms, cons, function, graft, hole, metavariable, nil, one, own, slot, variableOf}
+use Rattle.meaning.specs.Term.{Forest, Named, NamedTerm, Slot, Term, Terms, cons, function, graft, hole, metavariable, nil, one, own}
+use Rattle.meaning.specs.Term.{slot, variableOf}
 use Rattle.meaning.specs.Scope.{enter, nameless}
 use Rattle.meaning.specs.Shift.{ClosedTerm}
 use Rattle.meaning.specs.Filling.{Entry, Filling, absent, argument, body, bodyOr, leftOpen, value, valueOr}

@@ -7,7 +7,8 @@ use lib.ListN.{length}
 use lib.Dec.{eqb}
 use Rattle.meaning.specs.Limits.{metavariableCount, maxDepth}
 use Rattle.meaning.specs.Basics.{choose, keep, every, upTo, isIn}
-use Rattle.meaning.specs.Term.{Forest, nil, cons, size, symbol, variable, application, binder, own, slot, metavariable, function, hole, Named, Terms}
+use Rattle.meaning.specs.Term.{Forest, nil, cons, size, symbol, variable, application, binder, own, slot, metavariable, function, hole}
+use Rattle.meaning.specs.Term.{Named, Terms}
 use Rattle.meaning.specs.Scope.{enter, namelessLabel, nameless}
 use Rattle.meaning.specs.Problem.{Problem, namedPatterns, patterns, plain, applications, applied, isFunction, isPlain, functions}
 use Rattle.meaning.specs.Field.{tagOf}

@@ -109,7 +109,8 @@ module _ (s ps es fs ds : List ℕ) (prepared : Prepared) (h : Prepares (accept 
     pub starts-begins : (r : Started) → r .answer ≡ starts.Begins → Begins (a .agree) ds (r .place) → Starts (startCall s) r
     unfolding startCall Starts
     starts-begins r q b =
-        rw (ready .answer)
-        (q,
-        begins-start (ready .problem) (ready .laid .accepted) ds (a .agree) (ready .laid .agree)
-        (ready-tables (accept s) ps es fs ds a (prepared .firsts) ready) (r .place) b)
+        rw (ready .answer) (
+          q,
+          begins-start (ready .problem) (ready .laid .accepted) ds (a .agree) (ready .laid .agree)
+              (ready-tables (accept s) ps es fs ds a (prepared .firsts) ready) (r .place) b,
+        )

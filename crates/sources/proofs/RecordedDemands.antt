@@ -9,7 +9,8 @@ use Prim.Native.Nat.{ℕ, zero, suc, _<_}
 use lib.Dec.{eqb}
 use Rattle.meaning.specs.Limits.{metavariableCount}
 use Rattle.meaning.specs.Basics.{All, choose, each}
-use Rattle.meaning.specs.Term.{Forest, nil, cons, symbol, variable, application, binder, own, slot, Slot, metavariable, function, hole, Named, Terms, Term}
+use Rattle.meaning.specs.Term.{Forest, nil, cons, symbol, variable, application, binder, own, slot, Slot, metavariable, function, hole}
+use Rattle.meaning.specs.Term.{Named, Terms, Term}
 use Rattle.meaning.specs.Scope.{namelessLabel}
 use Rattle.meaning.specs.Readable.{Readable}
 use Rattle.meaning.proofs.Lists.{never}

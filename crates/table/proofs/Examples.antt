@@ -2,7 +2,8 @@
 use mathlib.Core.Path.{_≡_, refl}
 use mathlib.Core.List.{[], _∷_}
 use Rattle.meaning.specs.Limits.{maxInput, maxConstraints, maxDepth, metavariableCount}
-use Rattle.meaning.specs.Read.{got, metavariableIn, functionIn, holeIn, kindOf, partsOf, headOf, contentOf, readExactly, readAll, contextBelow, readTerm, readPair, constraintHead, readConstraints, readProblem}
+use Rattle.meaning.specs.Read.{got, metavariableIn, functionIn, holeIn, kindOf, partsOf, headOf, contentOf, readExactly, readAll}
+use Rattle.meaning.specs.Read.{contextBelow, readTerm, readPair, constraintHead, readConstraints, readProblem}
 use Rattle.tokens.proofs.Examples.{example}
 
 example-read : readProblem (7 ∷ 0 ∷ 13 ∷ 6 ∷ 0 ∷ 5 ∷ 0 ∷ 5 ∷ 0 ∷ 1 ∷ 1 ∷ 1 ∷ 0 ∷ 2 ∷ 0 ∷ 5 ∷ []) ≡ got example

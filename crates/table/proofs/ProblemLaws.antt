@@ -15,7 +15,8 @@ use Rattle.meaning.specs.Basics.{choose, Bytes}
 use Rattle.meaning.specs.Limits.{maxInput, maxConstraints, maxDepth}
 use Rattle.meaning.specs.Term.{one, NamedTerm}
 use Rattle.meaning.specs.Problem.{Constraint, Problem, namedPatterns, namedExpressions}
-use Rattle.meaning.specs.Read.{Answer, refused, got, after, Parts, inPattern, inExpression, readTerm, readPair, constraintHead, readConstraints, readProblem}
+use Rattle.meaning.specs.Read.{Answer, refused, got, after, Parts, inPattern, inExpression, readTerm, readPair, constraintHead}
+use Rattle.meaning.specs.Read.{readConstraints, readProblem}
 use Rattle.tokens.specs.Token.{tokens, patternTokens, expressionTokens}
 use Rattle.fields.specs.Heads.{PartsDone}
 use Rattle.terms.specs.Reading.{Space, Written, termAnswer, TermDone}

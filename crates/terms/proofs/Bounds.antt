@@ -10,7 +10,10 @@ use borrow.Author.Tests.{ltb-false}
 use Rattle.meaning.specs.Limits.{metavariableCount}
 use Rattle.meaning.specs.Term.{Forest, nil, graft, one, size, trees, application, own, Named, NamedTerm}
 use Rattle.meaning.specs.Basics.{Bytes}
-use Rattle.meaning.specs.Read.{Answer, refused, got, after, Context, Kind, symbolKind, variableKind, applicationKind, binderKind, metavariableKind, functionKind, holeKind, Parts, Head, wordAt, partsOf, kindOf, headWith, headOf, Content, leaf, over, many, contentOf, Reader, contextBelow, readExactly, readAll, readContent, readTerm, constraintHead}
+use Rattle.meaning.specs.Read.{Answer, refused, got, after, Context, Kind, symbolKind, variableKind, applicationKind, binderKind}
+use Rattle.meaning.specs.Read.{metavariableKind, functionKind, holeKind, Parts, Head, wordAt, partsOf, kindOf, headWith, headOf, Content}
+use Rattle.meaning.specs.Read.{leaf, over, many, contentOf, Reader, contextBelow, readExactly, readAll, readContent, readTerm}
+use Rattle.meaning.specs.Read.{constraintHead}
 use Rattle.meaning.proofs.ByteLaws.{got-is, refused-not, by-choice}
 use Rattle.fields.specs.Heads.{readFields}
 use Rattle.fields.specs.declared.node.Due.{Due}

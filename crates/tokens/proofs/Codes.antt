@@ -12,7 +12,8 @@ use native.Mathlib.Decide.{decLt}
 use lib.ListN.{length}
 use lib.Dec.{eqb}
 use Rattle.meaning.specs.Basics.{choose}
-use Rattle.meaning.specs.Term.{Forest, nil, cons, size, trees, relabel, symbol, variable, application, binder, Label, own, slot, metavariable, function, hole, Named, Variable, bound, Nameless, Terms, inner}
+use Rattle.meaning.specs.Term.{Forest, nil, cons, size, trees, relabel, symbol, variable, application, binder, Label, own, slot}
+use Rattle.meaning.specs.Term.{metavariable, function, hole, Named, Variable, bound, Nameless, Terms, inner}
 use Rattle.meaning.specs.Scope.{resolve, enter, namelessLabel, nameless}
 use Rattle.meaning.specs.Shift.{withVariable}
 use Rattle.meaning.specs.Equal.{Seen, seenFree, inside, outside, see, View}

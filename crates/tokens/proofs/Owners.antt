@@ -15,7 +15,8 @@ use native.Mathlib.Decide.{decLt}
 use lib.ListN.{length}
 use lib.Dec.{ltb}
 use borrow.Author.Tests.{lt-ltb, le-ltb}
-use Rattle.meaning.specs.Term.{nil, cons, symbol, variable, application, binder, Label, own, slot, Variable, free, bound, Nameless, Terms, Term, one, inner}
+use Rattle.meaning.specs.Term.{nil, cons, symbol, variable, application, binder, Label, own, slot, Variable, free, bound, Nameless, Terms}
+use Rattle.meaning.specs.Term.{Term, one, inner}
 use Rattle.meaning.specs.Shift.{withVariable, closedVariable, closedLabel, Closed}
 use Rattle.meaning.specs.Equal.{Seen, seenFree, inside, outside, see, View, view, Equal}
 use Rattle.meaning.specs.Choice.{Owner, nodeOfFace, aboveFace, ownerOf, ofFace, usesLabel, usesFace}

@@ -12,7 +12,8 @@ use lib.ListN.{length}
 use lib.Dec.{ltb, leb}
 use borrow.Author.Tests.{lt-ltb, le-ltb, le-leb, lt-leb}
 use Rattle.meaning.specs.Basics.{andThen, isSome}
-use Rattle.meaning.specs.Term.{Forest, nil, cons, one, size, symbol, variable, application, binder, own, slot, metavariable, function, hole, Named, Variable, bound, Nameless, Terms, Term, inner}
+use Rattle.meaning.specs.Term.{Forest, nil, cons, one, size, symbol, variable, application, binder, own, slot, metavariable, function, hole}
+use Rattle.meaning.specs.Term.{Named, Variable, bound, Nameless, Terms, Term, inner}
 use Rattle.meaning.specs.Scope.{resolve, enter, namelessLabel, nameless}
 use Rattle.meaning.specs.Lower.{sink, lowerLabel, lower, lowerTerm}
 use Rattle.meaning.specs.ClosedTest.{isClosedVariable, isClosedLabel, isClosed}

@@ -4,7 +4,8 @@ use mathlib.Core.List.{List, _++_, append-nil}
 use Prim.Native.Nat.{ℕ, suc, _+_, _*_, _<_, _≤_}
 use native.Mathlib.Omega.{arith}
 use lib.ListN.{length, length-append}
-use Rattle.meaning.specs.Term.{Forest, nil, cons, graft, one, size, symbol, variable, application, binder, own, slot, metavariable, function, hole, Named, NamedTerm}
+use Rattle.meaning.specs.Term.{Forest, nil, cons, graft, one, size, symbol, variable, application, binder, own, slot, metavariable}
+use Rattle.meaning.specs.Term.{function, hole, Named, NamedTerm}
 use Rattle.meaning.specs.Scope.{enter}
 use Rattle.meaning.specs.Field.{tagOf}
 use Rattle.tokens.specs.Token.{tokenOf, tagIn, depthIn, sizeIn, payloadIn, tokens}

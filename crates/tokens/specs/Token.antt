@@ -9,7 +9,8 @@ use mathlib.Core.List.{List, [], _∷_, _++_}
 use lib.ListN.{length, getD}
 use lib.Dec.{eqb}
 use Rattle.meaning.specs.Basics.{choose}
-use Rattle.meaning.specs.Term.{Forest, nil, cons, size, symbol, variable, application, binder, own, slot, metavariable, function, hole, Named}
+use Rattle.meaning.specs.Term.{Forest, nil, cons, size, symbol, variable, application, binder, own, slot, metavariable, function, hole}
+use Rattle.meaning.specs.Term.{Named}
 use Rattle.meaning.specs.Scope.{enter}
 use Rattle.meaning.specs.Field.{tagOf}
 use Rattle.meaning.specs.Problem.{Problem, namedPatterns, namedExpressions}

@@ -4,7 +4,8 @@ use mathlib.Core.Path.{sym, _∙_}
 use Prim.Native.Nat.{_-_}
 use native.Mathlib.Omega.{arith}
 use borrow.Author.Tests.{not-true, not-false}
-use Rattle.lockstep.proofs.SpanLaws.{Walking, left-out, left-differs, walking-start, walking-same, walking-face, walked-disagree, walked-end}
+use Rattle.lockstep.proofs.SpanLaws.{Walking, left-out, left-differs, walking-start, walking-same, walking-face, walked-disagree}
+use Rattle.lockstep.proofs.SpanLaws.{walked-end}
 use borrow.Author.Needs.{needs}
 use Rattle.lockstep.proofs.walk_at.Statement.{statement}
 use Rattle.lockstep.proofs.walk_at.Tie as tie
