@@ -1,0 +1,2 @@
+-- What a list of calls promises.
+pub mod Running

@@ -1,0 +1,77 @@
+-- A list of calls, one for each allowance, from the start of a problem on.
+--   masksIn     rows as the buffer holds them: their masks, one row after the other
+--   leftBy      the place that a list of calls leaves
+--   Called      what one call more owes
+--   FromPlace   what the calls from a place on owe: there is a list of calls that is a run from there
+--   Runs        what the calls from the start owe: the third demand
+use mathlib.Core.Path.{_≡_}
+use mathlib.Core.Logic.{_⊎_, _↔_}
+use mathlib.Core.Bool.{true}
+use mathlib.Core.List.{List, [], _∷_, _++_, map}
+use Prim.Native.Nat.{ℕ, _+_, _*_}
+use lib.ListN.{length, take, drop}
+use Rattle.meaning.specs.Basics.{Bytes, each}
+use Rattle.meaning.specs.Problem.{Problem}
+use Rattle.meaning.specs.Read.{Answer, refused, got}
+use Rattle.meaning.specs.Search.{end}
+use Rattle.meaning.specs.PlaceValue.{PlaceValue}
+use Rattle.meaning.specs.Entry.{HostReply, SearchCall}
+use Rattle.meaning.specs.Calls.{left, Run, HostCall, Carried, foundIn, founds, HasEnd, ThirdDemand}
+use Rattle.rows.specs.Rows.{MaskRow}
+use Rattle.places.specs.Places.{valueOf}
+use Rattle.places.specs.declared.Place.{Place}
+use Rattle.places.specs.declared.Start.the-variants as starts
+use Rattle.calls.specs.declared.Progress.{Progress}
+use Rattle.calls.specs.declared.Ran.{Ran}
+
+abbrev pub masksIn : List PlaceValue → List ℕ
+masksIn vs = each (λ v. v .masks) vs
+
+-- A row of eight masks as row k of the buffer, and nothing else is changed
+pub record Put (k : ℕ) (row : MaskRow) (before after : List ℕ) : Type 0 where
+  pub eight : length row ≡ 8
+  pub whole : after ≡ take (8 * k) before ++ row ++ drop (8 * k + 8) before
+
+abbrev pub IsEnd : HostReply → Type 0
+IsEnd reply = (v : PlaceValue) × (reply ≡ end v)
+
+-- The reply is one that document 01 allows at the place at hand; the place that it leaves, its row and its End are added
+pub record Called (s : Bytes) (at : Progress) (n : ℕ) (before after : List ℕ) (r : Progress) : Type 0 where
+  pub reply : HostReply
+  pub call : SearchCall s (valueOf (at .place)) n reply
+  pub leaves : valueOf (r .place) ≡ left (valueOf (at .place)) reply
+  pub found : r .found ≡ at .found + length (foundIn reply)
+  pub ended : (r .ended ≡ true) ↔ ((at .ended ≡ true) ⊎ IsEnd reply)
+  pub eights : length (masksIn (foundIn reply)) ≡ 8 * length (foundIn reply)
+  pub rows : after ≡ take (8 * at .found) before ++ masksIn (foundIn reply) ++ drop (8 * r .found) before
+
+abbrev pub leftBy : PlaceValue → List HostCall → PlaceValue
+leftBy v [] = v
+leftBy v (c ∷ cs) = leftBy (left v (c .reply)) cs
+
+pub record FromPlace (s : Bytes) (place : Place) (ns before after : List ℕ) (r : Progress) : Type 0 where
+  pub calls : List HostCall
+  pub allowances : map (λ c. c .allowance) calls ≡ ns
+  pub run : Run (SearchCall s) (valueOf place) calls
+  pub leaves : valueOf (r .place) ≡ leftBy (valueOf place) calls
+  pub found : r .found ≡ length (founds calls)
+  pub ended : (r .ended ≡ true) ↔ HasEnd calls
+  pub eights : length (masksIn (founds calls)) ≡ 8 * length (founds calls)
+  pub rows : after ≡ masksIn (founds calls) ++ drop (8 * r .found) before
+
+-- "0 or more search calls on one accepted problem. The first gets the start": for any allowances the calls made meet the third demand, and
+-- the buffer, the count and the flag tell their Founds and whether they have an End
+pub record Demanded (s : Bytes) (p : Problem) (ns before after : List ℕ) (r : Ran) : Type 0 where
+  pub answer : r .answer ≡ starts.Begins
+  pub calls : List HostCall
+  pub allowances : map (λ c. c .allowance) calls ≡ ns
+  pub carried : Carried s p calls
+  pub demand : ThirdDemand p calls
+  pub found : r .found ≡ length (founds calls)
+  pub ended : (r .ended ≡ true) ↔ HasEnd calls
+  pub rows : after ≡ masksIn (founds calls) ++ drop (8 * r .found) before
+
+-- "A refusal returns its number only. The output buffer and open search stay"
+unfoldable pub Runs : Answer Problem → Bytes → List ℕ → List ℕ → List ℕ → Ran → Type 0
+Runs (refused n) s ns before after r = (r .answer ≡ starts.Refused n) × (after ≡ before)
+Runs (got p) s ns before after r = Demanded s p ns before after r
