@@ -1,10 +1,10 @@
 -- One application: the code's test of it is that its body suits what it faces, with the demands at the lowest hole.
 use mathlib.Core.Path.{_≡_, refl, ap, sym, _∙_, subst}
 use mathlib.Core.Logic.{_↔_, _⊎_, inl, inr}
-use mathlib.Core.Bool.{Bool, true, false}
+use mathlib.Core.Bool.{true}
 use mathlib.Core.List.{List, [], _∷_, _++_, append-nil}
 use mathlib.Core.Option.{Option, none, some}
-use Prim.Native.Nat.{ℕ, zero, suc, _+_, _*_, _^_, _<_, _≤_}
+use Prim.Native.Nat.{ℕ, zero, suc, _^_, _<_, _≤_}
 use native.Mathlib.Nat.{one-mul}
 use native.Mathlib.Omega.{arith}
 use lib.ListN.{length, getElem?}
@@ -21,11 +21,10 @@ use Rattle.meaning.specs.Face.{Face, walk}
 use Rattle.meaning.specs.Choice.{Choice, Marks, punchTerm}
 use Rattle.meaning.specs.Value.{Source, sourceOf, lowestHole}
 use Rattle.meaning.specs.Readable.{WithinLimits}
-use Rattle.meaning.specs.PlaceValue.{bit, maskOf}
+use Rattle.meaning.specs.PlaceValue.{maskOf}
 use Rattle.meaning.proofs.Lists.{never, choose-true, choose-false}
 use Rattle.meaning.proofs.RowBodies.{punch-one}
-use Rattle.tokens.specs.Token.{Table, depthIn, patternTokens, expressionTokens}
-use Rattle.tokens.specs.Key.{at}
+use Rattle.tokens.specs.Token.{patternTokens, expressionTokens}
 use Rattle.tokens.proofs.ProblemTokens.{expression-table}
 use Rattle.lockstep.specs.Walk.{expressionNode}
 use Rattle.lockstep.specs.Span.{spanWalk}

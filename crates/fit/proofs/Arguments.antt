@@ -38,7 +38,6 @@ use Rattle.demands.specs.Demand.{lowered}
 use Rattle.demands.specs.Fit.{SuitsWalked}
 use Rattle.demands.specs.LowestMark.{LowestMark}
 use Rattle.demands.proofs.LowestNode.{HoleAt, lowest-hole}
-use Rattle.bodies.specs.Marked.{lowestMarked}
 use Rattle.bodies.proofs.MarkLaws.{lowest-means}
 use Rattle.bodies.proofs.HoleTests.{Spotted, spots}
 use Rattle.sources.specs.Demand.{demandsIn}

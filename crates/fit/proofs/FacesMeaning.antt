@@ -1,18 +1,17 @@
 -- All recorded faces: the code's test of them is that every body suits what its applications face, and that the demands agree.
 --   Applied    what is known of a recorded face that is that of an application
 --   SlotFits   a face whose body suits it, where it is that of an application
-use mathlib.Core.Path.{_≡_, refl, ap, ap₂, sym, _∙_, subst}
+use mathlib.Core.Path.{_≡_, refl, ap, sym, _∙_, subst}
 use mathlib.Core.Bool.{false}
 use mathlib.Core.List.{List, [], _∷_, _++_, List·Memᴰ·head, List·Memᴰ·tail}
-use mathlib.Core.Option.{Option, none, some}
+use mathlib.Core.Option.{Option, some}
 use Prim.Native.Nat.{ℕ, _<_}
-use native.Mathlib.Omega.{arith}
 use lib.ListN.{length, getD-replicate, getElem?}
 use lib.Dec.{eqb}
 use Rattle.meaning.specs.Limits.{metavariableCount, maxFaceNodes}
-use Rattle.meaning.specs.Basics.{All, choose, each, _∈_, andThen}
+use Rattle.meaning.specs.Basics.{All, each, _∈_}
 use Rattle.meaning.specs.Term.{one, slot, Slot, metavariable, function, hole, Term, IsExpression}
-use Rattle.meaning.specs.Problem.{Problem, patterns, expressions, functions, applied}
+use Rattle.meaning.specs.Problem.{Problem, patterns, functions, applied}
 use Rattle.meaning.specs.Shift.{Closed, ClosedTerm}
 use Rattle.meaning.specs.Filling.{IsBody}
 use Rattle.meaning.specs.Face.{Face}
@@ -37,7 +36,7 @@ use Rattle.metavariables.specs.Survey.{count}
 use Rattle.lockstep.specs.Walk.{patternNode}
 use Rattle.faces.specs.Recorded.{Recorded}
 use Rattle.faces.specs.declared.first.Firsts.{Firsts}
-use Rattle.faces.proofs.NodeTokens.{AtNode, node-tag, node-payload, pattern-node, expression-node}
+use Rattle.faces.proofs.NodeTokens.{AtNode, node-tag, node-payload, pattern-node}
 use Rattle.demands.specs.Demand.{eachSome, applicationLowest, slotLowest, lowestIn}
 use Rattle.demands.specs.Fit.{Suits}
 use Rattle.bodies.proofs.HoleTests.{Spotted}
@@ -48,7 +47,7 @@ use Rattle.sources.proofs.RecordedDemands.{MovedFace, slot-fits, recorded-say}
 use Rattle.fit.specs.Judging.{applicationKept, rankAt, faceKept, facesKept, noneKept, demandedAt}
 use Rattle.fit.specs.Laid.{Laid}
 use Rattle.fit.proofs.Ranks.{rank-at}
-use Rattle.fit.proofs.Steps.{Step, step-nothing, step-told, step-then, step-as}
+use Rattle.fit.proofs.Steps.{Step, step-nothing, step-told, step-then}
 use Rattle.fit.proofs.Functions.{FunctionAt, function-at}
 use Rattle.fit.proofs.Arguments.{RecordedFace, faces-spotted}
 use Rattle.fit.proofs.Applications.{application-step}

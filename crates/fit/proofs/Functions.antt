@@ -15,7 +15,7 @@ use Rattle.meaning.specs.Term.{one, size, nodeAt}
 use Rattle.meaning.specs.Problem.{Problem, expressions, functions}
 use Rattle.meaning.specs.Shift.{ClosedTerm}
 use Rattle.meaning.specs.Face.{Face}
-use Rattle.meaning.specs.Choice.{Choice, Marks, punchTerm}
+use Rattle.meaning.specs.Choice.{Choice, Marks}
 use Rattle.meaning.specs.Row.{Row, ChoiceEach, IsRow, faceOf, choiceIn, rowBody}
 use Rattle.meaning.specs.Rows.{rows}
 use Rattle.meaning.specs.PlaceValue.{maskOf, masksOf}

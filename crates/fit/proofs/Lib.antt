@@ -8,3 +8,4 @@ pub mod Applications
 pub mod FacesMeaning
 pub mod Meaning
 pub mod Readiness
+pub mod LaidOut

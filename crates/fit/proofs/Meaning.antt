@@ -1,18 +1,18 @@
 -- What `judge` answers: whether the row is a solution row, and where each value comes from.
 use mathlib.Core.Path.{_≡_, refl, ap, sym, _∙_, subst}
 use mathlib.Core.Bool.{Bool, true, false}
-use mathlib.Core.List.{List, []}
-use mathlib.Core.Option.{Option, none, some}
+use mathlib.Core.List.{List}
+use mathlib.Core.Option.{Option, some}
 use Prim.Native.Nat.{ℕ, _<_}
 use Rattle.meaning.specs.Limits.{metavariableCount}
 use Rattle.meaning.specs.Basics.{All, guard, isSome, _∈_, andThen}
 use Rattle.meaning.specs.Term.{metavariable, function, hole, Slot, Term}
 use Rattle.meaning.specs.Problem.{Problem, functions}
-use Rattle.meaning.specs.Face.{Face, faces}
+use Rattle.meaning.specs.Face.{Face}
 use Rattle.meaning.specs.Shift.{ClosedTerm}
 use Rattle.meaning.specs.Row.{Row, rowBody}
 use Rattle.meaning.specs.Rows.{rows}
-use Rattle.meaning.specs.Value.{Source, lookup, sources}
+use Rattle.meaning.specs.Value.{lookup, sources}
 use Rattle.meaning.specs.Candidate.{solves}
 use Rattle.meaning.specs.PlaceValue.{masksOf}
 use Rattle.meaning.proofs.Lists.{never, all-mem, mem-all, is-some}
@@ -24,7 +24,6 @@ use Rattle.masks.proofs.Cases.{same-truth}
 use Rattle.faces.specs.First.{listed}
 use Rattle.faces.specs.declared.first.Firsts.{Firsts}
 use Rattle.demands.specs.Demand.{lowestIn, lowestDemands}
-use Rattle.demands.specs.Agreeing.{agreeAfter}
 use Rattle.demands.specs.Fit.{Suits, facedBy, FitsTogether}
 use Rattle.demands.proofs.Agreement.{agreeing-tested}
 use Rattle.demands.proofs.DemandedSources.{demands-are-sources}
@@ -34,7 +33,6 @@ use Rattle.sources.proofs.KeptMeaning.{nodeOf}
 use Rattle.fit.specs.Judging.{bodiesClosed, demandedAt, judgedAt, Judges}
 use Rattle.fit.specs.Laid.{Laid, RowOf}
 use Rattle.fit.specs.declared.Judged.{Judged}
-use Rattle.fit.proofs.Steps.{Step}
 use Rattle.fit.proofs.Functions.{laid-own, bodies-closed-in, bodies-closed-out}
 use Rattle.fit.proofs.FacesMeaning.{SlotFits, demanded-step}
 

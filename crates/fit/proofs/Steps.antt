@@ -5,7 +5,6 @@ use mathlib.Core.Bool.{Bool, true, false, _&&_}
 use mathlib.Core.List.{List, [], _∷_, _++_, append-assoc, append-nil}
 use mathlib.Core.Option.{Option, none, some}
 use Prim.Native.Nat.{ℕ}
-use lib.Dec.{T}
 use Rattle.meaning.specs.Basics.{andThen, guard, isSome, join}
 use Rattle.meaning.specs.Value.{Source, lookup}
 use Rattle.meaning.proofs.Lists.{never, T-true, true-T, and-T, T-and, is-some}

@@ -21,7 +21,7 @@ use Rattle.lockstep.specs.Span.{spanWalk}
 use Rattle.faces.specs.First.{listed, Fits}
 use Rattle.faces.specs.declared.first.Firsts.{Firsts}
 use Rattle.bodies.specs.Suits.{suitsAt, Nested}
-use Rattle.sources.specs.Kept.{Kept, Reads}
+use Rattle.sources.specs.Kept.{Reads}
 use Rattle.fit.specs.Judging.{bodiesClosed, holeNode, argumentSpan, rankAt}
 
 pub record Tables (ps es scratch : List ℕ) : Type 0 where

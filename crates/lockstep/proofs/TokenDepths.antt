@@ -1,12 +1,12 @@
 -- The tokens of a forest tell how many binders are above each node.
 use mathlib.Core.Path.{_≡_, ap, sym, _∙_, subst}
-use mathlib.Core.List.{List, _∷_, _++_, append-assoc}
+use mathlib.Core.List.{List, _++_, append-assoc}
 use Prim.Native.Nat.{ℕ, zero, suc, _+_}
 use native.Mathlib.Nat.{add-zero}
 use native.Mathlib.Omega.{arith}
 use lib.ListN.{length, drop}
 use lib.Seq.{getD-drop, drop-drop, drop-at}
-use Rattle.meaning.specs.Term.{Forest, nil, cons, size, Named, Terms, inner}
+use Rattle.meaning.specs.Term.{Forest, nil, cons, size, Named, inner}
 use Rattle.meaning.specs.Scope.{enter, namelessLabel, nameless}
 use Rattle.meaning.specs.Field.{tagOf}
 use Rattle.meaning.specs.Read.{Context, contextBelow}

@@ -1,15 +1,14 @@
 -- What the code of demands owes: the law of each return and of each turn of the loop.
 use mathlib.Core.Path.{_≡_, refl, ap, sym, _∙_, subst}
 use mathlib.Core.Bool.{Bool, true, false, not, Bool·not-not}
-use mathlib.Core.List.{List, [], _∷_, _++_, append-nil}
+use mathlib.Core.List.{List, [], _∷_, _++_}
 use mathlib.Core.Option.{Option, none, some}
 use Prim.Native.Nat.{ℕ, suc, _+_, _<_, _≤_}
 use native.Mathlib.Omega.{arith}
-use lib.ListN.{length, getD, drop, set, length-set, drop-of-length-le}
+use lib.ListN.{length, drop, set, length-set, drop-of-length-le}
 use lib.Seq.{drop-cons, getD-set-same, getD-set-other}
 use lib.Dec.{eqb}
 use borrow.Author.Tests.{eq-eqb, ne-eqb, eqb-false}
-use Rattle.meaning.specs.Limits.{metavariableCount}
 use Rattle.meaning.specs.Basics.{choose, All, andThen, guard, isSome}
 use Rattle.meaning.proofs.Lists.{never, eqb-eq, by-test, choose-true, choose-false}
 use Rattle.tokens.specs.Token.{tagIn, payloadIn}

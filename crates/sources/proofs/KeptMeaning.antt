@@ -10,13 +10,13 @@ use mathlib.Core.List.{List, [], _∷_, _++_, append-assoc, append-nil}
 use mathlib.Core.Option.{Option, none, some}
 use Prim.Native.Nat.{ℕ, _<_, _≤_}
 use native.Mathlib.Omega.{arith}
-use lib.ListN.{length, getD, set, length-set}
+use lib.ListN.{length, set, length-set}
 use lib.Seq.{getD-set-same, getD-set-other}
 use lib.Dec.{eqb, T}
 use borrow.Author.Tests.{eq-eqb, ne-eqb, eqb-false}
 use Rattle.meaning.specs.Limits.{metavariableCount}
-use Rattle.meaning.specs.Basics.{choose, guard, isSome, orElse}
-use Rattle.meaning.specs.Term.{one, Term, Terms}
+use Rattle.meaning.specs.Basics.{guard, isSome, orElse}
+use Rattle.meaning.specs.Term.{one, Term}
 use Rattle.meaning.specs.Scope.{namelessTerm}
 use Rattle.meaning.specs.Shift.{shift, ClosedTerm}
 use Rattle.meaning.specs.Lower.{lower}
@@ -29,7 +29,7 @@ use Rattle.meaning.proofs.Nodes.{closed-more}
 use Rattle.meaning.proofs.Renaming.{one-injective}
 use Rattle.meaning.proofs.ViewLaws.{equal-closed, closed-equal}
 use Rattle.meaning.proofs.Alike.{sameTerms-eq, sameTerms-refl}
-use Rattle.meaning.proofs.Candidate.{lookup-is, lookup-cases}
+use Rattle.meaning.proofs.Candidate.{lookup-cases}
 use Rattle.demands.specs.Agreeing.{agreesWith, agreeAfter}
 use Rattle.demands.proofs.Agreement.{lookup-append, lookup-earlier, lookup-later, lookup-own, lookup-only}
 use Rattle.masks.proofs.Cases.{same-truth}

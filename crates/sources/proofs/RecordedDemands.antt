@@ -1,8 +1,7 @@
 -- The demands that recorded faces make are the sources of these faces.
 --   P, E, D     what the faces are recorded by: the term at a node of the patterns and of the expressions, and the binders above a pattern's node
 --   MovedFace   what a face faces stands at its node, under more binders
-use mathlib.Core.Path.{_≡_, refl, ap, ap₂, sym, _∙_, subst}
-use mathlib.Core.Bool.{Bool}
+use mathlib.Core.Path.{_≡_, refl, ap, ap₂, sym, subst}
 use mathlib.Core.List.{List, [], _∷_, _++_}
 use mathlib.Core.Option.{Option, some}
 use Prim.Native.Nat.{ℕ, zero, suc, _<_}
@@ -17,8 +16,8 @@ use Rattle.meaning.proofs.Lists.{never}
 use Rattle.meaning.specs.Face.{Face}
 use Rattle.meaning.specs.Field.{tagOf}
 use Rattle.meaning.specs.Value.{Source, sourceAt, sourceOf}
-use Rattle.tokens.specs.Token.{tagIn, payloadIn, payloadOf}
-use Rattle.tokens.specs.Key.{at, Inside}
+use Rattle.tokens.specs.Token.{payloadOf}
+use Rattle.tokens.specs.Key.{at}
 use Rattle.tokens.proofs.KeyLaws.{stands-inside}
 use Rattle.lockstep.specs.Walk.{patternNode, expressionNode}
 use Rattle.lockstep.specs.Recorded.{Records, RecordedBy}

@@ -3,8 +3,8 @@
 use mathlib.Core.Path.{_≡_, sym, _∙_, ap}
 use mathlib.Core.Bool.{not}
 use native.Mathlib.Omega.{arith}
-use Prim.Native.Nat.{_-_, _≤_}
-use lib.ListN.{length, take, drop}
+use Prim.Native.Nat.{_-_}
+use lib.ListN.{take, drop}
 use borrow.Author.Needs.{needs}
 use Rattle.meaning.specs.Limits.{maxFunctions}
 use Rattle.fit.specs.Judging.{bodiesClosed}

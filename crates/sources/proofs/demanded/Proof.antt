@@ -1,5 +1,4 @@
 -- `demanded` meets its contract: a demand that is not the first is compared with the first, one that is, is kept.
-use native.Mathlib.Omega.{arith}
 use borrow.Author.Needs.{needs}
 use Rattle.meaning.specs.Limits.{metavariableCount}
 use Rattle.sources.proofs.KeptLaws.{answers-first, answers-later}
