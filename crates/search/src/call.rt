@@ -47,11 +47,12 @@ fn from_row(
     let p = a.patterns;
     let e = a.expressions;
     let k = a.faces;
+    let first = first_row(ds);
     let row = place.masks;
     let fixed = Fixed {
         functions: a.occurring.functions,
         firsts: firsts,
-        first: first_row(ds),
+        first: first,
     };
     seek(&ps[..p], &es[..e], &fs[..k], ds, fixed, row, n, scratch)
 }
