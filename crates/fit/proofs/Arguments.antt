@@ -69,7 +69,8 @@ node-depth : (table : List ℕ) (i : ℕ) (t : Term) (a : AtNode table i t) → 
 node-depth table i t a = stands-depth (a .levels) (a .context) table i (a .scope) (a .named) (a .held) (a .stands)
 
 -- Answers that belong together in one way do so in another
-both-map : {A B : Type 0} (R S : A → B → Type 0) (a : Option A) (b : Option B) → ((x : A) (y : B) → b ≡ some y → R x y → S x y) → Both R a b → Both S a b
+both-map : {A B : Type 0} (R S : A → B → Type 0) (a : Option A) (b : Option B) → ((x : A) (y : B) → b ≡ some y → R x y → S x y) → Both R a b
+    → Both S a b
 both-map R S none none f r = tt
 both-map R S none (some y) f r = absurd r
 both-map R S (some x) none f r = absurd r
@@ -178,7 +179,8 @@ module _ (p : Problem) (w : WithinLimits p) where
         (argument-walk p w (patternNode n) f 1 (x .children) slots (h .node) (h .under) (h .term) (holds .0) there (holds .1) deeper (x .under) (recorded .under)))
       where
         same : (ns : List ℕ) (ys : List Face) → walk (x .under) (h .node) (one (argument (x .children) 0)) (one (holds .0)) ≡ some ys
-            → RecordedBy (λ i. nodeAt i (patterns p)) (λ i. nodeAt (i - h .node) (one (holds .0))) (λ i. depthIn (at ps i)) ns ys → SameDemands ps es ns ys
+            → RecordedBy (λ i. nodeAt i (patterns p)) (λ i. nodeAt (i - h .node) (one (holds .0))) (λ i. depthIn (at ps i)) ns ys
+            → SameDemands ps es ns ys
         same ns ys e r =
             let moved : All (MovedFace es) ys =
             mem-all (MovedFace es) ys (λ y m. let (g, q) = walk-node (x .under) (h .node) (one (argument (x .children) 0)) (one (holds .0)) ys e y m in

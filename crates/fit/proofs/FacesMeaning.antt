@@ -83,13 +83,15 @@ still es j t n = record {
       (subst (λ (u : Term). Closed (length (n .scope)) (one u)) (sym (n .term)) (nameless-closed (n .scope) (one (n .named))));
 }
 
-pub recorded-moved : (p : Problem) (ns : List ℕ) (xs : List Face) → Recorded p ns xs → All (Spotted (expressionTokens p) 0) xs → All (MovedFace (expressionTokens p)) xs
+pub recorded-moved : (p : Problem) (ns : List ℕ) (xs : List Face) → Recorded p ns xs → All (Spotted (expressionTokens p) 0) xs
+    → All (MovedFace (expressionTokens p)) xs
 recorded-moved p [] [] r a = tt
 recorded-moved p [] (x ∷ xs) r a = absurd r
 recorded-moved p (n ∷ ns) [] r a = absurd r
 recorded-moved p (n ∷ ns) (x ∷ xs) r a = (still (expressionTokens p) (x .node) (x .term) (a .0 .there), recorded-moved p ns xs (r .1) (a .1))
 
-module _ (p : Problem) (ns : List ℕ) (s : ℕ) (firsts : Firsts) (l : Laid p (patternTokens p) (expressionTokens p) ns s firsts) (r : Row) (i : r ∈ rows p) where
+module _ (p : Problem) (ns : List ℕ) (s : ℕ) (firsts : Firsts) (l : Laid p (patternTokens p) (expressionTokens p) ns s firsts) (r : Row)
+    (i : r ∈ rows p) where
   abbrev ps : List ℕ
   ps = patternTokens p
 
@@ -128,7 +130,8 @@ module _ (p : Problem) (ns : List ℕ) (s : ℕ) (firsts : Firsts) (l : Laid p (
       }
 
   -- A face of another kind makes no test
-  plain-slot : (n : ℕ) (x : Face) → RecordedFace p n x → (kept : List ℕ) → eqb (tagOf (slot (x .what))) 6 ≡ false → faceKept ps es s (firsts .nodes) row n kept ≡ some kept
+  plain-slot : (n : ℕ) (x : Face) → RecordedFace p n x → (kept : List ℕ) → eqb (tagOf (slot (x .what))) 6 ≡ false
+      → faceKept ps es s (firsts .nodes) row n kept ≡ some kept
   unfolding faceKept
   plain-slot n x recorded kept e =
       choose-false _ _
@@ -137,7 +140,8 @@ module _ (p : Problem) (ns : List ℕ) (s : ℕ) (firsts : Firsts) (l : Laid p (
 
   module _ (closed : (f : ℕ) → f ∈ functions p → ClosedTerm (rowBody p r f)) where
     -- That of an application
-    application-face : (n : ℕ) (x : Face) → RecordedFace p n x → Spotted es 0 x → (f k : ℕ) → x .what ≡ function f k → Applied p s firsts r n x f
+    application-face : (n : ℕ) (x : Face) → RecordedFace p n x → Spotted es 0 x → (f k : ℕ) → x .what ≡ function f k
+        → Applied p s firsts r n x f
         → (kept : List ℕ) (ks : List Source) → meaning.Firsts es kept ks
         → Step es (faceKept ps es s (firsts .nodes) row n kept) ks (Suits (rowBody p r f) (x .term)) (applicationLowest (rowBody p r f) k x)
     unfolding faceKept rowBody
@@ -153,11 +157,13 @@ module _ (p : Problem) (ns : List ℕ) (s : ℕ) (firsts : Firsts) (l : Laid p (
         (a .rank .small) (a .isBody) (closed f (a .isFunction)) kept ks first))
 
     -- One face
-    face-step : (n : ℕ) (x : Face) → RecordedFace p n x → x ∈ l .found → Spotted es 0 x → (kept : List ℕ) (ks : List Source) → meaning.Firsts es kept ks
+    face-step : (n : ℕ) (x : Face) → RecordedFace p n x → x ∈ l .found → Spotted es 0 x → (kept : List ℕ) (ks : List Source)
+        → meaning.Firsts es kept ks
         → Step es (faceKept ps es s (firsts .nodes) row n kept) ks (SlotFits (rowBody p r) x (x .what)) (slotLowest (rowBody p r) x (x .what))
     face-step n x recorded m spotted kept ks first = go (x .what) refl
       where
-        plain : (z : Slot) → x .what ≡ z → eqb (tagOf (slot z)) 6 ≡ false → Step es (faceKept ps es s (firsts .nodes) row n kept) ks (Unit {0}) (some [])
+        plain : (z : Slot) → x .what ≡ z → eqb (tagOf (slot z)) 6 ≡ false
+            → Step es (faceKept ps es s (firsts .nodes) row n kept) ks (Unit {0}) (some [])
         plain z e t =
             subst (λ (o : Option (List ℕ)). Step es o ks (Unit {0}) (some []))
             (sym (plain-slot n x recorded kept (ap (λ (y : Slot). eqb (tagOf (slot y)) 6) e ∙ t))) (step-nothing es ks kept first)

@@ -36,7 +36,8 @@ use Rattle.fit.specs.Laid.{Laid}
 use Rattle.fit.proofs.Ranks.{first-at, choice-mask}
 
 -- All bodies, by their places
-closed-at : (es js ms : List ℕ) → bodiesClosed es js ms ≡ true → (k : ℕ) → k < length js → k < length ms → bodyClosedAt es (at js k) (at ms k) ≡ true
+closed-at : (es js ms : List ℕ) → bodiesClosed es js ms ≡ true → (k : ℕ) → k < length js → k < length ms
+    → bodyClosedAt es (at js k) (at ms k) ≡ true
 unfolding bodiesClosed
 closed-at es [] ms e k h g = absurd (omega arith)
 closed-at es (j ∷ js) [] e k h g = absurd (omega arith)
@@ -52,7 +53,8 @@ all-closed es (j ∷ js) (m ∷ ms) f =
     T-true (T-and (bodyClosedAt es j m) (bodiesClosed es js ms) (true-T (f 0 (omega arith))) (true-T (all-closed es js ms (λ k h. f (suc k) (omega arith)))))
 
 -- There is a function for each node
-pub function-of : (p : Problem) (xs : List Face) (fs js : List ℕ) (k : ℕ) → FirstsAt p xs fs js → k < length js → (f : ℕ) × (getElem? fs k ≡ some f)
+pub function-of : (p : Problem) (xs : List Face) (fs js : List ℕ) (k : ℕ) → FirstsAt p xs fs js → k < length js
+    → (f : ℕ) × (getElem? fs k ≡ some f)
 function-of p xs [] [] k r h = absurd (omega arith)
 function-of p xs [] (j ∷ js) k r h = absurd r
 function-of p xs (f ∷ fs) [] k r h = absurd r
@@ -138,7 +140,8 @@ module _ (p : Problem) (ns : List ℕ) (s : ℕ) (firsts : Firsts) (l : Laid p (
         (λ q. b .0 (sym same ∙ q), λ q. same ∙ b .1 q)
 
     -- THE BODIES ARE CLOSED
-    pub bodies-closed-in : bodiesClosed (expressionTokens p) (listed firsts) (masksOf r) ≡ true → (f : ℕ) → f ∈ functions p → ClosedTerm (rowBody p r f)
+    pub bodies-closed-in : bodiesClosed (expressionTokens p) (listed firsts) (masksOf r) ≡ true → (f : ℕ) → f ∈ functions p
+        → ClosedTerm (rowBody p r f)
     unfolding maxFunctions
     bodies-closed-in q f m =
         let (k, e) = mem-at (functions p) f m in

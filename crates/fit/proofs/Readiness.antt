@@ -41,12 +41,14 @@ use Rattle.fit.proofs.Applications.{walked-argument}
 use Rattle.fit.proofs.FacesMeaning.{Applied, applied-at, all-spotted, recorded-moved}
 
 -- What is recorded, where the two walks meet the same
-met-reads : (ps es ns : List ℕ) (o : Option (List ℕ)) (v : Option (List Face)) → Both (SameDemands ps es) o v → o ≡ some ns → All (Reads ps es) ns
+met-reads : (ps es ns : List ℕ) (o : Option (List ℕ)) (v : Option (List Face)) → Both (SameDemands ps es) o v → o ≡ some ns
+    → All (Reads ps es) ns
 met-reads ps es ns none v b e = never (cc)
 met-reads ps es ns (some ms) none b e = absurd b
 met-reads ps es ns (some ms) (some ys) b e = subst (All (Reads ps es)) (let q : ms ≡ ns = cc in q) (b .1)
 
-module _ (p : Problem) (ns : List ℕ) (s : ℕ) (firsts : Firsts) (l : Laid p (patternTokens p) (expressionTokens p) ns s firsts) (r : Row) (i : r ∈ rows p) where
+module _ (p : Problem) (ns : List ℕ) (s : ℕ) (firsts : Firsts) (l : Laid p (patternTokens p) (expressionTokens p) ns s firsts) (r : Row)
+    (i : r ∈ rows p) where
   abbrev ps : List ℕ
   ps = patternTokens p
 

@@ -19,7 +19,8 @@ use Rattle.tokens.proofs.Levels.{enter-deep}
 use Rattle.tokens.proofs.ProblemTokens.{tokenAt, Room, room-depth, room-size, room-below, room-later}
 use Rattle.lockstep.proofs.SlotWalk.{Deep}
 
-pub tokens-deep : (table : List ℕ) (i levels : ℕ) (ctx : Context) (sc : List ℕ) (u : Forest Named) (rest : List ℕ) → drop i table ≡ tokens sc u ++ rest
+pub tokens-deep : (table : List ℕ) (i levels : ℕ) (ctx : Context) (sc : List ℕ) (u : Forest Named) (rest : List ℕ)
+    → drop i table ≡ tokens sc u ++ rest
     → Readable levels ctx u → Room levels sc u → Deep (λ m. depthIn (at table m)) i (length sc) (nameless sc u)
 unfolding tokens
 tokens-deep table i levels ctx sc nil rest split r h = tt

@@ -116,12 +116,14 @@ module _ (es kept : List ℕ) (d : Demand) (k : Kept es kept) (a : Asks es d) wh
       go true = set-kept
       go false = k
 
-pub kept-stays : (es kept : List ℕ) (ds : List Demand) (kept′ : List ℕ) → Kept es kept → All (Asks es) ds → keptAfter es kept ds ≡ some kept′ → Kept es kept′
+pub kept-stays : (es kept : List ℕ) (ds : List Demand) (kept′ : List ℕ) → Kept es kept → All (Asks es) ds
+    → keptAfter es kept ds ≡ some kept′ → Kept es kept′
 unfolding keptAfter
 kept-stays es kept [] kept′ k a e = subst (Kept es) (let q : kept ≡ kept′ = cc in q) k
 kept-stays es kept (d ∷ ds) kept′ k a e = go (agreesAt es kept d) (kept-stays es (keptWith kept d) ds kept′ (kept-with es kept d k (a .0)) (a .1)) e
   where
-    go : (b : Bool) → (keptAfter es (keptWith kept d) ds ≡ some kept′ → Kept es kept′) → guard b (keptAfter es (keptWith kept d) ds) ≡ some kept′ → Kept es kept′
+    go : (b : Bool) → (keptAfter es (keptWith kept d) ds ≡ some kept′ → Kept es kept′)
+        → guard b (keptAfter es (keptWith kept d) ds) ≡ some kept′ → Kept es kept′
     go true f q = f q
     go false f q = never (cc)
 

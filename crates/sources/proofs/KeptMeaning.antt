@@ -116,7 +116,8 @@ pub record Firsts (es kept : List ℕ) (ks : List Source) : Type 0 where
   pub said : (m : ℕ) (s : Source) → lookup m ks ≡ some s → Says es (m, s .node) s × ClosedTerm (s .term)
 
 -- One demand more
-module _ (es : List ℕ) (few : length es ≤ 65536) (kept : List ℕ) (ks : List Source) (f : Firsts es kept ks) (d : Demand) (s : Source) (w : Says es d s) where
+module _ (es : List ℕ) (few : length es ≤ 65536) (kept : List ℕ) (ks : List Source) (f : Firsts es kept ks) (d : Demand) (s : Source)
+    (w : Says es d s) where
   here : at kept (d .0) ≡ nodeOf (lookup (s .number) ks)
   here = ap (at kept) (w .number) ∙ f .nodes (s .number) (w .small)
 
@@ -206,7 +207,8 @@ pub record Told (es : List ℕ) (o : Option (List ℕ)) (ks ss : List Source) : 
   pub nodes : (kept : List ℕ) → o ≡ some kept → Firsts es kept (ks ++ ss)
 
 -- THE THEOREM: one demand after the other, from what those before have left
-pub kept-means : (es : List ℕ) → length es ≤ 65536 → (kept : List ℕ) (ks : List Source) (ds : List Demand) (ss : List Source) → Firsts es kept ks
+pub kept-means : (es : List ℕ) → length es ≤ 65536 → (kept : List ℕ) (ks : List Source) (ds : List Demand) (ss : List Source)
+    → Firsts es kept ks
     → AllSay es ds ss → Told es (keptAfter es kept ds) ks ss
 unfolding keptAfter
 kept-means es few kept ks [] [] f w =
