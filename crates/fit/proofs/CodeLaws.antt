@@ -39,7 +39,8 @@ module _ (es nodes row : List ℕ) (end k : ℕ) (fits : end ≤ length nodes) (
   pub closed-ends : end ≤ k → true ≡ bodiesClosed es (drop k (take end nodes)) (drop k row)
   unfolding bodiesClosed
   closed-ends h =
-      sym (ap (λ (js : List ℕ). bodiesClosed es js (drop k row)) (drop-of-length-le (take end nodes) {i = k} (omega (arith, length-take-le end nodes fits))))
+      sym (ap (λ (js : List ℕ). bodiesClosed es js (drop k row))
+      (drop-of-length-le (take end nodes) {i = k} (omega (arith, length-take-le end nodes fits))))
 
   module _ (h : k < end) where
     closed-one : bodiesClosed es left (drop k row)
@@ -192,7 +193,8 @@ module _ (ps es : List ℕ) (functions : ℕ) (nodes row faces : List ℕ) (end 
   unfolding facesKept
   going-ends h =
       subst (λ (o : Option (List ℕ)). Answers o (record { ok = true; sources = record { nodes = kept } }))
-      (sym (ap (λ (ns : List ℕ). facesKept ps es functions nodes row ns kept) (drop-of-length-le faces {i = k} h)) ∙ g .leads) (answers-yes kept)
+      (sym (ap (λ (ns : List ℕ). facesKept ps es functions nodes row ns kept) (drop-of-length-le faces {i = k} h)) ∙ g .leads)
+      (answers-yes kept)
 
   module _ (h : k < length faces) where
     rest : drop k faces ≡ at faces k ∷ drop (suc k) faces

@@ -50,7 +50,8 @@ unfolding bodiesClosed
 all-closed es [] ms f = refl
 all-closed es (j ∷ js) [] f = refl
 all-closed es (j ∷ js) (m ∷ ms) f =
-    T-true (T-and (bodyClosedAt es j m) (bodiesClosed es js ms) (true-T (f 0 (omega arith))) (true-T (all-closed es js ms (λ k h. f (suc k) (omega arith)))))
+    T-true (T-and (bodyClosedAt es j m) (bodiesClosed es js ms) (true-T (f 0 (omega arith)))
+    (true-T (all-closed es js ms (λ k h. f (suc k) (omega arith)))))
 
 -- There is a function for each node
 pub function-of : (p : Problem) (xs : List Face) (fs js : List ℕ) (k : ℕ) → FirstsAt p xs fs js → k < length js
@@ -121,7 +122,9 @@ module _ (p : Problem) (ns : List ℕ) (s : ℕ) (firsts : Firsts) (l : Laid p (
           place = place;
           few = omega (arith, l .fits .count);
           face = ap (λ (j : ℕ). nodeAt j (expressions p)) (sym (getD-take (firsts .count) (firsts .nodes) k 0 place)) ∙ first .term;
-          choice = subst (λ (n : ℕ). Choice n (faceOf p f) (choiceIn (functions p) r f)) (one-place p (l .accepted .within) f (functions-applied p f m))
+          choice =
+              subst (λ (n : ℕ). Choice n (faceOf p f) (choiceIn (functions p) r f))
+              (one-place p (l .accepted .within) f (functions-applied p f m))
               (choice-in p (functions p) r (isRow .choice) f m);
           small = small-faces p (l .accepted) (ap isSome (l .agree)) f m;
           mask = choice-mask p r k f (isRow .choice) e;
@@ -133,7 +136,9 @@ module _ (p : Problem) (ns : List ℕ) (s : ℕ) (firsts : Firsts) (l : Laid p (
     body-at k f e =
         let a = function-at k f e in
         let ms : Marks = choiceIn (functions p) r f in
-        let b = body-closed-means p (l .accepted .within) (at (firsts .nodes) k) (faceOf p f) (a .face) ms (omega (arith, a .choice .long, a .small)) in
+        let b =
+        body-closed-means p (l .accepted .within) (at (firsts .nodes) k) (faceOf p f) (a .face) ms
+        (omega (arith, a .choice .long, a .small)) in
         let same : bodyClosedAt (expressionTokens p) (at (listed firsts) k) (at (masksOf r) k)
         ≡ bodyClosedAt (expressionTokens p) (at (firsts .nodes) k) (maskOf maxFaceNodes ms) =
         ap₂ (bodyClosedAt (expressionTokens p)) (getD-take (firsts .count) (firsts .nodes) k 0 (a .place)) (a .mask) in
@@ -154,4 +159,5 @@ module _ (p : Problem) (ns : List ℕ) (s : ℕ) (firsts : Firsts) (l : Laid p (
         → bodiesClosed (expressionTokens p) (listed firsts) (masksOf r) ≡ true
     bodies-closed-out c =
         all-closed (expressionTokens p) (listed firsts) (masksOf r)
-        (λ k h. let (f, e) = function-of p (l .found) (functions p) (listed firsts) k (l .nodes) h in body-at k f e .1 (c f (at-mem (functions p) k f e)))
+        (λ k h. let (f, e) = function-of p (l .found) (functions p) (listed firsts) k (l .nodes) h in body-at k f e .1
+        (c f (at-mem (functions p) k f e)))

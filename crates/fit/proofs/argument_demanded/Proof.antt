@@ -74,7 +74,8 @@ walk-at-requires c κs =
     let s = c .before .before .before .before .before .before .before .before .before .before in
     let a = s .args in
     subst (Lent (a .ps .now) (a .es .now) (a .scratch .now))
-    (sym (span-is (a .ps .now) (a .es .now) (a .face) (a .mask) (c .before .before .before .before .before .lowest .result) (c .before .before .before .before .size .result)
+    (sym (span-is (a .ps .now) (a .es .now) (a .face) (a .mask) (c .before .before .before .before .before .lowest .result)
+    (c .before .before .before .before .size .result)
     (c .before .before .before .depth .result) (c .before .depth2 .result) (c .before .before .before .before .before .lowest .ensures)
     (c .before .before .before .before .size .ensures) (c .before .before .before .depth .ensures) (c .before .depth2 .ensures)))
     (argument-lent (a .ps .now) (a .es .now) (a .scratch .now) (a .face) (a .mask) (s .pre .0) (s .pre .1))
@@ -99,9 +100,12 @@ module _ (c : lts.After-walk-at callees reads.Pre reads.Post) where
   walked =
       let a = start .args in
       subst (λ (q : Span). Walked (spanWalk ps es q) (a .scratch .now) new (c .walk-at .result))
-      (span-is (a .ps .now) (a .es .now) (a .face) (a .mask) (c .before .before .before .before .before .before .lowest .result) (c .before .before .before .before .before .size .result)
-      (c .before .before .before .before .depth .result) (c .before .before .depth2 .result) (c .before .before .before .before .before .before .lowest .ensures)
-      (c .before .before .before .before .before .size .ensures) (c .before .before .before .before .depth .ensures) (c .before .before .depth2 .ensures)) (c .walk-at .ensures)
+      (span-is (a .ps .now) (a .es .now) (a .face) (a .mask) (c .before .before .before .before .before .before .lowest .result)
+      (c .before .before .before .before .before .size .result)
+      (c .before .before .before .before .depth .result) (c .before .before .depth2 .result)
+      (c .before .before .before .before .before .before .lowest .ensures)
+      (c .before .before .before .before .before .size .ensures) (c .before .before .before .before .depth .ensures)
+      (c .before .before .depth2 .ensures)) (c .walk-at .ensures)
 
   recorded : (n : ℕ) → c .walk-at .result ≡ shapes.Faces n → Found argumentWalk new n
   recorded n e = found argumentWalk (start .args .scratch .now) new (c .walk-at .result) walked n e
@@ -123,7 +127,8 @@ slice-reshare-prefix-all-demanded c =
 slice-aggregate-all-demanded : tie.Need-slice-aggregate-all-demanded
 slice-aggregate-all-demanded c =
     let n = c .before .before .n .given in
-    sym (length-take-le (n .0 .0) (new (c .before .before .before .before .before .before)) (recorded (c .before .before .before .before .before .before) (n .0 .0) (n .1) .room))
+    sym (length-take-le (n .0 .0) (new (c .before .before .before .before .before .before))
+    (recorded (c .before .before .before .before .before .before) (n .0 .0) (n .1) .room))
 
 all-demanded-requires : tie.Need-all-demanded-requires
 all-demanded-requires c κs =
