@@ -80,7 +80,8 @@ module _ (p : Problem) (w : WithinLimits p) (n f : ℕ) (x : Face) (recorded : R
   suited : (suitsAt es node (expressionNode n) mask ≡ true) ↔ Suits body (x .term)
   suited =
       let s = suits-means p w node (x .node) face (x .term) faceAt (recorded .term) ms choice few closed in
-      let e : suitsAt es node (expressionNode n) mask ≡ suitsAt es node (x .node) mask = ap (λ (j : ℕ). suitsAt es node j mask) (recorded .node) in
+      let e : suitsAt es node (expressionNode n) mask ≡ suitsAt es node (x .node) mask =
+      ap (λ (j : ℕ). suitsAt es node j mask) (recorded .node) in
       (λ q. s .0 (sym e ∙ q), λ q. e ∙ s .1 q)
 
   walkedTo : Suits body (x .term) → SuitsWalked (x .node) body (x .term)
@@ -129,14 +130,16 @@ module _ (p : Problem) (w : WithinLimits p) (n f : ℕ) (x : Face) (recorded : R
         → Step es (argumentKept ps es n mask kept) ks (Unit {0}) (applicationLowest body 1 x)
     unfolding argumentKept
     argued-step a kept ks first =
-        step-as es ks (argumentKept ps es n mask kept) (Unit {0}) (Unit {0}) (join (sourcesMet (walk (x .under) (a .hole .node) (one t) (one (a .held)))) (some []))
+        step-as es ks (argumentKept ps es n mask kept) (Unit {0}) (Unit {0})
+        (join (sourcesMet (walk (x .under) (a .hole .node) (one t) (one (a .held)))) (some []))
         (applicationLowest body 1 x) (λ u. u) (λ u. u) (sym demands)
         (go (spanWalk ps es (argumentSpan ps es n mask)) (walk (x .under) (a .hole .node) (one t) (one (a .held))) (a .met))
       where
         demands : applicationLowest body 1 x ≡ join (sourcesMet (walk (x .under) (a .hole .node) (one t) (one (a .held)))) (some [])
         demands =
             lowest-is (some (a .hole)) (a .isLowest)
-            ∙ ap (λ (v : Option Term). join (andThen v (λ u. sourcesMet (walk (x .under) (a .hole .node) (one t) (one u)))) (some [])) (a .holds)
+            ∙ ap (λ (v : Option Term). join (andThen v (λ u. sourcesMet (walk (x .under) (a .hole .node) (one t) (one u)))) (some []))
+            (a .holds)
 
         go : (o : Option (List ℕ)) (v : Option (List Face)) → Both (SameDemands ps es) o v
             → Step es (andThen o (λ ns. keptAfter es kept (demandsIn ps ns))) ks (Unit {0}) (join (sourcesMet v) (some []))
@@ -144,7 +147,8 @@ module _ (p : Problem) (w : WithinLimits p) (n f : ℕ) (x : Face) (recorded : R
         go none (some ys) m = absurd m
         go (some ns) none m = absurd m
         go (some ns) (some ys) m =
-            step-as es ks (keptAfter es kept (demandsIn ps ns)) (Unit {0}) (Unit {0}) (some (each sourceOf ys)) (some (each sourceOf ys ++ [])) (λ u. u) (λ u. u)
+            step-as es ks (keptAfter es kept (demandsIn ps ns)) (Unit {0}) (Unit {0}) (some (each sourceOf ys))
+            (some (each sourceOf ys ++ [])) (λ u. u) (λ u. u)
             (ap some (sym (append-nil (each sourceOf ys))))
             (step-told es ks (keptAfter es kept (demandsIn ps ns)) (each sourceOf ys)
             (kept-means es (expression-table p w .small) kept ks (demandsIn ps ns) (each sourceOf ys) first (m .0)))
@@ -164,5 +168,6 @@ module _ (p : Problem) (w : WithinLimits p) (n f : ℕ) (x : Face) (recorded : R
       → Step es (applicationKept ps es n node mask kept) ks (Suits body (x .term)) (applicationLowest body 1 x)
   unfolding applicationKept
   application-step kept ks first =
-      step-guard es ks (suitsAt es node (expressionNode n) mask) (choose (eqb mask 0) (some kept) (argumentKept ps es n mask kept)) (Suits body (x .term))
+      step-guard es ks (suitsAt es node (expressionNode n) mask) (choose (eqb mask 0) (some kept) (argumentKept ps es n mask kept))
+      (Suits body (x .term))
       (applicationLowest body 1 x) (suited .0) (suited .1) (λ q. suited-step (walkedTo q) (holes-of (walkedTo q)) kept ks first)

@@ -69,7 +69,8 @@ node-depth : (table : List ℕ) (i : ℕ) (t : Term) (a : AtNode table i t) → 
 node-depth table i t a = stands-depth (a .levels) (a .context) table i (a .scope) (a .named) (a .held) (a .stands)
 
 -- Answers that belong together in one way do so in another
-both-map : {A B : Type 0} (R S : A → B → Type 0) (a : Option A) (b : Option B) → ((x : A) (y : B) → b ≡ some y → R x y → S x y) → Both R a b → Both S a b
+both-map : {A B : Type 0} (R S : A → B → Type 0) (a : Option A) (b : Option B) → ((x : A) (y : B) → b ≡ some y → R x y → S x y) → Both R a b
+    → Both S a b
 both-map R S none none f r = tt
 both-map R S none (some y) f r = absurd r
 both-map R S (some x) none f r = absurd r
@@ -86,7 +87,8 @@ module _ (p : Problem) (w : WithinLimits p) where
   pub faces-spotted : (xs : List Face) → faces p ≡ some xs → All (Spotted es 0) xs
   unfolding expressionTokens
   faces-spotted xs e =
-      spots (expressionTokens p) 0 0 0 maxDepth inExpression (patterns p) [] (namedExpressions p) [] (sym (append-nil (tokens [] (namedExpressions p)))) refl
+      spots (expressionTokens p) 0 0 0 maxDepth inExpression (patterns p) [] (namedExpressions p) []
+      (sym (append-nil (tokens [] (namedExpressions p)))) refl
       (expressions-readable p w) (expressions-room p w) xs e
 
   -- What stands below a lowered term stands, under more binders, below the term itself
@@ -97,7 +99,8 @@ module _ (p : Problem) (w : WithinLimits p) where
       let z : i ≡ j + (i - j) = omega arith in
       let v′ : Term = (shiftLabel under (r .0) (v .0), shift under (inner (v .0) (r .0)) (v .1)) in
       let there : nodeAt i (expressions p) ≡ some v′ =
-      stands-node (stands-in (node-stands j (expressions p) t e) (subst (λ (x : Term). Stands (i - j) (one x) v′) (shift-lower-term under t u d) (r .1)) z) in
+      stands-node (stands-in (node-stands j (expressions p) t e)
+      (subst (λ (x : Term). Stands (i - j) (one x) v′) (shift-lower-term under t u d) (r .1)) z) in
       record { whole = v′; stands = expression-node p w i v′ there; more = under; under = r .0; moved = refl }
 
   -- One application, with a body that suits what it faces and has a hole: node j of the choice is the lowest
@@ -136,7 +139,8 @@ module _ (p : Problem) (w : WithinLimits p) where
     spottedHole : Spotted es (length (faced .scope)) h
     spottedHole =
         all-mem (Spotted es (length (faced .scope))) h (s .holes)
-        (spots es (length (faced .scope)) 0 (x .node) (faced .levels) (faced .context) (one (punchTerm ms face)) (faced .scope) (one (faced .named))
+        (spots es (length (faced .scope)) 0 (x .node) (faced .levels) (faced .context) (one (punchTerm ms face)) (faced .scope)
+        (one (faced .named))
         (faced .stands .after) (faced .stands .split) (omega arith) (faced .held .readable)
         (record { depths = faced .held .depths; sizes = faced .held .sizes }) (s .holes)
         (ap (λ (t : Term). walk 0 (x .node) (one (punchTerm ms face)) (one t)) (sym (faced .term)) ∙ s .found)) (among .0)
@@ -171,20 +175,28 @@ module _ (p : Problem) (w : WithinLimits p) where
     met : Both (SameDemands ps es) (spanWalk ps es (argumentSpan ps es n (maskOf maxFaceNodes ms)))
         (walk (x .under) (h .node) (one (argument (x .children) 0)) (one (holds .0)))
     met =
-        both-map (RecordedBy (λ i. nodeAt i (patterns p)) (λ i. nodeAt (i - h .node) (one (holds .0))) (λ i. depthIn (at ps i))) (SameDemands ps es)
-        (spanWalk ps es (argumentSpan ps es n (maskOf maxFaceNodes ms))) (walk (x .under) (h .node) (one (argument (x .children) 0)) (one (holds .0))) same
-        (subst (λ (q : Span). Both (RecordedBy (λ i. nodeAt i (patterns p)) (λ i. nodeAt (i - h .node) (one (holds .0))) (λ i. depthIn (at ps i)))
+        both-map (RecordedBy (λ i. nodeAt i (patterns p)) (λ i. nodeAt (i - h .node) (one (holds .0))) (λ i. depthIn (at ps i)))
+        (SameDemands ps es)
+        (spanWalk ps es (argumentSpan ps es n (maskOf maxFaceNodes ms)))
+        (walk (x .under) (h .node) (one (argument (x .children) 0)) (one (holds .0))) same
+        (subst (λ (q : Span). Both (RecordedBy (λ i. nodeAt i (patterns p)) (λ i. nodeAt (i - h .node) (one (holds .0)))
+        (λ i. depthIn (at ps i)))
         (spanWalk ps es q) (walk (x .under) (h .node) (one (argument (x .children) 0)) (one (holds .0)))) (sym span)
-        (argument-walk p w (patternNode n) f 1 (x .children) slots (h .node) (h .under) (h .term) (holds .0) there (holds .1) deeper (x .under) (recorded .under)))
+        (argument-walk p w (patternNode n) f 1 (x .children) slots (h .node) (h .under) (h .term) (holds .0) there (holds .1) deeper
+        (x .under) (recorded .under)))
       where
         same : (ns : List ℕ) (ys : List Face) → walk (x .under) (h .node) (one (argument (x .children) 0)) (one (holds .0)) ≡ some ys
-            → RecordedBy (λ i. nodeAt i (patterns p)) (λ i. nodeAt (i - h .node) (one (holds .0))) (λ i. depthIn (at ps i)) ns ys → SameDemands ps es ns ys
+            → RecordedBy (λ i. nodeAt i (patterns p)) (λ i. nodeAt (i - h .node) (one (holds .0))) (λ i. depthIn (at ps i)) ns ys
+            → SameDemands ps es ns ys
         same ns ys e r =
             let moved : All (MovedFace es) ys =
-            mem-all (MovedFace es) ys (λ y m. let (g, q) = walk-node (x .under) (h .node) (one (argument (x .children) 0)) (one (holds .0)) ys e y m in
+            mem-all (MovedFace es) ys (λ y m. let (g, q) =
+            walk-node (x .under) (h .node) (one (argument (x .children) 0)) (one (holds .0)) ys e y m in
             moved-in (h .node) (h .under) (h .term) (holds .0) there (holds .1) (y .node) (y .term) g q) in (
-              recorded-say ps es (λ i. nodeAt i (patterns p)) (λ i. nodeAt (i - h .node) (one (holds .0))) (λ i. depthIn (at ps i)) (pattern-node p w) ns ys r moved,
-              recorded-reads ps es (λ i. nodeAt i (patterns p)) (λ i. nodeAt (i - h .node) (one (holds .0))) (λ i. depthIn (at ps i)) (pattern-node p w) ns ys r moved,
+              recorded-say ps es (λ i. nodeAt i (patterns p)) (λ i. nodeAt (i - h .node) (one (holds .0))) (λ i. depthIn (at ps i))
+                  (pattern-node p w) ns ys r moved,
+              recorded-reads ps es (λ i. nodeAt i (patterns p)) (λ i. nodeAt (i - h .node) (one (holds .0))) (λ i. depthIn (at ps i))
+                  (pattern-node p w) ns ys r moved,
             )
 
     -- THE ARGUMENT IS WALKED

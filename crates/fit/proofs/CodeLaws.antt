@@ -40,7 +40,8 @@ module _ (es nodes row : List ℕ) (end k : ℕ) (fits : end ≤ length nodes) (
   pub closed-ends : end ≤ k → true ≡ bodiesClosed es (drop k (take end nodes)) (drop k row)
   unfolding bodiesClosed
   closed-ends h =
-      sym (ap (λ (js : List ℕ). bodiesClosed es js (drop k row)) (drop-of-length-le (take end nodes) {i = k} (omega (arith, length-take-le end nodes fits))))
+      sym (ap (λ (js : List ℕ). bodiesClosed es js (drop k row))
+      (drop-of-length-le (take end nodes) {i = k} (omega (arith, length-take-le end nodes fits))))
 
   module _ (h : k < end) where
     closed-one : bodiesClosed es left (drop k row)
@@ -74,13 +75,15 @@ pub span-is : (ps es : List ℕ) (n mask low long deep across : ℕ) → low ≡
 unfolding argumentSpan
 span-is ps es n mask low long deep across l s d e = rw (e, d, s, l) refl
 
-pub argument-lent : (ps es scratch : List ℕ) (n mask : ℕ) → Tables ps es scratch → Walks ps es n mask → Lent ps es scratch (argumentSpan ps es n mask)
+pub argument-lent : (ps es scratch : List ℕ) (n mask : ℕ) → Tables ps es scratch → Walks ps es n mask
+    → Lent ps es scratch (argumentSpan ps es n mask)
 unfolding argumentSpan
 argument-lent ps es scratch n mask t w =
     record { patterns = t .patterns; expressions = t .expressions; inside = w .ends; room = omega (arith, w .ends, t .room) }
 
 -- What is recorded makes demands that can be looked up
-pub argument-reads : (ps es new : List ℕ) (n mask count : ℕ) → Walks ps es n mask → Found (spanWalk ps es (argumentSpan ps es n mask)) new count
+pub argument-reads : (ps es new : List ℕ) (n mask count : ℕ) → Walks ps es n mask
+    → Found (spanWalk ps es (argumentSpan ps es n mask)) new count
     → All (Reads ps es) (take count new)
 argument-reads ps es new n mask count w f = subst (All (Reads ps es)) (sym (f .front)) (w .reads (f .faces) (f .walked))
 
@@ -116,22 +119,27 @@ module _ (ps es : List ℕ) (n node mask : ℕ) (kept : List ℕ) where
     pub application-suited : suitsAt es node (expressionNode n) mask ≡ true
     application-suited = sym (Bool·not-not _) ∙ ap not e
 
-    pub application-open : mask ≡ 0 → Answers (applicationKept ps es n node mask kept) (record { ok = true; sources = record { nodes = kept } })
+    pub application-open : mask ≡ 0
+        → Answers (applicationKept ps es n node mask kept) (record { ok = true; sources = record { nodes = kept } })
     unfolding applicationKept
     application-open z = rw (application-suited, eq-eqb mask 0 z) (answers-yes kept)
 
-    pub application-filled : (mask ≡ 0 → ⊥) → (r : Agreed) → Answers (argumentKept ps es n mask kept) r → Answers (applicationKept ps es n node mask kept) r
+    pub application-filled : (mask ≡ 0 → ⊥) → (r : Agreed) → Answers (argumentKept ps es n mask kept) r
+        → Answers (applicationKept ps es n node mask kept) r
     unfolding applicationKept
     application-filled z r a = rw (application-suited, ne-eqb mask 0 z) a
 
 -- ---- one face
 
-module _ (ps es : List ℕ) (functions : ℕ) (nodes row : List ℕ) (n : ℕ) (kept : List ℕ) (tag : ℕ) (is : tag ≡ tagIn (at ps (patternNode n))) where
-  pub face-plain : (tag ≡ 6 → ⊥) → Answers (faceKept ps es functions nodes row n kept) (record { ok = true; sources = record { nodes = kept } })
+module _ (ps es : List ℕ) (functions : ℕ) (nodes row : List ℕ) (n : ℕ) (kept : List ℕ) (tag : ℕ)
+    (is : tag ≡ tagIn (at ps (patternNode n))) where
+  pub face-plain : (tag ≡ 6 → ⊥)
+      → Answers (faceKept ps es functions nodes row n kept) (record { ok = true; sources = record { nodes = kept } })
   unfolding faceKept
   face-plain h = rw (← is, ne-eqb tag 6 h) (answers-yes kept)
 
-  pub face-applies : tag ≡ 6 → (k : ℕ) → k ≡ rankAt ps functions n → (r : Agreed) → Answers (applicationKept ps es n (at nodes k) (at row k) kept) r
+  pub face-applies : tag ≡ 6 → (k : ℕ) → k ≡ rankAt ps functions n → (r : Agreed)
+      → Answers (applicationKept ps es n (at nodes k) (at row k) kept) r
       → Answers (faceKept ps es functions nodes row n kept) r
   unfolding faceKept
   face-applies h k e r a = rw (← is, eq-eqb tag 6 h, ← e) a
@@ -159,7 +167,8 @@ application-stays ps es n node mask kept kept′ a k e = by-test (suitsAt es nod
         (λ z. let i : some kept ≡ some kept′ = sym (choose-true _ _ z) ∙ q in subst (Kept es) (let same : kept ≡ kept′ = cc in same) k)
         (λ z. demanded (eqb-false mask 0 z) t (sym (choose-false _ _ z) ∙ q))
 
-face-stays : (ps es : List ℕ) (functions : ℕ) (nodes row : List ℕ) (n : ℕ) (kept kept′ : List ℕ) → Slots ps es functions nodes row n → Kept es kept
+face-stays : (ps es : List ℕ) (functions : ℕ) (nodes row : List ℕ) (n : ℕ) (kept kept′ : List ℕ) → Slots ps es functions nodes row n
+    → Kept es kept
     → faceKept ps es functions nodes row n kept ≡ some kept′ → Kept es kept′
 unfolding faceKept
 face-stays ps es functions nodes row n kept kept′ s k e =
@@ -185,7 +194,8 @@ module _ (ps es : List ℕ) (functions : ℕ) (nodes row faces : List ℕ) (end 
   unfolding facesKept
   going-ends h =
       subst (λ (o : Option (List ℕ)). Answers o (record { ok = true; sources = record { nodes = kept } }))
-      (sym (ap (λ (ns : List ℕ). facesKept ps es functions nodes row ns kept) (drop-of-length-le faces {i = k} h)) ∙ g .leads) (answers-yes kept)
+      (sym (ap (λ (ns : List ℕ). facesKept ps es functions nodes row ns kept) (drop-of-length-le faces {i = k} h)) ∙ g .leads)
+      (answers-yes kept)
 
   module _ (h : k < length faces) where
     rest : drop k faces ≡ at faces k ∷ drop (suc k) faces

@@ -83,13 +83,16 @@ still es j t n = record {
       (subst (λ (u : Term). Closed (length (n .scope)) (one u)) (sym (n .term)) (nameless-closed (n .scope) (one (n .named))));
 }
 
-pub recorded-moved : (p : Problem) (ns : List ℕ) (xs : List Face) → Recorded p ns xs → All (Spotted (expressionTokens p) 0) xs → All (MovedFace (expressionTokens p)) xs
+pub recorded-moved : (p : Problem) (ns : List ℕ) (xs : List Face) → Recorded p ns xs → All (Spotted (expressionTokens p) 0) xs
+    → All (MovedFace (expressionTokens p)) xs
 recorded-moved p [] [] r a = tt
 recorded-moved p [] (x ∷ xs) r a = absurd r
 recorded-moved p (n ∷ ns) [] r a = absurd r
-recorded-moved p (n ∷ ns) (x ∷ xs) r a = (still (expressionTokens p) (x .node) (x .term) (a .0 .there), recorded-moved p ns xs (r .1) (a .1))
+recorded-moved p (n ∷ ns) (x ∷ xs) r a =
+    (still (expressionTokens p) (x .node) (x .term) (a .0 .there), recorded-moved p ns xs (r .1) (a .1))
 
-module _ (p : Problem) (ns : List ℕ) (s : ℕ) (firsts : Firsts) (l : Laid p (patternTokens p) (expressionTokens p) ns s firsts) (r : Row) (i : r ∈ rows p) where
+module _ (p : Problem) (ns : List ℕ) (s : ℕ) (firsts : Firsts) (l : Laid p (patternTokens p) (expressionTokens p) ns s firsts) (r : Row)
+    (i : r ∈ rows p) where
   abbrev ps : List ℕ
   ps = patternTokens p
 
@@ -121,23 +124,27 @@ module _ (p : Problem) (ns : List ℕ) (s : ℕ) (firsts : Firsts) (l : Laid p (
         tag = node-tag ps (patternNode n) (function f k) (x .children) a;
         number = number;
         few = few;
-        rank = function-at p ns s firsts l r i (rankAt ps s n) f (ap (λ (g : ℕ). getElem? (functions p) (count g s)) number ∙ rank-at p s (l .set) f isFunction);
+        rank = function-at p ns s firsts l r i (rankAt ps s n) f
+            (ap (λ (g : ℕ). getElem? (functions p) (count g s)) number ∙ rank-at p s (l .set) f isFunction);
         isFace = face-expression p proper (l .found) (l .agree) f isApplied;
         isBody = subst (λ (c : ℕ). IsBody c (one (rowBody p r f))) (one-place p (l .accepted .within) f isApplied)
             (row-body-shape p r proper (rows-are p r .0 i) f isApplied);
       }
 
   -- A face of another kind makes no test
-  plain-slot : (n : ℕ) (x : Face) → RecordedFace p n x → (kept : List ℕ) → eqb (tagOf (slot (x .what))) 6 ≡ false → faceKept ps es s (firsts .nodes) row n kept ≡ some kept
+  plain-slot : (n : ℕ) (x : Face) → RecordedFace p n x → (kept : List ℕ) → eqb (tagOf (slot (x .what))) 6 ≡ false
+      → faceKept ps es s (firsts .nodes) row n kept ≡ some kept
   unfolding faceKept
   plain-slot n x recorded kept e =
       choose-false _ _
       (ap (λ (g : ℕ). eqb g 6)
-      (node-tag ps (patternNode n) (x .what) (x .children) (pattern-node p (l .accepted .within) (patternNode n) (slot (x .what), x .children) (recorded .slots))) ∙ e)
+      (node-tag ps (patternNode n) (x .what) (x .children)
+      (pattern-node p (l .accepted .within) (patternNode n) (slot (x .what), x .children) (recorded .slots))) ∙ e)
 
   module _ (closed : (f : ℕ) → f ∈ functions p → ClosedTerm (rowBody p r f)) where
     -- That of an application
-    application-face : (n : ℕ) (x : Face) → RecordedFace p n x → Spotted es 0 x → (f k : ℕ) → x .what ≡ function f k → Applied p s firsts r n x f
+    application-face : (n : ℕ) (x : Face) → RecordedFace p n x → Spotted es 0 x → (f k : ℕ) → x .what ≡ function f k
+        → Applied p s firsts r n x f
         → (kept : List ℕ) (ks : List Source) → meaning.Firsts es kept ks
         → Step es (faceKept ps es s (firsts .nodes) row n kept) ks (Suits (rowBody p r f) (x .term)) (applicationLowest (rowBody p r f) k x)
     unfolding faceKept rowBody
@@ -146,18 +153,24 @@ module _ (p : Problem) (ns : List ℕ) (s : ℕ) (firsts : Firsts) (l : Laid p (
         let ms : Marks = choiceIn (functions p) r f in
         let node : ℕ = at (firsts .nodes) (rankAt ps s n) in
         let same : applicationKept ps es n node (maskOf maxFaceNodes ms) kept ≡ faceKept ps es s (firsts .nodes) row n kept =
-        ap (λ (m : ℕ). applicationKept ps es n node m kept) (sym (a .rank .mask)) ∙ sym (choose-true _ _ (ap (λ (g : ℕ). eqb g 6) (a .tag))) in
-        subst (λ (c : ℕ). Step es (faceKept ps es s (firsts .nodes) row n kept) ks (Suits (rowBody p r f) (x .term)) (applicationLowest (rowBody p r f) c x)) one-argument
+        ap (λ (m : ℕ). applicationKept ps es n node m kept) (sym (a .rank .mask)) ∙ sym
+        (choose-true _ _ (ap (λ (g : ℕ). eqb g 6) (a .tag))) in
+        subst (λ (c : ℕ). Step es (faceKept ps es s (firsts .nodes) row n kept) ks (Suits (rowBody p r f) (x .term))
+        (applicationLowest (rowBody p r f) c x)) one-argument
         (subst (λ (o : Option (List ℕ)). Step es o ks (Suits (rowBody p r f) (x .term)) (applicationLowest (rowBody p r f) 1 x)) same
-        (application-step p (l .accepted .within) n f x recorded (a .applies) spotted node (faceOf p f) (a .rank .face) (a .isFace) ms (a .rank .choice)
+        (application-step p (l .accepted .within) n f x recorded (a .applies) spotted node (faceOf p f) (a .rank .face) (a .isFace) ms
+        (a .rank .choice)
         (a .rank .small) (a .isBody) (closed f (a .isFunction)) kept ks first))
 
     -- One face
-    face-step : (n : ℕ) (x : Face) → RecordedFace p n x → x ∈ l .found → Spotted es 0 x → (kept : List ℕ) (ks : List Source) → meaning.Firsts es kept ks
-        → Step es (faceKept ps es s (firsts .nodes) row n kept) ks (SlotFits (rowBody p r) x (x .what)) (slotLowest (rowBody p r) x (x .what))
+    face-step : (n : ℕ) (x : Face) → RecordedFace p n x → x ∈ l .found → Spotted es 0 x → (kept : List ℕ) (ks : List Source)
+        → meaning.Firsts es kept ks
+        → Step es (faceKept ps es s (firsts .nodes) row n kept) ks (SlotFits (rowBody p r) x (x .what))
+        (slotLowest (rowBody p r) x (x .what))
     face-step n x recorded m spotted kept ks first = go (x .what) refl
       where
-        plain : (z : Slot) → x .what ≡ z → eqb (tagOf (slot z)) 6 ≡ false → Step es (faceKept ps es s (firsts .nodes) row n kept) ks (Unit {0}) (some [])
+        plain : (z : Slot) → x .what ≡ z → eqb (tagOf (slot z)) 6 ≡ false
+            → Step es (faceKept ps es s (firsts .nodes) row n kept) ks (Unit {0}) (some [])
         plain z e t =
             subst (λ (o : Option (List ℕ)). Step es o ks (Unit {0}) (some []))
             (sym (plain-slot n x recorded kept (ap (λ (y : Slot). eqb (tagOf (slot y)) 6) e ∙ t))) (step-nothing es ks kept first)
@@ -193,6 +206,8 @@ module _ (p : Problem) (ns : List ℕ) (s : ℕ) (firsts : Firsts) (l : Laid p (
         (All (λ x. SlotFits (rowBody p r) x (x .what)) (l .found)) (some (each sourceOf (l .found)))
         (eachSome (λ x. slotLowest (rowBody p r) x (x .what)) (l .found))
         (step-told es [] (keptAfter es noneKept (demandsIn ps ns)) (each sourceOf (l .found))
-        (kept-means es (expression-table p (l .accepted .within) .small) noneKept [] (demandsIn ps ns) (each sourceOf (l .found)) (none-first es)
-        (recorded-say ps es _ _ _ (pattern-node p (l .accepted .within)) ns (l .found) (l .recorded) (recorded-moved p ns (l .found) (l .recorded) all-spotted))))
+        (kept-means es (expression-table p (l .accepted .within) .small) noneKept [] (demandsIn ps ns) (each sourceOf (l .found))
+        (none-first es)
+        (recorded-say ps es _ _ _ (pattern-node p (l .accepted .within)) ns (l .found) (l .recorded)
+        (recorded-moved p ns (l .found) (l .recorded) all-spotted))))
         (λ kept ds first. faces-step ns (l .found) (l .recorded) (λ x m. m) all-spotted kept ds first)

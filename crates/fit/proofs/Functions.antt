@@ -36,7 +36,8 @@ use Rattle.fit.specs.Laid.{Laid}
 use Rattle.fit.proofs.Ranks.{first-at, choice-mask}
 
 -- All bodies, by their places
-closed-at : (es js ms : List ℕ) → bodiesClosed es js ms ≡ true → (k : ℕ) → k < length js → k < length ms → bodyClosedAt es (at js k) (at ms k) ≡ true
+closed-at : (es js ms : List ℕ) → bodiesClosed es js ms ≡ true → (k : ℕ) → k < length js → k < length ms
+    → bodyClosedAt es (at js k) (at ms k) ≡ true
 unfolding bodiesClosed
 closed-at es [] ms e k h g = absurd (omega arith)
 closed-at es (j ∷ js) [] e k h g = absurd (omega arith)
@@ -49,10 +50,12 @@ unfolding bodiesClosed
 all-closed es [] ms f = refl
 all-closed es (j ∷ js) [] f = refl
 all-closed es (j ∷ js) (m ∷ ms) f =
-    T-true (T-and (bodyClosedAt es j m) (bodiesClosed es js ms) (true-T (f 0 (omega arith))) (true-T (all-closed es js ms (λ k h. f (suc k) (omega arith)))))
+    T-true (T-and (bodyClosedAt es j m) (bodiesClosed es js ms) (true-T (f 0 (omega arith)))
+    (true-T (all-closed es js ms (λ k h. f (suc k) (omega arith)))))
 
 -- There is a function for each node
-pub function-of : (p : Problem) (xs : List Face) (fs js : List ℕ) (k : ℕ) → FirstsAt p xs fs js → k < length js → (f : ℕ) × (getElem? fs k ≡ some f)
+pub function-of : (p : Problem) (xs : List Face) (fs js : List ℕ) (k : ℕ) → FirstsAt p xs fs js → k < length js
+    → (f : ℕ) × (getElem? fs k ≡ some f)
 function-of p xs [] [] k r h = absurd (omega arith)
 function-of p xs [] (j ∷ js) k r h = absurd r
 function-of p xs (f ∷ fs) [] k r h = absurd r
@@ -119,7 +122,9 @@ module _ (p : Problem) (ns : List ℕ) (s : ℕ) (firsts : Firsts) (l : Laid p (
           place = place;
           few = omega (arith, l .fits .count);
           face = ap (λ (j : ℕ). nodeAt j (expressions p)) (sym (getD-take (firsts .count) (firsts .nodes) k 0 place)) ∙ first .term;
-          choice = subst (λ (n : ℕ). Choice n (faceOf p f) (choiceIn (functions p) r f)) (one-place p (l .accepted .within) f (functions-applied p f m))
+          choice =
+              subst (λ (n : ℕ). Choice n (faceOf p f) (choiceIn (functions p) r f))
+              (one-place p (l .accepted .within) f (functions-applied p f m))
               (choice-in p (functions p) r (isRow .choice) f m);
           small = small-faces p (l .accepted) (ap isSome (l .agree)) f m;
           mask = choice-mask p r k f (isRow .choice) e;
@@ -131,14 +136,17 @@ module _ (p : Problem) (ns : List ℕ) (s : ℕ) (firsts : Firsts) (l : Laid p (
     body-at k f e =
         let a = function-at k f e in
         let ms : Marks = choiceIn (functions p) r f in
-        let b = body-closed-means p (l .accepted .within) (at (firsts .nodes) k) (faceOf p f) (a .face) ms (omega (arith, a .choice .long, a .small)) in
+        let b =
+        body-closed-means p (l .accepted .within) (at (firsts .nodes) k) (faceOf p f) (a .face) ms
+        (omega (arith, a .choice .long, a .small)) in
         let same : bodyClosedAt (expressionTokens p) (at (listed firsts) k) (at (masksOf r) k)
         ≡ bodyClosedAt (expressionTokens p) (at (firsts .nodes) k) (maskOf maxFaceNodes ms) =
         ap₂ (bodyClosedAt (expressionTokens p)) (getD-take (firsts .count) (firsts .nodes) k 0 (a .place)) (a .mask) in
         (λ q. b .0 (sym same ∙ q), λ q. same ∙ b .1 q)
 
     -- THE BODIES ARE CLOSED
-    pub bodies-closed-in : bodiesClosed (expressionTokens p) (listed firsts) (masksOf r) ≡ true → (f : ℕ) → f ∈ functions p → ClosedTerm (rowBody p r f)
+    pub bodies-closed-in : bodiesClosed (expressionTokens p) (listed firsts) (masksOf r) ≡ true → (f : ℕ) → f ∈ functions p
+        → ClosedTerm (rowBody p r f)
     unfolding maxFunctions
     bodies-closed-in q f m =
         let (k, e) = mem-at (functions p) f m in
@@ -151,4 +159,5 @@ module _ (p : Problem) (ns : List ℕ) (s : ℕ) (firsts : Firsts) (l : Laid p (
         → bodiesClosed (expressionTokens p) (listed firsts) (masksOf r) ≡ true
     bodies-closed-out c =
         all-closed (expressionTokens p) (listed firsts) (masksOf r)
-        (λ k h. let (f, e) = function-of p (l .found) (functions p) (listed firsts) k (l .nodes) h in body-at k f e .1 (c f (at-mem (functions p) k f e)))
+        (λ k h. let (f, e) = function-of p (l .found) (functions p) (listed firsts) k (l .nodes) h in body-at k f e .1
+        (c f (at-mem (functions p) k f e)))

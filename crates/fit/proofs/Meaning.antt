@@ -41,7 +41,8 @@ guarded : {A : Type 0} (b : Bool) (o : Option A) (a : A) → guard b o ≡ some 
 guarded true o a e = (refl, e)
 guarded false o a e = never (cc)
 
-module _ (p : Problem) (ns : List ℕ) (s : ℕ) (firsts : Firsts) (l : Laid p (patternTokens p) (expressionTokens p) ns s firsts) (r : Row) (i : r ∈ rows p) where
+module _ (p : Problem) (ns : List ℕ) (s : ℕ) (firsts : Firsts) (l : Laid p (patternTokens p) (expressionTokens p) ns s firsts) (r : Row)
+    (i : r ∈ rows p) where
   abbrev es : List ℕ
   es = expressionTokens p
 
@@ -114,7 +115,8 @@ pub record Judgement (p : Problem) (r : Row) (a : Judged) : Type 0 where
   pub source : a .solves ≡ true → (m : ℕ) → m < metavariableCount → at (a .sources .nodes) m ≡ nodeOf (lookup m (sources p r))
 
 -- THE THEOREM
-pub judge-means : (p : Problem) (ps es ns : List ℕ) (s : ℕ) (firsts : Firsts) → Laid p ps es ns s firsts → (row : List ℕ) (o : RowOf p row) (a : Judged)
+pub judge-means : (p : Problem) (ps es ns : List ℕ) (s : ℕ) (firsts : Firsts) → Laid p ps es ns s firsts
+    → (row : List ℕ) (o : RowOf p row) (a : Judged)
     → Judges (judgedAt ps es ns s firsts row) a → Judgement p (o .choices) a
 judge-means p ps es ns s firsts l row o a j =
     let own = laid-own p ps es ns s firsts l in

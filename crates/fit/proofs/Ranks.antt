@@ -20,7 +20,8 @@ use Rattle.metavariables.specs.Survey.{has, count}
 use Rattle.faces.specs.Verdict.{FirstAt, FirstsAt}
 
 -- Of the numbers that pass a test, the one at k + i stands where those before it end
-kept-at : (p : ℕ → Bool) (k n i f : ℕ) → f ≡ k + i → i < n → p f ≡ true → getElem? (keep p (countFrom k n)) (length (keep p (countFrom k i))) ≡ some f
+kept-at : (p : ℕ → Bool) (k n i f : ℕ) → f ≡ k + i → i < n → p f ≡ true
+    → getElem? (keep p (countFrom k n)) (length (keep p (countFrom k i))) ≡ some f
 kept-at p k zero i f e h t = absurd (omega arith)
 kept-at p k (suc n) zero f e h t =
     let z : k ≡ f = omega arith in
@@ -34,7 +35,8 @@ kept-at p k (suc n) (suc i) f e h t = go (p k) (kept-at p (suc k) n i f (omega a
     go false q = q
 
 -- What stands at place k, where f is the k-th function
-pub first-at : (p : Problem) (xs : List Face) (fs js : List ℕ) (k f : ℕ) → FirstsAt p xs fs js → getElem? fs k ≡ some f → FirstAt p xs f (at js k) × (k < length js)
+pub first-at : (p : Problem) (xs : List Face) (fs js : List ℕ) (k f : ℕ) → FirstsAt p xs fs js → getElem? fs k ≡ some f
+    → FirstAt p xs f (at js k) × (k < length js)
 first-at p xs [] js k f r e = never (cc)
 first-at p xs (g ∷ fs) [] k f r e = absurd r
 first-at p xs (g ∷ fs) (j ∷ js) zero f r e = (subst (λ (x : ℕ). FirstAt p xs x j) (let q : g ≡ f = cc in q) (r .0), omega arith)
@@ -62,7 +64,8 @@ module _ (p : Problem) where
   choice-mask r k f c e = mask-at p (functions p) r _ k f c functions-distinct e
 
   -- THE RANK of a function, among the functions as a set
-  pub rank-at : (s : ℕ) → keep (has s) (upTo metavariableCount) ≡ functions p → (f : ℕ) → f ∈ functions p → getElem? (functions p) (count f s) ≡ some f
+  pub rank-at : (s : ℕ) → keep (has s) (upTo metavariableCount) ≡ functions p → (f : ℕ) → f ∈ functions p
+      → getElem? (functions p) (count f s) ≡ some f
   unfolding count
   rank-at s e f m =
       let (i, t) = keep-mem (has s) f (upTo metavariableCount) (subst (λ (l : List ℕ). f ∈ l) (sym e) m) in

@@ -41,12 +41,14 @@ use Rattle.fit.proofs.Applications.{walked-argument}
 use Rattle.fit.proofs.FacesMeaning.{Applied, applied-at, all-spotted, recorded-moved}
 
 -- What is recorded, where the two walks meet the same
-met-reads : (ps es ns : List ℕ) (o : Option (List ℕ)) (v : Option (List Face)) → Both (SameDemands ps es) o v → o ≡ some ns → All (Reads ps es) ns
+met-reads : (ps es ns : List ℕ) (o : Option (List ℕ)) (v : Option (List Face)) → Both (SameDemands ps es) o v → o ≡ some ns
+    → All (Reads ps es) ns
 met-reads ps es ns none v b e = never (cc)
 met-reads ps es ns (some ms) none b e = absurd b
 met-reads ps es ns (some ms) (some ys) b e = subst (All (Reads ps es)) (let q : ms ≡ ns = cc in q) (b .1)
 
-module _ (p : Problem) (ns : List ℕ) (s : ℕ) (firsts : Firsts) (l : Laid p (patternTokens p) (expressionTokens p) ns s firsts) (r : Row) (i : r ∈ rows p) where
+module _ (p : Problem) (ns : List ℕ) (s : ℕ) (firsts : Firsts) (l : Laid p (patternTokens p) (expressionTokens p) ns s firsts) (r : Row)
+    (i : r ∈ rows p) where
   abbrev ps : List ℕ
   ps = patternTokens p
 
@@ -82,10 +84,12 @@ module _ (p : Problem) (ns : List ℕ) (s : ℕ) (firsts : Firsts) (l : Laid p (
           face = expression-inside node (faceOf p f) (a .rank .face) .starts;
           faced = subst (λ (j : ℕ). j < length es) (sym (recorded .node)) (expression-inside (x .node) (x .term) (recorded .term) .starts);
           walks = λ t z.
-              let (hs, g) = walked-argument p (l .accepted .within) n f x recorded (a .applies) spotted node (faceOf p f) (a .rank .face) (a .isFace) ms
+              let (hs, g) =
+              walked-argument p (l .accepted .within) n f x recorded (a .applies) spotted node (faceOf p f) (a .rank .face) (a .isFace) ms
               (a .rank .choice) (a .rank .small) (a .isBody) (closed f (a .isFunction)) t z in
               record {
-                slot = node-inside ps (patternNode n) (slot (function f 1), x .children) (pattern-node p (l .accepted .within) (patternNode n) (slot (function f 1), x .children) slots);
+                slot = node-inside ps (patternNode n) (slot (function f 1), x .children)
+                    (pattern-node p (l .accepted .within) (patternNode n) (slot (function f 1), x .children) slots);
                 ends = argument-inside p (l .accepted .within) (patternNode n) f 1 (x .children) slots;
                 hole = g .inside;
                 reads = λ ms e. met-reads ps es ms _ _ (g .met) e;
@@ -138,7 +142,8 @@ module _ (p : Problem) (ns : List ℕ) (s : ℕ) (firsts : Firsts) (l : Laid p (
       room = room;
     };
     bodies = bodies-ready;
-    reads = recorded-reads ps es _ _ _ (pattern-node p (l .accepted .within)) ns (l .found) (l .recorded) (recorded-moved p ns (l .found) (l .recorded) spotted);
+    reads = recorded-reads ps es _ _ _ (pattern-node p (l .accepted .within)) ns (l .found) (l .recorded)
+        (recorded-moved p ns (l .found) (l .recorded) spotted);
     slots = λ c. slots-ready (bodies-closed-in p ns s firsts l r i c) ns (l .found) (l .recorded) (λ x m. m) spotted;
   }
     where
@@ -152,4 +157,5 @@ laid-ready p ps es ns s firsts l row o scratch room =
     subst (λ (q : List ℕ). Ready q es ns s firsts row scratch) (sym (l .patterns))
     (subst (λ (q : List ℕ). Ready (patternTokens p) q ns s firsts row scratch) (sym (l .expressions))
     (subst (λ (q : List ℕ). Ready (patternTokens p) (expressionTokens p) ns s firsts q scratch) (sym (o .masks))
-    (ready p ns s firsts (laid-own p ps es ns s firsts l) (o .choices) (o .isRow) scratch (subst (λ (q : List ℕ). length q ≤ length scratch) (l .patterns) room))))
+    (ready p ns s firsts (laid-own p ps es ns s firsts l) (o .choices) (o .isRow) scratch
+    (subst (λ (q : List ℕ). length q ≤ length scratch) (l .patterns) room))))

@@ -22,7 +22,8 @@ agree-append : (ks ds ds′ : List Source) → agreeAfter ks (ds ++ ds′) ≡ a
 agree-append ks [] ds′ = ap (λ (l : List Source). agreeAfter l ds′) (sym (append-nil ks))
 agree-append ks (d ∷ ds) ds′ =
     ap (λ (b : Bool). agreesWith (lookup (d .number) ks) d && b)
-    (agree-append (ks ++ (d ∷ [])) ds ds′ ∙ ap (λ (l : List Source). agreeAfter (ks ++ (d ∷ [])) ds && agreeAfter l ds′) (append-assoc ks (d ∷ []) ds))
+    (agree-append (ks ++ (d ∷ [])) ds ds′ ∙ ap (λ (l : List Source). agreeAfter (ks ++ (d ∷ [])) ds && agreeAfter l ds′)
+    (append-assoc ks (d ∷ []) ds))
     ∙ both (agreesWith (lookup (d .number) ks) d) (agreeAfter (ks ++ (d ∷ [])) ds) (agreeAfter (ks ++ (d ∷ ds)) ds′)
   where
     both : (a b c : Bool) → a && (b && c) ≡ (a && b) && c
@@ -33,7 +34,16 @@ module _ (es : List ℕ) (ks : List Source) where
   -- Nothing is demanded
   pub step-nothing : (kept : List ℕ) → Firsts es kept ks → Step es (some kept) ks (Unit {0}) (some [])
   step-nothing kept f = record {
-    into = λ k e. (tt, ([], refl, refl, subst (λ (l : List ℕ). Firsts es l (ks ++ [])) (let q : kept ≡ k = cc in q) (subst (Firsts es kept) (sym (append-nil ks)) f)));
+    into = λ k e. (
+      tt,
+      (
+        [],
+        refl,
+        refl,
+        subst (λ (l : List ℕ). Firsts es l (ks ++ [])) (let q : kept ≡ k = cc in q)
+            (subst (Firsts es kept) (sym (append-nil ks)) f),
+      ),
+    );
     back = λ u ds e a. refl;
   }
 
@@ -65,7 +75,8 @@ module _ (es : List ℕ) (ks : List Source) where
   step-then o next fits fits′ demands demands′ s s′ = record { into = into; back = back }
     where
       into : (kept : List ℕ) → andThen o next ≡ some kept
-          → (fits × fits′) × ((ds : List Source) × (join demands demands′ ≡ some ds) × (agreeAfter ks ds ≡ true) × Firsts es kept (ks ++ ds))
+          → (fits × fits′) × ((ds : List Source) × (join demands demands′ ≡ some ds) × (agreeAfter ks ds ≡ true) × Firsts es kept
+          (ks ++ ds))
       into kept e =
           let (k, i, j) = then-some o next kept e in
           let (u, (ds, d, a, f)) = s .into k i in

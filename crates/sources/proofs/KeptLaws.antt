@@ -85,7 +85,8 @@ kept-append es kept [] ds′ = refl
 kept-append es kept (d ∷ ds) ds′ = go (agreesAt es kept d) (kept-append es (keptWith kept d) ds ds′)
   where
     go : (b : Bool) → keptAfter es (keptWith kept d) (ds ++ ds′) ≡ andThen (keptAfter es (keptWith kept d) ds) (λ ns. keptAfter es ns ds′)
-        → guard b (keptAfter es (keptWith kept d) (ds ++ ds′)) ≡ andThen (guard b (keptAfter es (keptWith kept d) ds)) (λ ns. keptAfter es ns ds′)
+        → guard b (keptAfter es (keptWith kept d) (ds ++ ds′)) ≡ andThen (guard b (keptAfter es (keptWith kept d) ds))
+        (λ ns. keptAfter es ns ds′)
     go true e = e
     go false e = refl
 
@@ -116,12 +117,15 @@ module _ (es kept : List ℕ) (d : Demand) (k : Kept es kept) (a : Asks es d) wh
       go true = set-kept
       go false = k
 
-pub kept-stays : (es kept : List ℕ) (ds : List Demand) (kept′ : List ℕ) → Kept es kept → All (Asks es) ds → keptAfter es kept ds ≡ some kept′ → Kept es kept′
+pub kept-stays : (es kept : List ℕ) (ds : List Demand) (kept′ : List ℕ) → Kept es kept → All (Asks es) ds
+    → keptAfter es kept ds ≡ some kept′ → Kept es kept′
 unfolding keptAfter
 kept-stays es kept [] kept′ k a e = subst (Kept es) (let q : kept ≡ kept′ = cc in q) k
-kept-stays es kept (d ∷ ds) kept′ k a e = go (agreesAt es kept d) (kept-stays es (keptWith kept d) ds kept′ (kept-with es kept d k (a .0)) (a .1)) e
+kept-stays es kept (d ∷ ds) kept′ k a e =
+    go (agreesAt es kept d) (kept-stays es (keptWith kept d) ds kept′ (kept-with es kept d k (a .0)) (a .1)) e
   where
-    go : (b : Bool) → (keptAfter es (keptWith kept d) ds ≡ some kept′ → Kept es kept′) → guard b (keptAfter es (keptWith kept d) ds) ≡ some kept′ → Kept es kept′
+    go : (b : Bool) → (keptAfter es (keptWith kept d) ds ≡ some kept′ → Kept es kept′)
+        → guard b (keptAfter es (keptWith kept d) ds) ≡ some kept′ → Kept es kept′
     go true f q = f q
     go false f q = never (cc)
 
@@ -179,7 +183,8 @@ module _ (ps es faces : List ℕ) (end : Option (List ℕ)) (k : ℕ) (kept : Li
       going-fails t =
           let e : r .ok ≡ false = sym (Bool·not-not (r .ok)) ∙ ap not t in
           let q = answer-none (keptAfter es kept (demandAt ps (at faces k))) r a e in
-          let w : none ≡ end = sym (ap (λ (o : Option (List ℕ)). andThen o (λ ns. keptAfter es ns (demandsIn ps (drop (suc k) faces)))) q) ∙ goes in
+          let w : none ≡ end =
+          sym (ap (λ (o : Option (List ℕ)). andThen o (λ ns. keptAfter es ns (demandsIn ps (drop (suc k) faces)))) q) ∙ goes in
           subst (λ (o : Option (List ℕ)). Answers o r) w (record { ok = e; nodes = λ ns f. never (cc) })
 
   pub going-ends : length faces ≤ k → Answers end (record { ok = true; sources = record { nodes = kept } })

@@ -48,7 +48,8 @@ module _ (table : List ℕ) (a : ℕ) (t : Term) (n : AtNode table a t) where
   node-same : (b : ℕ) (u : Term) → AtNode table b u → ClosedTerm t → (sameAt table a b ≡ true) ↔ (t ≡ u)
   node-same b u o c =
       let closed : ClosedTerm (namelessTerm (n .scope) (n .named)) = subst ClosedTerm (n .term) c in
-      let m = same-means (n .levels) (o .levels) (n .context) (o .context) table a b (n .scope) (o .scope) (n .named) (o .named) (n .held) (o .held)
+      let m =
+      same-means (n .levels) (o .levels) (n .context) (o .context) table a b (n .scope) (o .scope) (n .named) (o .named) (n .held) (o .held)
       (n .stands) (o .stands) in
       let left = namelessTerm (n .scope) (n .named) in
       let right = namelessTerm (o .scope) (o .named) in (
@@ -64,7 +65,8 @@ module _ (more under : ℕ) (t whole : Term) (moved : shift more under (one t) �
 
   closed-moved : ClosedTerm whole → t ≡ whole
   closed-moved c =
-      let still : shift more under (one whole) ≡ one whole = shift-closed more under (one whole) (closed-more 0 under (one whole) (omega arith) c) in
+      let still : shift more under (one whole) ≡ one whole =
+      shift-closed more under (one whole) (closed-more 0 under (one whole) (omega arith) c) in
       let e : some (one t) ≡ some (one whole) =
       sym (lower-shift more under (one t)) ∙ ap (lower more under) (moved ∙ sym still) ∙ lower-shift more under (one whole) in
       one-injective t whole (cc)
@@ -101,8 +103,10 @@ module _ (es : List ℕ) (d : Demand) (s : Source) (w : Says es d s) where
       let own : s .term ≡ w .at .whole = moved-closed (w .at .more) (w .at .under) (s .term) (w .at .whole) (w .at .moved) c in
       let closed : ClosedTerm (w .at .whole) = subst ClosedTerm own c in
       let n = node-same es (d .1) (w .at .whole) (w .at .stands) (d′ .1) (w′ .at .whole) (w′ .at .stands) closed in (
-        λ e. own ∙ n .0 e ∙ sym (closed-moved (w′ .at .more) (w′ .at .under) (s′ .term) (w′ .at .whole) (w′ .at .moved) (subst ClosedTerm (n .0 e) closed)),
-        λ e. n .1 (sym own ∙ e ∙ moved-closed (w′ .at .more) (w′ .at .under) (s′ .term) (w′ .at .whole) (w′ .at .moved) (subst ClosedTerm e c)),
+        λ e. own ∙ n .0 e ∙ sym (closed-moved (w′ .at .more) (w′ .at .under) (s′ .term) (w′ .at .whole) (w′ .at .moved)
+            (subst ClosedTerm (n .0 e) closed)),
+        λ e. n .1 (sym own ∙ e ∙ moved-closed (w′ .at .more) (w′ .at .under) (s′ .term) (w′ .at .whole) (w′ .at .moved)
+            (subst ClosedTerm e c)),
       )
 
 -- The node of a source that may be missing
@@ -116,7 +120,8 @@ pub record Firsts (es kept : List ℕ) (ks : List Source) : Type 0 where
   pub said : (m : ℕ) (s : Source) → lookup m ks ≡ some s → Says es (m, s .node) s × ClosedTerm (s .term)
 
 -- One demand more
-module _ (es : List ℕ) (few : length es ≤ 65536) (kept : List ℕ) (ks : List Source) (f : Firsts es kept ks) (d : Demand) (s : Source) (w : Says es d s) where
+module _ (es : List ℕ) (few : length es ≤ 65536) (kept : List ℕ) (ks : List Source) (f : Firsts es kept ks) (d : Demand) (s : Source)
+    (w : Says es d s) where
   here : at kept (d .0) ≡ nodeOf (lookup (s .number) ks)
   here = ap (at kept) (w .number) ∙ f .nodes (s .number) (w .small)
 
@@ -126,7 +131,8 @@ module _ (es : List ℕ) (few : length es ≤ 65536) (kept : List ℕ) (ks : Lis
   -- A node that is kept is one of the table
   kept-here : (k : Source) → lookup (s .number) ks ≡ some k → eqb (at kept (d .0)) openNode ≡ false
   kept-here k e =
-      let small : k .node < length es = node-inside es (k .node) (f .said (s .number) k e .0 .at .whole) (f .said (s .number) k e .0 .at .stands) in
+      let small : k .node < length es =
+      node-inside es (k .node) (f .said (s .number) k e .0 .at .whole) (f .said (s .number) k e .0 .at .stands) in
       let q : at kept (d .0) ≡ k .node = here ∙ ap nodeOf e in
       ne-eqb (at kept (d .0)) openNode (λ o. omega arith)
 
@@ -161,8 +167,11 @@ module _ (es : List ℕ) (few : length es ≤ 65536) (kept : List ℕ) (ks : Lis
       → (lookup m ks ≡ none) ⊎ ((k : Source) × (lookup m ks ≡ some k)) → Says es (m, x .node) x × ClosedTerm (x .term)
   said-after m x c e (inl n) =
       let (own, number) = lookup-only m s x (sym (lookup-later m ks (s ∷ []) n) ∙ e) in
-      subst (λ (y : Source). Says es (m, y .node) y × ClosedTerm (y .term)) (sym own)
-      (subst (λ (z : Demand). Says es z s) (ap₂ {C = Demand} (λ a b. (a, b)) (w .number ∙ sym number) (w .node)) w, c (sym (ap (λ (a : ℕ). lookup a ks) number) ∙ n))
+      subst (λ (y : Source). Says es (m, y .node) y × ClosedTerm (y .term)) (sym own) (
+        subst (λ (z : Demand). Says es z s) (ap₂ {C = Demand} (λ a b. (a, b)) (w .number ∙ sym number) (w .node)) w,
+        c
+            (sym (ap (λ (a : ℕ). lookup a ks) number) ∙ n),
+      )
   said-after m x c e (inr (k, l)) =
       let q : some k ≡ some x = sym (lookup-earlier m ks (s ∷ []) k l) ∙ e in
       let i : k ≡ x = cc in
@@ -181,13 +190,15 @@ module _ (es : List ℕ) (few : length es ≤ 65536) (kept : List ℕ) (ks : Lis
       own : (m : ℕ) → m < metavariableCount → m ≡ s .number → at (set kept (d .0) (d .1)) m ≡ nodeOf (lookup m after)
       own m h q =
           ap (at (set kept (d .0) (d .1))) (q ∙ sym (w .number))
-          ∙ getD-set-same kept (d .0) (d .1) 0 (subst (λ (n : ℕ). d .0 < n) (sym (f .long)) (subst (λ (n : ℕ). n < metavariableCount) (q ∙ sym (w .number)) h))
+          ∙ getD-set-same kept (d .0) (d .1) 0
+          (subst (λ (n : ℕ). d .0 < n) (sym (f .long)) (subst (λ (n : ℕ). n < metavariableCount) (q ∙ sym (w .number)) h))
           ∙ w .node
           ∙ sym (ap nodeOf (ap (λ (n : ℕ). lookup n after) q ∙ lookup-later (s .number) ks (s ∷ []) e ∙ lookup-own s []))
 
       other : (m : ℕ) → m < metavariableCount → eqb m (s .number) ≡ false → at (set kept (d .0) (d .1)) m ≡ nodeOf (lookup m after)
       other m h q =
-          getD-set-other kept (d .0) m (d .1) 0 (λ z. eqb-false m (s .number) q (z ∙ w .number)) ∙ f .nodes m h ∙ sym (ap nodeOf (other-same m q))
+          getD-set-other kept (d .0) m (d .1) 0 (λ z. eqb-false m (s .number) q (z ∙ w .number)) ∙ f .nodes m h ∙ sym
+          (ap nodeOf (other-same m q))
   firsts-after (some k) e t =
       subst (λ (l : List ℕ). Firsts es l after) (sym (choose-false _ _ (kept-here k e)))
       (record {
@@ -206,16 +217,24 @@ pub record Told (es : List ℕ) (o : Option (List ℕ)) (ks ss : List Source) : 
   pub nodes : (kept : List ℕ) → o ≡ some kept → Firsts es kept (ks ++ ss)
 
 -- THE THEOREM: one demand after the other, from what those before have left
-pub kept-means : (es : List ℕ) → length es ≤ 65536 → (kept : List ℕ) (ks : List Source) (ds : List Demand) (ss : List Source) → Firsts es kept ks
+pub kept-means : (es : List ℕ) → length es ≤ 65536 → (kept : List ℕ) (ks : List Source) (ds : List Demand) (ss : List Source)
+    → Firsts es kept ks
     → AllSay es ds ss → Told es (keptAfter es kept ds) ks ss
 unfolding keptAfter
 kept-means es few kept ks [] [] f w =
-    record { test = refl; nodes = λ l e. subst (λ (x : List ℕ). Firsts es x (ks ++ [])) (let q : kept ≡ l = cc in q) (subst (Firsts es kept) (sym (append-nil ks)) f) }
+    record {
+      test =
+          refl;
+      nodes =
+          λ l e. subst (λ (x : List ℕ). Firsts es x (ks ++ [])) (let q : kept ≡ l = cc in q)
+          (subst (Firsts es kept) (sym (append-nil ks)) f);
+    }
 kept-means es few kept ks [] (s ∷ ss) f w = absurd w
 kept-means es few kept ks (d ∷ ds) [] f w = absurd w
 kept-means es few kept ks (d ∷ ds) (s ∷ ss) f w =
     go (agreesWith (lookup (s .number) ks) s) refl (test-said es few kept ks f d s (w .0) (lookup (s .number) ks) refl)
-    (λ t. kept-means es few (keptWith kept d) (ks ++ (s ∷ [])) ds ss (firsts-after es few kept ks f d s (w .0) (lookup (s .number) ks) refl t) (w .1))
+    (λ t. kept-means es few (keptWith kept d) (ks ++ (s ∷ [])) ds ss
+    (firsts-after es few kept ks f d s (w .0) (lookup (s .number) ks) refl t) (w .1))
   where
     go : (b : Bool) → agreesWith (lookup (s .number) ks) s ≡ b → agreesAt es kept d ≡ agreesWith (lookup (s .number) ks) s
         → (agreesWith (lookup (s .number) ks) s ≡ true → Told es (keptAfter es (keptWith kept d) ds) (ks ++ (s ∷ [])) ss)

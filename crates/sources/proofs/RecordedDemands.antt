@@ -35,7 +35,8 @@ FitSlot (hole i) = Unit {0}
 pub slot-fits : (table : List ℕ) (i : ℕ) (z : Slot) (cs : Terms) → AtNode table i (slot z, cs) → FitSlot z
 slot-fits table i z cs n = go (n .levels) (n .named .0) (n .named .1) (sym (ap (λ (u : Term). u .0) (n .term))) (n .held .readable)
   where
-    go : (levels : ℕ) (l : Named) (c : Forest Named) → namelessLabel (n .scope) l ≡ slot z → Readable levels (n .context) (cons l c nil) → FitSlot z
+    go : (levels : ℕ) (l : Named) (c : Forest Named) → namelessLabel (n .scope) l ≡ slot z → Readable levels (n .context) (cons l c nil)
+        → FitSlot z
     go zero l c e r = absurd r
     go (suc levels) (own (symbol m)) c e r = never (cc)
     go (suc levels) (own (variable x)) c e r = never (cc)
@@ -45,7 +46,8 @@ slot-fits table i z cs n = go (n .levels) (n .named .0) (n .named .1) (sym (ap (
     go (suc levels) (slot (function f k)) c e r = let q : function f k ≡ z = cc in subst FitSlot q (r .0 .1, r .0 .2)
     go (suc levels) (slot (hole k)) c e r = let q : hole k ≡ z = cc in subst FitSlot q tt
 
-append-say : (es : List ℕ) (ds ds′ : List Demand) (ss ss′ : List Source) → AllSay es ds ss → AllSay es ds′ ss′ → AllSay es (ds ++ ds′) (ss ++ ss′)
+append-say : (es : List ℕ) (ds ds′ : List Demand) (ss ss′ : List Source) → AllSay es ds ss → AllSay es ds′ ss′
+    → AllSay es (ds ++ ds′) (ss ++ ss′)
 append-say es [] ds′ [] ss′ a b = b
 append-say es [] ds′ (s ∷ ss) ss′ a b = absurd a
 append-say es (d ∷ ds) ds′ [] ss′ a b = absurd a
@@ -92,7 +94,8 @@ module _ (ps es : List ℕ) (P E : ℕ → Option Term) (D : ℕ → ℕ) (patte
       (demand-says n (a .scope) (x .what) x r (slot-fits ps (patternNode n) (x .what) (x .children) a) moved)
 
   -- THE THEOREM
-  pub recorded-say : (ns : List ℕ) (xs : List Face) → RecordedBy P E D ns xs → All (MovedFace es) xs → AllSay es (demandsIn ps ns) (each sourceOf xs)
+  pub recorded-say : (ns : List ℕ) (xs : List Face) → RecordedBy P E D ns xs → All (MovedFace es) xs
+      → AllSay es (demandsIn ps ns) (each sourceOf xs)
   recorded-say [] [] r moved = tt
   recorded-say [] (x ∷ xs) r moved = absurd r
   recorded-say (n ∷ ns) [] r moved = absurd r

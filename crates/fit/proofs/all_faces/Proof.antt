@@ -19,8 +19,12 @@ faces-demanded-requires : tie.Need-faces-demanded-requires
 faces-demanded-requires c κs =
     let s = c .before .before .before .before .before .before .before .before .before .before in
     let a = s .args in
-    let n = c .before .before .before .before .before .all-demanded in
-    (s .pre .0 .tables, s .pre .0 .slots (s .pre .1), plain-stays (a .ps .now) (a .es .now) (a .faces .now) (a .functions) (a .firsts) (a .row) (n .result) (n .ensures) (c .before .before .before .if1 .left) (s .pre .0 .reads))
+    let n = c .before .before .before .before .before .all-demanded in (
+      s .pre .0 .tables,
+      s .pre .0 .slots (s .pre .1),
+      plain-stays (a .ps .now) (a .es .now) (a .faces .now) (a .functions) (a .firsts)
+          (a .row) (n .result) (n .ensures) (c .before .before .before .if1 .left) (s .pre .0 .reads),
+    )
 
 same-length : tie.Need-same-length
 same-length c = search needs
@@ -30,7 +34,8 @@ returns-2 c =
     let a = c .before .before .before .before .before .before .before .before .before .before .before .before .before .args in
     let n = c .before .before .before .before .before .before .before .before .all-demanded in
     let v = c .before .before .faces-demanded in
-    then-applied (a .ps .now) (a .es .now) (a .faces .now) (a .functions) (a .firsts) (a .row) (n .result) (n .ensures) (c .before .before .before .before .before .before .if1 .left) (v .result) (v .ensures)
+    then-applied (a .ps .now) (a .es .now) (a .faces .now) (a .functions) (a .firsts) (a .row) (n .result) (n .ensures)
+    (c .before .before .before .before .before .before .if1 .left) (v .result) (v .ensures)
 
 pub all-faces-spec : {M : Type 1} → statement M
 all-faces-spec =

@@ -1,16 +1,40 @@
 -- `argument_demanded` meets its contract: the span is that of the argument, and what its walk records makes the demands.
-use mathlib.Core.Path.{sym, subst}
+--   walked   after the walk: it was that of the argument's span
+use mathlib.Core.Path.{_≡_, sym, subst}
 use mathlib.Core.List.{List}
+use mathlib.Core.Option.{Option, none}
 use Prim.Native.Nat.{ℕ}
 use lib.Seq.{length-take-le}
 use borrow.Author.Needs.{needs}
+use Rattle.bodies.proofs.lowest.Reads as lowest-reads
 use Rattle.lockstep.specs.Span.{spanWalk, Lent, Walked}
 use Rattle.lockstep.specs.declared.Span.{Span}
-use Rattle.lockstep.proofs.Answers.{found, disagreed}
+use Rattle.lockstep.specs.declared.Shapes.the-variants as shapes
+use Rattle.lockstep.proofs.walk_at.Reads as walk-at-reads
+use Rattle.lockstep.proofs.Answers.{Found, found, disagreed}
+use Rattle.sources.proofs.all_demanded.Reads as all-demanded-reads
+use Rattle.tokens.proofs.token.depth.Reads as depth-reads
+use Rattle.tokens.proofs.token.size.Reads as size-reads
 use Rattle.fit.specs.Judging.{argumentSpan}
 use Rattle.fit.proofs.CodeLaws.{span-is, argument-lent, argument-reads, argument-disagrees, argument-demands}
 use Rattle.fit.proofs.argument_demanded.Statement.{statement}
 use Rattle.fit.proofs.argument_demanded.Tie as tie
+use Rattle.fit.proofs.argument_demanded.Reads as reads
+use Rattle.fit.proofs.argument_demanded.Lts as lts
+
+abbrev callees : lts.Claims
+callees = (
+  lowest-reads.Asked,
+  lowest-reads.Learnt,
+  size-reads.Asked,
+  size-reads.Learnt,
+  depth-reads.Asked,
+  depth-reads.Learnt,
+  walk-at-reads.Asked,
+  walk-at-reads.Learnt,
+  all-demanded-reads.Asked,
+  all-demanded-reads.Learnt,
+)
 
 mul-x : tie.Need-mul-x
 mul-x c = search needs
@@ -50,9 +74,44 @@ walk-at-requires c κs =
     let s = c .before .before .before .before .before .before .before .before .before .before in
     let a = s .args in
     subst (Lent (a .ps .now) (a .es .now) (a .scratch .now))
-    (sym (span-is (a .ps .now) (a .es .now) (a .face) (a .mask) (c .before .before .before .before .before .lowest .result) (c .before .before .before .before .size .result) (c .before .before .before .depth .result)
-    (c .before .depth2 .result) (c .before .before .before .before .before .lowest .ensures) (c .before .before .before .before .size .ensures) (c .before .before .before .depth .ensures) (c .before .depth2 .ensures)))
+    (sym (span-is (a .ps .now) (a .es .now) (a .face) (a .mask) (c .before .before .before .before .before .lowest .result)
+    (c .before .before .before .before .size .result)
+    (c .before .before .before .depth .result) (c .before .depth2 .result) (c .before .before .before .before .before .lowest .ensures)
+    (c .before .before .before .before .size .ensures) (c .before .before .before .depth .ensures) (c .before .depth2 .ensures)))
     (argument-lent (a .ps .now) (a .es .now) (a .scratch .now) (a .face) (a .mask) (s .pre .0) (s .pre .1))
+
+module _ (c : lts.After-walk-at callees reads.Pre reads.Post) where
+  abbrev start : lts.Start callees reads.Pre reads.Post
+  start = c .before .before .before .before .before .before .before .before .before .before .before
+
+  abbrev ps : List ℕ
+  ps = start .args .ps .now
+
+  abbrev es : List ℕ
+  es = start .args .es .now
+
+  abbrev new : List ℕ
+  new = c .walk-at .last .1 .1 .1 .0
+
+  abbrev argumentWalk : Option (List ℕ)
+  argumentWalk = spanWalk ps es (argumentSpan ps es (start .args .face) (start .args .mask))
+
+  walked : Walked argumentWalk (start .args .scratch .now) new (c .walk-at .result)
+  walked =
+      let a = start .args in
+      subst (λ (q : Span). Walked (spanWalk ps es q) (a .scratch .now) new (c .walk-at .result))
+      (span-is (a .ps .now) (a .es .now) (a .face) (a .mask) (c .before .before .before .before .before .before .lowest .result)
+      (c .before .before .before .before .before .size .result)
+      (c .before .before .before .before .depth .result) (c .before .before .depth2 .result)
+      (c .before .before .before .before .before .before .lowest .ensures)
+      (c .before .before .before .before .before .size .ensures) (c .before .before .before .before .depth .ensures)
+      (c .before .before .depth2 .ensures)) (c .walk-at .ensures)
+
+  recorded : (n : ℕ) → c .walk-at .result ≡ shapes.Faces n → Found argumentWalk new n
+  recorded n e = found argumentWalk (start .args .scratch .now) new (c .walk-at .result) walked n e
+
+  failed : c .walk-at .result ≡ shapes.Disagree → argumentWalk ≡ none
+  failed e = disagreed argumentWalk (start .args .scratch .now) new (c .walk-at .result) walked e
 
 enum-told : tie.Need-enum-told
 enum-told c = search needs
@@ -62,78 +121,43 @@ enum-known-n c = search needs
 
 slice-reshare-prefix-all-demanded : tie.Need-slice-reshare-prefix-all-demanded
 slice-reshare-prefix-all-demanded c =
-    let s = c .before .before .before .before .before .before .before .before .before .before .before .before .before .before .before .before in
-    let a = s .args in
-    let w = c .before .before .before .before .before .walk-at in
-    let new : List ℕ = w .last .1 .1 .1 .0 in
-    let walked : Walked (spanWalk (a .ps .now) (a .es .now) (argumentSpan (a .ps .now) (a .es .now) (a .face) (a .mask))) (a .scratch .now) new (w .result) =
-    subst (λ (p : Span). Walked (spanWalk (a .ps .now) (a .es .now) p) (a .scratch .now) new (w .result))
-    (span-is (a .ps .now) (a .es .now) (a .face) (a .mask) (c .before .before .before .before .before .before .before .before .before .before .before .lowest .result) (c .before .before .before .before .before .before .before .before .before .before .size .result) (c .before .before .before .before .before .before .before .before .before .depth .result)
-    (c .before .before .before .before .before .before .before .depth2 .result) (c .before .before .before .before .before .before .before .before .before .before .before .lowest .ensures) (c .before .before .before .before .before .before .before .before .before .before .size .ensures) (c .before .before .before .before .before .before .before .before .before .depth .ensures) (c .before .before .before .before .before .before .before .depth2 .ensures)) (w .ensures) in
     let n = c .before .n .given in
-    let f = found (spanWalk (a .ps .now) (a .es .now) (argumentSpan (a .ps .now) (a .es .now) (a .face) (a .mask))) (a .scratch .now) new (w .result) walked (n .0 .0) (n .1) in
-    f .room
+    recorded (c .before .before .before .before .before) (n .0 .0) (n .1) .room
 
 slice-aggregate-all-demanded : tie.Need-slice-aggregate-all-demanded
 slice-aggregate-all-demanded c =
-    let s = c .before .before .before .before .before .before .before .before .before .before .before .before .before .before .before .before .before in
-    let a = s .args in
-    let w = c .before .before .before .before .before .before .walk-at in
-    let new : List ℕ = w .last .1 .1 .1 .0 in
-    let walked : Walked (spanWalk (a .ps .now) (a .es .now) (argumentSpan (a .ps .now) (a .es .now) (a .face) (a .mask))) (a .scratch .now) new (w .result) =
-    subst (λ (p : Span). Walked (spanWalk (a .ps .now) (a .es .now) p) (a .scratch .now) new (w .result))
-    (span-is (a .ps .now) (a .es .now) (a .face) (a .mask) (c .before .before .before .before .before .before .before .before .before .before .before .before .lowest .result) (c .before .before .before .before .before .before .before .before .before .before .before .size .result) (c .before .before .before .before .before .before .before .before .before .before .depth .result)
-    (c .before .before .before .before .before .before .before .before .depth2 .result) (c .before .before .before .before .before .before .before .before .before .before .before .before .lowest .ensures) (c .before .before .before .before .before .before .before .before .before .before .before .size .ensures) (c .before .before .before .before .before .before .before .before .before .before .depth .ensures) (c .before .before .before .before .before .before .before .before .depth2 .ensures)) (w .ensures) in
     let n = c .before .before .n .given in
-    let f = found (spanWalk (a .ps .now) (a .es .now) (argumentSpan (a .ps .now) (a .es .now) (a .face) (a .mask))) (a .scratch .now) new (w .result) walked (n .0 .0) (n .1) in
-    sym (length-take-le (n .0 .0) new (f .room))
+    sym (length-take-le (n .0 .0) (new (c .before .before .before .before .before .before))
+    (recorded (c .before .before .before .before .before .before) (n .0 .0) (n .1) .room))
 
 all-demanded-requires : tie.Need-all-demanded-requires
 all-demanded-requires c κs =
-    let s = c .before .before .before .before .before .before .before .before .before .before .before .before .before .before .before .before .before in
-    let a = s .args in
-    let w = c .before .before .before .before .before .before .walk-at in
-    let new : List ℕ = w .last .1 .1 .1 .0 in
-    let walked : Walked (spanWalk (a .ps .now) (a .es .now) (argumentSpan (a .ps .now) (a .es .now) (a .face) (a .mask))) (a .scratch .now) new (w .result) =
-    subst (λ (p : Span). Walked (spanWalk (a .ps .now) (a .es .now) p) (a .scratch .now) new (w .result))
-    (span-is (a .ps .now) (a .es .now) (a .face) (a .mask) (c .before .before .before .before .before .before .before .before .before .before .before .before .lowest .result) (c .before .before .before .before .before .before .before .before .before .before .before .size .result) (c .before .before .before .before .before .before .before .before .before .before .depth .result)
-    (c .before .before .before .before .before .before .before .before .depth2 .result) (c .before .before .before .before .before .before .before .before .before .before .before .before .lowest .ensures) (c .before .before .before .before .before .before .before .before .before .before .before .size .ensures) (c .before .before .before .before .before .before .before .before .before .before .depth .ensures) (c .before .before .before .before .before .before .before .before .depth2 .ensures)) (w .ensures) in
+    let w = c .before .before .before .before .before .before in
     let n = c .before .before .n .given in
-    let f = found (spanWalk (a .ps .now) (a .es .now) (argumentSpan (a .ps .now) (a .es .now) (a .face) (a .mask))) (a .scratch .now) new (w .result) walked (n .0 .0) (n .1) in
-    (s .pre .2, argument-reads (a .ps .now) (a .es .now) new (a .face) (a .mask) (n .0 .0) (s .pre .1) f)
+    let s = start w in (
+      s .pre .2,
+      argument-reads (ps w) (es w) (new w) (s .args .face) (s .args .mask) (n .0 .0) (s .pre .1) (recorded w (n .0 .0) (n .1)),
+    )
 
 same-length : tie.Need-same-length
 same-length c = search needs
 
 returns : tie.Need-returns
 returns c =
-    let s = c .before .before .before .before .before .before .before .before .before .before .before .before .before .before .before in
-    let a = s .args in
-    let w = c .before .before .before .before .walk-at in
-    let new : List ℕ = w .last .1 .1 .1 .0 in
-    let walked : Walked (spanWalk (a .ps .now) (a .es .now) (argumentSpan (a .ps .now) (a .es .now) (a .face) (a .mask))) (a .scratch .now) new (w .result) =
-    subst (λ (p : Span). Walked (spanWalk (a .ps .now) (a .es .now) p) (a .scratch .now) new (w .result))
-    (span-is (a .ps .now) (a .es .now) (a .face) (a .mask) (c .before .before .before .before .before .before .before .before .before .before .lowest .result) (c .before .before .before .before .before .before .before .before .before .size .result) (c .before .before .before .before .before .before .before .before .depth .result)
-    (c .before .before .before .before .before .before .depth2 .result) (c .before .before .before .before .before .before .before .before .before .before .lowest .ensures) (c .before .before .before .before .before .before .before .before .before .size .ensures) (c .before .before .before .before .before .before .before .before .depth .ensures) (c .before .before .before .before .before .before .depth2 .ensures)) (w .ensures) in
-    argument-disagrees (a .ps .now) (a .es .now) (a .face) (a .mask) (a .kept .nodes)
-    (disagreed (spanWalk (a .ps .now) (a .es .now) (argumentSpan (a .ps .now) (a .es .now) (a .face) (a .mask))) (a .scratch .now) new (w .result) walked (c .enum-told .given .1))
+    let w = c .before .before .before .before in
+    let a = start w .args in
+    argument-disagrees (ps w) (es w) (a .face) (a .mask) (a .kept .nodes) (failed w (c .enum-told .given .1))
 
 same-length-2 : tie.Need-same-length-2
 same-length-2 c = search needs
 
 returns-2 : tie.Need-returns-2
 returns-2 c =
-    let s = c .before .before .before .before .before .before .before .before .before .before .before .before .before .before .before .before .before .before in
-    let a = s .args in
-    let w = c .before .before .before .before .before .before .before .walk-at in
-    let new : List ℕ = w .last .1 .1 .1 .0 in
-    let walked : Walked (spanWalk (a .ps .now) (a .es .now) (argumentSpan (a .ps .now) (a .es .now) (a .face) (a .mask))) (a .scratch .now) new (w .result) =
-    subst (λ (p : Span). Walked (spanWalk (a .ps .now) (a .es .now) p) (a .scratch .now) new (w .result))
-    (span-is (a .ps .now) (a .es .now) (a .face) (a .mask) (c .before .before .before .before .before .before .before .before .before .before .before .before .before .lowest .result) (c .before .before .before .before .before .before .before .before .before .before .before .before .size .result) (c .before .before .before .before .before .before .before .before .before .before .before .depth .result)
-    (c .before .before .before .before .before .before .before .before .before .depth2 .result) (c .before .before .before .before .before .before .before .before .before .before .before .before .before .lowest .ensures) (c .before .before .before .before .before .before .before .before .before .before .before .before .size .ensures) (c .before .before .before .before .before .before .before .before .before .before .before .depth .ensures) (c .before .before .before .before .before .before .before .before .before .depth2 .ensures)) (w .ensures) in
+    let w = c .before .before .before .before .before .before .before in
     let n = c .before .before .before .n .given in
-    let f = found (spanWalk (a .ps .now) (a .es .now) (argumentSpan (a .ps .now) (a .es .now) (a .face) (a .mask))) (a .scratch .now) new (w .result) walked (n .0 .0) (n .1) in
-    argument-demands (a .ps .now) (a .es .now) (a .face) (a .mask) (a .kept .nodes) new (n .0 .0) f (c .all-demanded .result) (c .all-demanded .ensures)
+    let a = start w .args in
+    argument-demands (ps w) (es w) (a .face) (a .mask) (a .kept .nodes) (new w) (n .0 .0) (recorded w (n .0 .0) (n .1))
+    (c .all-demanded .result) (c .all-demanded .ensures)
 
 pub argument-demanded-spec : {M : Type 1} → statement M
 argument-demanded-spec =

@@ -43,7 +43,8 @@ unfolding maxFunctions
 returns c =
     let a = c .before .before .before in
     let s = a .before .before .before in
-    closed-fails (s .args .es .now) (s .args .firsts .nodes) (s .args .t3) (s .args .firsts .count) (a .loop .k) (omega (arith, s .pre .fits .array, s .pre .fits .count))
+    closed-fails (s .args .es .now) (s .args .firsts .nodes) (s .args .t3) (s .args .firsts .count) (a .loop .k)
+    (omega (arith, s .pre .fits .array, s .pre .fits .count))
     (omega (arith, s .pre .masks, s .pre .fits .count)) (c .before .before .loop-test .taken)
     (ap not (sym (c .before .body-closed .ensures)) ∙ c .if1 .taken) ∙ a .loop .inv
 
@@ -58,7 +59,8 @@ unfolding maxFunctions
 loop-again c =
     let a = c .before .before .before in
     let s = a .before .before .before in
-    closed-next (s .args .es .now) (s .args .firsts .nodes) (s .args .t3) (s .args .firsts .count) (a .loop .k) (omega (arith, s .pre .fits .array, s .pre .fits .count))
+    closed-next (s .args .es .now) (s .args .firsts .nodes) (s .args .t3) (s .args .firsts .count) (a .loop .k)
+    (omega (arith, s .pre .fits .array, s .pre .fits .count))
     (omega (arith, s .pre .masks, s .pre .fits .count)) (c .before .before .loop-test .taken)
     (ap not (sym (c .before .body-closed .ensures)) ∙ c .if1 .left) ∙ a .loop .inv
 
@@ -67,7 +69,8 @@ unfolding maxFunctions
 returns-2 c =
     let a = c .before in
     let s = a .before .before .before in
-    closed-ends (s .args .es .now) (s .args .firsts .nodes) (s .args .t3) (s .args .firsts .count) (a .loop .k) (omega (arith, s .pre .fits .array, s .pre .fits .count))
+    closed-ends (s .args .es .now) (s .args .firsts .nodes) (s .args .t3) (s .args .firsts .count) (a .loop .k)
+    (omega (arith, s .pre .fits .array, s .pre .fits .count))
     (omega (arith, s .pre .masks, s .pre .fits .count)) (c .loop-test .left) ∙ a .loop .inv
 
 pub bodies-closed-spec : {M : Type 1} → statement M

@@ -23,7 +23,8 @@ tag-requires c κs = search needs
 returns : tie.Need-returns
 returns c =
     let a = c .before .before .before .before .before .before .args in
-    face-plain (a .ps .now) (a .es .now) (a .functions) (a .t5) (a .t6) (a .face) (a .kept .nodes) (c .before .tag .result) (c .before .tag .ensures) (c .if1 .taken)
+    face-plain (a .ps .now) (a .es .now) (a .functions) (a .t5) (a .t6) (a .face) (a .kept .nodes) (c .before .tag .result)
+    (c .before .tag .ensures) (c .if1 .taken)
 
 payload-requires : tie.Need-payload-requires
 payload-requires c κs = search needs
@@ -80,7 +81,8 @@ application-demanded-requires c κs =
     let a = s .args in
     let e = (c .before .rank .ensures ∙ ap (λ (m : ℕ). count m (a .functions)) (c .before .before .payload .ensures)) in (
       s .pre .0,
-      subst (λ (k : ℕ). Applies (a .ps .now) (a .es .now) (a .face) (at (a .t5) k) (at (a .t6) k)) (sym e) (s .pre .1 .applies (sym (c .before .before .before .before .tag .ensures) ∙ c .before .before .before .if1 .left)),
+      subst (λ (k : ℕ). Applies (a .ps .now) (a .es .now) (a .face) (at (a .t5) k) (at (a .t6) k)) (sym e)
+          (s .pre .1 .applies (sym (c .before .before .before .before .tag .ensures) ∙ c .before .before .before .if1 .left)),
       s .pre .2,
     )
 
@@ -91,8 +93,12 @@ returns-2 : tie.Need-returns-2
 returns-2 c =
     let a = c .before .before .before .before .before .before .before .before .before .before .before .before .args in
     let r = c .before .before .application-demanded in
-    face-applies (a .ps .now) (a .es .now) (a .functions) (a .t5) (a .t6) (a .face) (a .kept .nodes) (c .before .before .before .before .before .before .before .tag .result) (c .before .before .before .before .before .before .before .tag .ensures) (c .before .before .before .before .before .before .if1 .left) (c .before .before .before .before .rank .result)
-    (c .before .before .before .before .rank .ensures ∙ ap (λ (m : ℕ). count m (a .functions)) (c .before .before .before .before .before .payload .ensures)) (r .result) (r .ensures)
+    face-applies (a .ps .now) (a .es .now) (a .functions) (a .t5) (a .t6) (a .face) (a .kept .nodes)
+    (c .before .before .before .before .before .before .before .tag .result)
+    (c .before .before .before .before .before .before .before .tag .ensures) (c .before .before .before .before .before .before .if1 .left)
+    (c .before .before .before .before .rank .result)
+    (c .before .before .before .before .rank .ensures ∙ ap (λ (m : ℕ). count m (a .functions))
+    (c .before .before .before .before .before .payload .ensures)) (r .result) (r .ensures)
 
 pub face-demanded-spec : {M : Type 1} → statement M
 face-demanded-spec =

@@ -34,13 +34,15 @@ face-demanded-requires c κs =
     let a = s .args in
     let l = c .before .before .before .loop in (
       tables-again (a .ps .now) (a .es .now) (a .scratch .now) (l .scratch) (s .pre .0) (l .inv .0),
-      going-slots (a .ps .now) (a .es .now) (a .functions) (a .nodes) (a .row) (a .faces .now) _ (l .k) (l .kept .nodes) (l .inv .1) (c .before .before .loop-test .taken),
+      going-slots (a .ps .now) (a .es .now) (a .functions) (a .nodes) (a .row) (a .faces .now) _ (l .k) (l .kept .nodes) (l .inv .1)
+          (c .before .before .loop-test .taken),
       l .inv .1 .inside,
     )
 
 same-length : tie.Need-same-length Inv-loop μ-loop
 same-length c =
-    c .before .before .before .before .face-demanded .kept .1 .1 .1 .1 .1 .1 .1 .0 ∙ c .before .before .before .before .before .before .before .before .loop .inv .0
+    c .before .before .before .before .face-demanded .kept .1 .1 .1 .1 .1 .1 .1 .0
+    ∙ c .before .before .before .before .before .before .before .before .loop .inv .0
 
 returns : tie.Need-returns Inv-loop μ-loop
 returns c =
@@ -48,7 +50,8 @@ returns c =
     let a = s .args in
     let l = c .before .before .before .before .before .before .before .before .loop in
     let n = c .before .before .before .before .face-demanded in
-    going-fails (a .ps .now) (a .es .now) (a .functions) (a .nodes) (a .row) (a .faces .now) _ (l .k) (l .kept .nodes) (l .inv .1) (c .before .before .before .before .before .before .before .loop-test .taken) (n .result) (n .ensures) (c .if1 .taken)
+    going-fails (a .ps .now) (a .es .now) (a .functions) (a .nodes) (a .row) (a .faces .now) _ (l .k) (l .kept .nodes) (l .inv .1)
+    (c .before .before .before .before .before .before .before .loop-test .taken) (n .result) (n .ensures) (c .if1 .taken)
 
 add-k : tie.Need-add-k Inv-loop μ-loop
 add-k c = search needs
@@ -61,8 +64,12 @@ loop-again c =
     let s = c .before .before .before .before .before .before .before .before .before .before .before .before .before .before in
     let a = s .args in
     let l = c .before .before .before .before .before .before .before .before .before .loop in
-    let n = c .before .before .before .before .before .face-demanded in
-    (n .kept .1 .1 .1 .1 .1 .1 .1 .0 ∙ l .inv .0, going-on (a .ps .now) (a .es .now) (a .functions) (a .nodes) (a .row) (a .faces .now) _ (l .k) (l .kept .nodes) (l .inv .1) (c .before .before .before .before .before .before .before .before .loop-test .taken) (n .result) (n .ensures) (c .before .if1 .left))
+    let n = c .before .before .before .before .before .face-demanded in (
+      n .kept .1 .1 .1 .1 .1 .1 .1 .0 ∙ l .inv .0,
+      going-on (a .ps .now) (a .es .now) (a .functions) (a .nodes) (a .row) (a .faces .now) _
+          (l .k) (l .kept .nodes) (l .inv .1) (c .before .before .before .before .before .before .before .before .loop-test .taken) (n .result)
+          (n .ensures) (c .before .if1 .left),
+    )
 
 same-length-2 : tie.Need-same-length-2 Inv-loop μ-loop
 same-length-2 c = c .before .loop .inv .0
@@ -72,7 +79,8 @@ returns-2 c =
     let s = c .before .before .before .before .before .before in
     let a = s .args in
     let l = c .before .loop in
-    going-ends (a .ps .now) (a .es .now) (a .functions) (a .nodes) (a .row) (a .faces .now) _ (l .k) (l .kept .nodes) (l .inv .1) (c .loop-test .left)
+    going-ends (a .ps .now) (a .es .now) (a .functions) (a .nodes) (a .row) (a .faces .now) _ (l .k) (l .kept .nodes) (l .inv .1)
+    (c .loop-test .left)
 
 pub faces-demanded-spec : {M : Type 1} → statement M
 faces-demanded-spec =

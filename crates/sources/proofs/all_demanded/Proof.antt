@@ -29,15 +29,19 @@ shared-slice-read-demanded-at c = search needs
 demanded-at-requires : tie.Need-demanded-at-requires Inv-loop μ-loop
 demanded-at-requires c κs =
     let a = c .before .before in
-    let s = a .before .before .before .before in
-    (a .loop .inv .nodes, going-reads (s .args .ps .now) (s .args .es .now) (s .args .faces .now) _ (a .loop .k) (a .loop .kept .nodes) (a .loop .inv) (c .before .loop-test .taken))
+    let s = a .before .before .before .before in (
+      a .loop .inv .nodes,
+      going-reads (s .args .ps .now) (s .args .es .now) (s .args .faces .now) _ (a .loop .k) (a .loop .kept .nodes)
+          (a .loop .inv) (c .before .loop-test .taken),
+    )
 
 returns : tie.Need-returns Inv-loop μ-loop
 returns c =
     let a = c .before .before .before .before .before in
     let s = a .before .before .before .before in
     let n = c .before .before .demanded-at in
-    going-fails (s .args .ps .now) (s .args .es .now) (s .args .faces .now) _ (a .loop .k) (a .loop .kept .nodes) (a .loop .inv) (c .before .before .before .before .loop-test .taken) (n .result) (n .ensures) (c .if1 .taken)
+    going-fails (s .args .ps .now) (s .args .es .now) (s .args .faces .now) _ (a .loop .k) (a .loop .kept .nodes) (a .loop .inv)
+    (c .before .before .before .before .loop-test .taken) (n .result) (n .ensures) (c .if1 .taken)
 
 add-k : tie.Need-add-k Inv-loop μ-loop
 add-k c = search needs
@@ -50,13 +54,15 @@ loop-again c =
     let a = c .before .before .before .before .before .before in
     let s = a .before .before .before .before in
     let n = c .before .before .before .demanded-at in
-    going-on (s .args .ps .now) (s .args .es .now) (s .args .faces .now) _ (a .loop .k) (a .loop .kept .nodes) (a .loop .inv) (c .before .before .before .before .before .loop-test .taken) (n .result) (n .ensures) (c .before .if1 .left)
+    going-on (s .args .ps .now) (s .args .es .now) (s .args .faces .now) _ (a .loop .k) (a .loop .kept .nodes) (a .loop .inv)
+    (c .before .before .before .before .before .loop-test .taken) (n .result) (n .ensures) (c .before .if1 .left)
 
 returns-2 : tie.Need-returns-2 Inv-loop μ-loop
 returns-2 c =
     let a = c .before in
     let s = a .before .before .before .before in
-    going-ends (s .args .ps .now) (s .args .es .now) (s .args .faces .now) _ (a .loop .k) (a .loop .kept .nodes) (a .loop .inv) (c .loop-test .left)
+    going-ends (s .args .ps .now) (s .args .es .now) (s .args .faces .now) _ (a .loop .k) (a .loop .kept .nodes) (a .loop .inv)
+    (c .loop-test .left)
 
 pub all-demanded-spec : {M : Type 1} → statement M
 all-demanded-spec =

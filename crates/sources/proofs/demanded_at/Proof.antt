@@ -26,7 +26,8 @@ demanded-requires c κs =
     let s = c .before .before .before .before .before .before in
     let t = c .before .before .tag in (
       s .pre .0,
-      face-asks (s .args .ps .now) (s .args .es .now) (s .args .sources .nodes) (s .args .face) (t .result) (t .ensures) (c .before .if1 .left)
+      face-asks (s .args .ps .now) (s .args .es .now) (s .args .sources .nodes) (s .args .face) (t .result) (t .ensures)
+          (c .before .if1 .left)
           (c .payload .result) (c .payload .ensures) (s .pre .1),
     )
 
