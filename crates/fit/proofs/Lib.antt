@@ -8,4 +8,3 @@ pub mod Applications
 pub mod FacesMeaning
 pub mod Meaning
 pub mod Readiness
-pub mod LaidOut
