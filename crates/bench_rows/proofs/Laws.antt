@@ -1,8 +1,8 @@
 -- The rows of a table of one class: stepping stays among them, and the table is one.
-use mathlib.Core.Path.{_≡_, refl, ap, sym, _∙_, subst}
+use mathlib.Core.Path.{_≡_, refl, sym, _∙_, subst}
 use mathlib.Core.Logic.{_⊎_, inl, inr}
 use mathlib.Core.Bool.{true}
-use mathlib.Core.List.{List, [], _∷_, _++_, List·Memᴰ·head, List·Memᴰ·tail, List·Memᴰ·cases-cons, List·Memᴰ·not-nil, Memᴰ·append-right}
+use mathlib.Core.List.{List, [], _∷_, List·Memᴰ·head, List·Memᴰ·tail, Memᴰ·append-right}
 use Prim.Native.Nat.{ℕ, zero, suc, _+_, _*_, _<_}
 use native.Mathlib.Omega.{arith}
 use native.Mathlib.Decide.{decLt}
@@ -13,6 +13,7 @@ use Rattle.meaning.specs.Limits.{maxFunctions}
 use Rattle.meaning.specs.Basics.{_∈_}
 use Rattle.meaning.specs.Search.{at, placeOf}
 use Rattle.meaning.proofs.Lists.{never}
+use Rattle.meaning.proofs.PlaceLaws.{mem-split}
 use Rattle.rows.proofs.Lists.{getD-zeros}
 use Rattle.masks.specs.Mask.{width}
 use Rattle.masks.specs.Table.{Lowest, Table}
@@ -25,18 +26,10 @@ place-mem (x ∷ rs) r e = List·Memᴰ·head (let q : r ≡ x = cc in q)
 pub first-in : (ds : List ℕ) (r : MaskRow) → placeOf (maskRows ds) ≡ at r → r ∈ maskRows ds
 first-in ds r e = place-mem (maskRows ds) r e
 
-split : {A : Type 0} (x : A) (xs : List A) → x ∈ xs → (us vs : List A) × (xs ≡ us ++ (x ∷ vs))
-split x [] m = absurd (List·Memᴰ·not-nil m)
-split {A} x (y ∷ ys) m = go (split x ys) (List·Memᴰ·cases-cons m)
-  where
-    go : (x ∈ ys → (us vs : List A) × (ys ≡ us ++ (x ∷ vs))) → (x ≡ y) ⊎ (x ∈ ys) → (us vs : List A) × (y ∷ ys ≡ us ++ (x ∷ vs))
-    go ih (inl e) = ([], ys, ap (λ (z : A). z ∷ ys) (sym e))
-    go ih (inr q) = let r = ih q in (y ∷ r .0, r .1, ap (λ (z : List A). y ∷ z) (r .2))
-
 pub step-in : (ds : List ℕ) (row next : MaskRow) → Steps ds row true next → row ∈ maskRows ds → next ∈ maskRows ds
 unfolding Steps
 step-in ds row next s m =
-    let r = split row (maskRows ds) m in
+    let r = mem-split row (maskRows ds) m in
     subst (λ (l : List MaskRow). next ∈ l) (sym (r .2))
     (Memᴰ·append-right (r .0) (List·Memᴰ·tail (place-mem (r .1) next (s (r .0) (r .1) (r .2) .goes refl))))
 

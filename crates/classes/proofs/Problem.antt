@@ -2,7 +2,7 @@
 use mathlib.Core.Path.{_≡_, refl, ap, ap₂, sym, _∙_}
 use mathlib.Core.Logic.{_⊎_, inl, inr, ⊎-elim, _↔_}
 use mathlib.Core.Bool.{Bool, true, false, not, true≢false, false≢true}
-use mathlib.Core.List.{List, [], _∷_, _++_, map, map-map, map-append, List·Memᴰ·not-nil}
+use mathlib.Core.List.{List, [], _∷_, _++_, map, map-map, map-append}
 use mathlib.Core.Option.{Option, none, some}
 use Prim.Native.Nat.{ℕ, zero, suc, _+_, _-_, _^_, _≤_}
 use native.Mathlib.Omega.{arith}
@@ -11,12 +11,11 @@ use lib.Pow.{pow-pos}
 use lib.Count.{leadingZeros}
 use Rattle.meaning.specs.Limits.{maxFunctions, maxFaceNodes}
 use Rattle.meaning.specs.Basics.{countFrom, upTo, _∈_, isSome}
-use Rattle.meaning.specs.Term.{one, size}
 use Rattle.meaning.specs.Problem.{Problem, placesOf, functions}
 use Rattle.meaning.specs.Face.{Face, faces}
 use Rattle.meaning.specs.Choice.{Marks}
 use Rattle.meaning.specs.Choices.{choices}
-use Rattle.meaning.specs.Row.{Row, faceOf, ChoiceEach}
+use Rattle.meaning.specs.Row.{Row, faceOf}
 use Rattle.meaning.specs.Rows.{product, rowsOver, rows}
 use Rattle.meaning.specs.Search.{at, placeOf, start}
 use Rattle.meaning.specs.PlaceValue.{maskOf, PlaceValue, masksOf, placeValue}
@@ -24,7 +23,6 @@ use Rattle.meaning.specs.Readable.{Accepted}
 use Rattle.meaning.proofs.Lists.{mem-map, map-mem, at-mem}
 use Rattle.meaning.proofs.Proper.{one-place, functions-applied}
 use Rattle.meaning.proofs.Ordered.{OneOfEach, product-are}
-use Rattle.meaning.proofs.ChoiceLaws.{empty-choice, rows-are}
 use Rattle.meaning.proofs.PlaceLaws.{few-functions}
 use Rattle.masks.specs.Mask.{width}
 use Rattle.masks.specs.Order.{below}
@@ -106,15 +104,6 @@ rows-product p e = go (faces p) e
     go none e = absurd (false≢true e)
     go (some xs) e = refl
 
--- The row of all empty choices.
-empty-row : (p : Problem) (fs : List ℕ) → (r : Row) × ChoiceEach p fs r
-empty-row p [] = ([], tt)
-empty-row p (f ∷ fs) = let (r, c) = empty-row p fs in (replicate (size (one (faceOf p f))) none ∷ r, (empty-choice (placesOf p f) (faceOf p f), c))
-
-begins : {A : Type 0} (xs : List A) (x : A) → x ∈ xs → (y : A) × (ys : List A) × (xs ≡ y ∷ ys)
-begins [] x m = absurd (List·Memᴰ·not-nil m)
-begins (y ∷ ys) x m = (y, ys, refl)
-
 -- The place of a list of mask rows, as a host holds it
 value-place : (rs : List Row) (more : Bool) (next : MaskRow) → Leads (placeOf (map masksOf rs)) more next
     → record { masks = next; isPast = not more } ≡ placeValue (placeOf rs)
@@ -164,10 +153,6 @@ tabled-tables p ds t =
           (λ q. empty-table (classesAt ds k) (λ i. t .absent k i q))
           (at-or-past (functions p) k);
     }
-
--- Where the shapes agree there is a row.
-pub some-row : (p : Problem) → isSome (faces p) ≡ true → (r : Row) × (later : List Row) × (rows p ≡ r ∷ later)
-some-row p agree = let (r, c) = empty-row p (functions p) in begins (rows p) r (rows-are p r .1 (record { agree = agree; choice = c }))
 
 module _ (p : Problem) (ds : List ℕ) (a : Accepted p) (agree : isSome (faces p) ≡ true) (t : Tabled p ds) where
   -- What `is_row` tells: whether the masks are those of a row.

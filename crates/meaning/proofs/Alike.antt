@@ -6,7 +6,7 @@ use mathlib.Core.Path.{_≡_, refl, ap, ap₂, subst}
 use mathlib.Core.Logic.{_↔_}
 use mathlib.Core.Bool.{Bool, true, _&&_}
 use lib.Dec.{eqb, eqb→eq, eqb-refl, T}
-use Rattle.meaning.specs.Term.{Forest, nil, cons, symbol, variable, application, binder, metavariable, function, hole, own, slot}
+use Rattle.meaning.specs.Term.{nil, cons, symbol, variable, application, binder, metavariable, function, hole, own, slot}
 use Rattle.meaning.specs.Term.{free, bound, Terms}
 use Rattle.meaning.specs.Same.{alike, sameSlot, sameOwn, sameLabel, sameVariable, sameSeen, sameTerms}
 use Rattle.meaning.specs.Equal.{seenFree, inside, outside, View}
@@ -131,9 +131,6 @@ pub decides : {A : Type 0} (same : A → A → Bool) → Sound same → Fair sam
 decides {A} same h g x y = (λ e. h x y (true-T e), λ e. T-true (subst (λ (z : A). T (same x z)) e (g x)))
 
 -- Main theorems
-pub alike-same : {L : Type 0} (same : L → L → Bool) → ((l m : L) → (same l m ≡ true) ↔ (l ≡ m)) → (u v : Forest L) → (alike same u v ≡ true) ↔ (u ≡ v)
-alike-same same h u v = decides (alike same) (alike-eq same (λ l m t. h l m .0 (T-true t))) (alike-refl same (λ l. true-T (h l l .1 refl))) u v
-
 pub sameTerms-eq : (u v : Terms) → T (sameTerms u v) → u ≡ v
 sameTerms-eq u v t = alike-eq (sameLabel sameVariable) (label-eq sameVariable variable-eq) u v t
 

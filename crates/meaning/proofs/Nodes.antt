@@ -336,10 +336,7 @@ source-node p r s q d = go (faces p) refl q
         let f : s .node ≡ w .0 = omega arith in
         rw f (stands-node (w .2))
 
--- The nodes of the expressions are those that the bytes have, with the names resolved in some scope
-pub node-named : (n : ℕ) (u : Forest Named) (t : NamedTerm) → nodeAt n u ≡ some t → (sc : List ℕ) × (nodeAt n (nameless [] u) ≡ some (namelessTerm sc t))
-node-named n u t e = let r = relabel-stands enter namelessLabel (node-stands n u t e) [] in (r .0, stands-node (r .1))
-
+-- A node of the expressions is one that the bytes have, with its names resolved in some scope
 pub named-node : (n : ℕ) (u : Forest Named) (t : Term) → nodeAt n (nameless [] u) ≡ some t
     → (sc : List ℕ) × (v : NamedTerm) × (nodeAt n u ≡ some v) × (t ≡ namelessTerm sc v)
 named-node n u t e =

@@ -1,6 +1,6 @@
 -- Laws of shift, lower and closed: lowering undoes shifting, and a closed term is not moved.
 use mathlib.Core.Path.{_≡_, refl, ap, ap₂, sym, _∙_, subst}
-use Prim.Native.Nat.{ℕ, suc, _+_, _-_, _<_, _≤_}
+use Prim.Native.Nat.{ℕ, _+_, _-_, _<_, _≤_}
 use mathlib.Core.Bool.{true, false, _&&_}
 use mathlib.Core.Option.{Option, none, some}
 use native.Mathlib.Omega.{arith}
@@ -161,12 +161,6 @@ relabel-size into f e (cons l c s) = rw (relabel-size into f (into l e) c, relab
 
 pub shift-size : (n k : ℕ) (u : Terms) → size (shift n k u) ≡ size u
 shift-size n k u = relabel-size inner (shiftLabel n) k u
-
-pub shift-size-term : (n : ℕ) (t : Term) → size (one (shiftTerm n t)) ≡ size (one t)
-shift-size-term n t = ap (λ (m : ℕ). suc (m + 0)) (shift-size n (inner (t .0) 0) (t .1))
-
-pub lower-size-term : (n : ℕ) (t a : Term) → lowerTerm n t ≡ some a → size (one a) ≡ size (one t)
-lower-size-term n t a e = sym (shift-size-term n a) ∙ ap (λ (x : Term). size (one x)) (shift-lower-term n t a e)
 
 own-with : {X Y B : Type 0} (f : X → Y) (l : Label X B) → ownLabel (withVariable f l) → ownLabel l
 own-with f (own o) h = tt

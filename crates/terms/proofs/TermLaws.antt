@@ -20,7 +20,7 @@ use Rattle.tokens.specs.Token.{tokens}
 use Rattle.fields.specs.Heads.{labelOf, fixedOf, dueOf, readFields, openRead, OpenFits, OpenDone}
 use Rattle.sites.specs.Site.{siteScope}
 use Rattle.terms.specs.Reading.{Space, Written, termAnswer, TermDone, fieldsAnswer, FieldsDone, nextOf, FieldsFit, nodeToken, Closed}
-use Rattle.terms.specs.Reading.{joinedOf, TermFits}
+use Rattle.terms.specs.Reading.{joinedOf}
 use Rattle.terms.specs.declared.term.Term.{Term}
 use Rattle.terms.specs.declared.term.Term.the-variants as terms
 use Rattle.fields.specs.declared.node.Node.{Node}
@@ -150,12 +150,6 @@ took-fits read fine sc s before after {k} {m} d =
       within = omega (arith, t .bytesAre);
       nodes = omega (arith, t .bytesAre, t .nodesAre, w .room, n);
     }
-
-pub term-fits : (read : Reader) → Fine read → (sc s before after : List ℕ) (r : Term)
-    → TermDone sc s (read s) before after r → length s < 3 * 65536 → TermFits r
-term-fits read fine sc s before after (terms.Refused q) d l = tt
-term-fits read fine sc s before after (terms.Took k m) d l =
-    let w = took-fits read fine sc s before after d in omega (arith, w .nodes, w .within)
 
 pub fields-fit : (read : Reader) → Fine read → (sc : List ℕ) (due : Due) (s before after : List ℕ) (r : Fields)
     → FieldsDone sc (readFields due read s) before after r → length s < 3 * 65535 → FieldsFit r

@@ -68,10 +68,6 @@ nextOf dues.All left = choose (eqb left 0) nexts.Done (nexts.Field dues.All)
 nextOf (dues.Exactly n) left = choose (eqb n 0) (choose (eqb left 0) nexts.Done (nexts.Refused 7)) (nexts.Field (dues.Exactly (n - 1)))
 
 -- Numbers that a token can hold
-abbrev pub TermFits : Term → Type 0
-TermFits (terms.Refused r) = Unit {0}
-TermFits (terms.Took k nodes) = nodes < 65536
-
 abbrev pub FieldsFit : Fields → Type 0
 FieldsFit (fields.Refused r) = Unit {0}
 FieldsFit (fields.Read nodes count) = (nodes < 65535) × (count < 65535)
