@@ -155,7 +155,8 @@ choice-passes : (face : Term) (l : List Bool) → length l ≡ size (one face) �
     → passes face l ≡ true
 unfolding IsChoice free equal
 choice-passes face l n c =
-    let same : (j k h i : ℕ) → getElem? (unflags l) j ≡ some (some h) → getElem? (unflags l) k ≡ some (some i) → getElem? (views face) j ≡ getElem? (views face) k =
+    let same : (j k h i : ℕ) → getElem? (unflags l) j ≡ some (some h) → getElem? (unflags l) k ≡ some (some i)
+    → getElem? (views face) j ≡ getElem? (views face) k =
     λ j k h i d e. views-same (getElem? (views face) j) (getElem? (views face) k) (c j k (mark-in l j h d .0) (mark-in l k i e .0) .2) in
     keep-mem (isChoice 1 face) (unflags l) (allMarks 1 (size (one face)))
     (choices-are 1 face (unflags l) .1
@@ -214,9 +215,11 @@ unflag-flags (none ∷ ms) h = ap {B = Marks} (λ r. none ∷ r) (unflag-flags m
 unflag-flags (some i ∷ ms) h = ap₂ {C = Marks} (λ (j : ℕ) (r : Marks). some j ∷ r) (omega (arith, h .0)) (unflag-flags ms (h .1))
 
 -- Main theorems: the choices by a face's class table are the face's choices, where there is one place
-pub face-choices : (n : ℕ) → n ≡ 1 → (face : Term) (ds : List ℕ) → FaceClasses face ds → below (test width ds) (2 ^ width) ≡ map (maskOf maxFaceNodes) (meant.choices n face)
+pub face-choices : (n : ℕ) → n ≡ 1 → (face : Term) (ds : List ℕ) → FaceClasses face ds
+    → below (test width ds) (2 ^ width) ≡ map (maskOf maxFaceNodes) (meant.choices n face)
 unfolding maxFaceNodes
-face-choices n single face ds c = masks-choices width face ds c ∙ ap (λ (k : ℕ). map (maskOf maxFaceNodes) (meant.choices k face)) (sym single)
+face-choices n single face ds c =
+    masks-choices width face ds c ∙ ap (λ (k : ℕ). map (maskOf maxFaceNodes) (meant.choices k face)) (sym single)
 
 pub face-table : (face : Term) (ds : List ℕ) → FaceClasses face ds → Table width ds
 face-table face ds c = table-of width (size (one face)) (free face) (equal face) ds (equality face) c

@@ -76,11 +76,14 @@ counted {A} L X y k (suc n) (f ∷ fs) h there absent =
 
 choices-at : (p : Problem) (ds : List ℕ) → Accepted p → Tabled p ds
     → map (choicesAt ds) (upTo maxFunctions)
-    ≡ map (λ f. map (maskOf maxFaceNodes) (choices (placesOf p f) (faceOf p f))) (functions p) ++ replicate (maxFunctions - length (functions p)) (0 ∷ [])
+    ≡ map (λ f. map (maskOf maxFaceNodes) (choices (placesOf p f) (faceOf p f))) (functions p)
+    ++ replicate (maxFunctions - length (functions p)) (0 ∷ [])
 unfolding choicesAt
 choices-at p ds a t =
-    counted (choicesAt ds) (λ f. map (maskOf maxFaceNodes) (choices (placesOf p f) (faceOf p f))) (0 ∷ []) 0 maxFunctions (functions p) (few-functions p a)
-    (λ i f k e q. let z : i ≡ k = omega arith in face-choices (placesOf p f) (single p a f (at-mem (functions p) i f q)) (faceOf p f) (classesAt ds k) (t .there k f (rw z at q)))
+    counted (choicesAt ds) (λ f. map (maskOf maxFaceNodes) (choices (placesOf p f) (faceOf p f))) (0 ∷ []) 0 maxFunctions (functions p)
+    (few-functions p a)
+    (λ i f k e q. let z : i ≡ k = omega arith in
+    face-choices (placesOf p f) (single p a f (at-mem (functions p) i f q)) (faceOf p f) (classesAt ds k) (t .there k f (rw z at q)))
     (λ i k e q. empty-choices width (classesAt ds k) (λ j. t .absent k j (omega arith)))
 
 at-or-past : (xs : List ℕ) (k : ℕ) → ((x : ℕ) × (getElem? xs k ≡ some x)) ⊎ (length xs ≤ k)

@@ -111,7 +111,8 @@ module _ (table : List ℕ) (i f n : ℕ) (cs : Terms) where
       opened (a .levels) (a .context) (a .scope) (a .named .0) (a .named .1) (sym (ap (λ (t : Term). t .0) (a .term)))
       (sym (ap (λ (t : Term). t .1) (a .term))) (a .held) (a .stands)
 
-module _ (p : Problem) (w : WithinLimits p) (i f n : ℕ) (cs : Terms) (applied : nodeAt i (patterns p) ≡ some (slot (function f n), cs)) where
+module _ (p : Problem) (w : WithinLimits p) (i f n : ℕ) (cs : Terms)
+    (applied : nodeAt i (patterns p) ≡ some (slot (function f n), cs)) where
   abbrev pub argumentSpan : ℕ → Span
   argumentSpan j =
       record {
@@ -142,7 +143,8 @@ module _ (p : Problem) (w : WithinLimits p) (i f n : ℕ) (cs : Terms) (applied 
 
     across-depth : depthIn (at (expressionTokens p) j) ≡ length (across .scope)
     across-depth =
-        stands-depth (across .levels) (across .context) (expressionTokens p) j (across .scope) (across .named) (across .held) (across .stands)
+        stands-depth (across .levels) (across .context) (expressionTokens p) j (across .scope) (across .named) (across .held)
+        (across .stands)
 
     span-walk : spanWalk (patternTokens p) (expressionTokens p) (argumentSpan j)
         ≡ lockstep atSlots (length (below .scope)) (length (across .scope)) 0 (suc i) j (tokens (below .scope) (below .named))
@@ -162,7 +164,8 @@ module _ (p : Problem) (w : WithinLimits p) (i f n : ℕ) (cs : Terms) (applied 
 
     -- THE THEOREM: the walk of the span fails just where that of the argument against the lowered subexpression fails, and else records its
     -- faces in order. k is the number of binders above the application
-    pub argument-walk : (k : ℕ) → depthIn (at (patternTokens p) i) ≡ k → Meets (spanWalk (patternTokens p) (expressionTokens p) (argumentSpan j)) (walk k j (one (argument cs 0)) (one u))
+    pub argument-walk : (k : ℕ) → depthIn (at (patternTokens p) i) ≡ k
+        → Meets (spanWalk (patternTokens p) (expressionTokens p) (argumentSpan j)) (walk k j (one (argument cs 0)) (one u))
     argument-walk k deep =
         subst (λ (o : Option (List ℕ)). Meets o (walk k j (one (argument cs 0)) (one u)))
         (sym span-walk)
@@ -171,13 +174,23 @@ module _ (p : Problem) (w : WithinLimits p) (i f n : ℕ) (cs : Terms) (applied 
         (lowered-walk (below .scope) (across .scope) under (sym across-depth ∙ deeper ∙ ap (λ (m : ℕ). under + m) (below .depth))
         (below .named) (across .named) u (ap (lowerTerm under) (sym (across .term)) ∙ lowers)
         (below .levels) (across .levels) (across .context) (below .readable) (below .room) (below .single) (across .held)
-        (λ m. nodeAt m (patterns p)) (λ m. nodeAt (m - j) (one u)) (λ m. depthIn (at (patternTokens p) m)) k (suc i) j (across .stands .after)
+        (λ m. nodeAt m (patterns p)) (λ m. nodeAt (m - j) (one u)) (λ m. depthIn (at (patternTokens p) m)) k (suc i) j
+        (across .stands .after)
         (subst (Looks (λ m. nodeAt m (patterns p)) (suc i)) (sym (below .is))
-        (look-below (λ m. nodeAt m (patterns p)) i (slot (function f n)) cs nil (looks-at (patterns p) i (slot (function f n), cs) applied)))
+        (look-below (λ m. nodeAt m (patterns p)) i (slot (function f n)) cs nil
+        (looks-at (patterns p) i (slot (function f n), cs) applied)))
         (λ m h. let e : j + m - j ≡ m = omega arith in ap (λ (x : ℕ). nodeAt x (one u)) e)
-        (subst (λ (d : ℕ). Deep (λ m. depthIn (at (patternTokens p) m)) (suc i) d (nameless (below .scope) (below .named))) (sym (below .depth) ∙ deep)
-        (tokens-deep (patternTokens p) (suc i) (below .levels) inArgument (below .scope) (below .named) (below .after) (below .split) (below .readable) (below .room)))
-        (omega (arith, below .ends, below .nodes, pattern-table p w .small, relabel-size enter namelessLabel (below .scope) (below .named)))))
+        (subst (λ (d : ℕ). Deep (λ m. depthIn (at (patternTokens p) m)) (suc i) d (nameless (below .scope) (below .named)))
+        (sym (below .depth) ∙ deep)
+        (tokens-deep (patternTokens p) (suc i) (below .levels) inArgument (below .scope) (below .named) (below .after) (below .split)
+        (below .readable) (below .room)))
+        (omega (
+          arith,
+          below .ends,
+          below .nodes,
+          pattern-table p w .small,
+          relabel-size enter namelessLabel (below .scope) (below .named),
+        ))))
       where
         flat : Option (List ℕ)
         flat =

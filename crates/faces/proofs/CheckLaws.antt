@@ -31,21 +31,26 @@ module _ (ps : List ℕ) (s : Occurring) (v : Surveyed ps s) where
     pub checked-both : meets metavariableCount (s .functions) (s .plain) ≡ true → CheckedBy ps es old new (checked.Refused 12)
     unfolding verdict
     checked-both e =
-        record { answer = sym (choose-true _ _ (sym (both-set ps s v) ∙ e)); recorded = λ ns w q. absurd (let z : _≡_ {A = ℕ} 0 1 = cc in omega arith) }
+        record {
+          answer = sym (choose-true _ _ (sym (both-set ps s v) ∙ e));
+          recorded = λ ns w q. absurd (let z : _≡_ {A = ℕ} 0 1 = cc in omega arith);
+        }
 
     module _ (apart : meets metavariableCount (s .functions) (s .plain) ≡ false) where
       pub checked-many : 8 < count metavariableCount (s .functions) → CheckedBy ps es old new (checked.Refused 13)
       unfolding verdict maxFunctions
       checked-many h =
           record {
-            answer = sym (choose-false _ _ (sym (both-set ps s v) ∙ apart) ∙ choose-true _ _ (lt-ltb 8 (length (functionsIn ps)) (omega (arith, count-set ps s v))));
+            answer = sym (choose-false _ _ (sym (both-set ps s v) ∙ apart)
+                ∙ choose-true _ _ (lt-ltb 8 (length (functionsIn ps)) (omega (arith, count-set ps s v))));
             recorded = λ ns w q. absurd (let z : _≡_ {A = ℕ} 0 1 = cc in omega arith);
           }
 
       module _ (few : count metavariableCount (s .functions) ≤ 8) where
         after-walk : verdict ps es ≡ afterWalk ps es (flatWalk ps es)
         unfolding verdict maxFunctions
-        after-walk = choose-false _ _ (sym (both-set ps s v) ∙ apart) ∙ choose-false _ _ (le-ltb 8 (length (functionsIn ps)) (omega (arith, count-set ps s v)))
+        after-walk = choose-false _ _ (sym (both-set ps s v) ∙ apart)
+            ∙ choose-false _ _ (le-ltb 8 (length (functionsIn ps)) (omega (arith, count-set ps s v)))
 
         pub checked-none : (q : Shapes) → Walked (flatWalk ps es) old new q → q ≡ shapes.Disagree → CheckedBy ps es old new checked.NoRows
         checked-none q w e =
@@ -55,21 +60,30 @@ module _ (ps : List ℕ) (s : Occurring) (v : Surveyed ps s) where
             }
 
         module _ (q : Shapes) (w : Walked (flatWalk ps es) old new q) (n : ℕ) (e : q ≡ shapes.Faces n) where
-          decided : (b : Bool) → b ≡ anyLarge es (firstsOf ps (take n new) (s .functions)) → verdict ps es ≡ choose b (checked.Refused 14) (checked.Faces n)
+          decided : (b : Bool) → b ≡ anyLarge es (firstsOf ps (take n new) (s .functions))
+              → verdict ps es ≡ choose b (checked.Refused 14) (checked.Faces n)
           decided b t =
               let f : Found (flatWalk ps es) new n = found (flatWalk ps es) old new q w n e in
-              let big : largeIn ps es (f .faces) ≡ b = sym (t ∙ ap (λ (ns : List ℕ). anyLarge es (firstsOf ps ns (s .functions))) (f .front) ∙ large-set es (f .faces)) in
-              after-walk ∙ ap (afterWalk ps es) (f .walked) ∙ ap₂ (λ (c : Bool) (m : ℕ). choose c (checked.Refused 14) (checked.Faces m)) big (f .long)
+              let big : largeIn ps es (f .faces) ≡ b =
+              sym (t ∙ ap (λ (ns : List ℕ). anyLarge es (firstsOf ps ns (s .functions))) (f .front) ∙ large-set es (f .faces)) in
+              after-walk ∙ ap (afterWalk ps es) (f .walked)
+              ∙ ap₂ (λ (c : Bool) (m : ℕ). choose c (checked.Refused 14) (checked.Faces m)) big (f .long)
 
-          pub checked-large : (b : Bool) → b ≡ anyLarge es (firstsOf ps (take n new) (s .functions)) → b ≡ true → CheckedBy ps es old new (checked.Refused 14)
+          pub checked-large : (b : Bool) → b ≡ anyLarge es (firstsOf ps (take n new) (s .functions)) → b ≡ true
+              → CheckedBy ps es old new (checked.Refused 14)
           checked-large b t y =
-              record { answer = sym (decided b t ∙ choose-true _ _ y); recorded = λ ns h q. absurd (let z : _≡_ {A = ℕ} 0 1 = cc in omega arith) }
+              record {
+                answer = sym (decided b t ∙ choose-true _ _ y);
+                recorded = λ ns h q. absurd (let z : _≡_ {A = ℕ} 0 1 = cc in omega arith);
+              }
 
-          pub checked-faces : (b : Bool) → b ≡ anyLarge es (firstsOf ps (take n new) (s .functions)) → b ≡ false → CheckedBy ps es old new (checked.Faces n)
+          pub checked-faces : (b : Bool) → b ≡ anyLarge es (firstsOf ps (take n new) (s .functions)) → b ≡ false
+              → CheckedBy ps es old new (checked.Faces n)
           checked-faces b t y = record { answer = sym (decided b t ∙ choose-false _ _ y); recorded = λ ns h z. w .recorded ns h }
 
 -- What a caller of `first_faces` owes after the checks
-pub few-functions : (ps es old new : List ℕ) (n : ℕ) → CheckedBy ps es old new (checked.Faces n) → (s : Occurring) → Surveyed ps s → count metavariableCount (s .functions) ≤ 8
+pub few-functions : (ps es old new : List ℕ) (n : ℕ) → CheckedBy ps es old new (checked.Faces n) → (s : Occurring) → Surveyed ps s
+    → count metavariableCount (s .functions) ≤ 8
 unfolding verdict maxFunctions
 few-functions ps es old new n c s v =
     by-test (bothIn ps)

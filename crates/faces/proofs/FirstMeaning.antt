@@ -37,7 +37,9 @@ pub record Meets (p : Problem) (j : ℕ) (x : Face) : Type 0 where
   pub term : nodeAt j (expressions p) ≡ some (x .term)
 
 module _ (p : Problem) (w : WithinLimits p) where
-  applies-means : (f n : ℕ) (x : Face) → Records (λ i. nodeAt i (patterns p)) (λ j. nodeAt j (expressions p)) (λ i. depthIn (at (patternTokens p) i)) n x → applies (patternTokens p) f n ≡ isApplication f (x .what)
+  applies-means : (f n : ℕ) (x : Face)
+      → Records (λ i. nodeAt i (patterns p)) (λ j. nodeAt j (expressions p)) (λ i. depthIn (at (patternTokens p) i)) n x
+      → applies (patternTokens p) f n ≡ isApplication f (x .what)
   unfolding applies
   applies-means f n x r =
       node-applies (patternTokens p) (patternNode n) (x .what) (x .children) f
@@ -49,7 +51,8 @@ module _ (p : Problem) (w : WithinLimits p) where
   first-means f [] [] r = tt
   first-means f [] (x ∷ xs) r = absurd r
   first-means f (n ∷ ns) [] r = absurd r
-  first-means f (n ∷ ns) (x ∷ xs) r = go (applies (patternTokens p) f n) (isApplication f (x .what)) (applies-means f n x (r .0)) (first-means f ns xs (r .1))
+  first-means f (n ∷ ns) (x ∷ xs) r =
+      go (applies (patternTokens p) f n) (isApplication f (x .what)) (applies-means f n x (r .0)) (first-means f ns xs (r .1))
     where
       here : Meets p (expressionNode n) x
       here = record { node = r .0 .node; term = ap (λ (j : ℕ). nodeAt j (expressions p)) (r .0 .node) ∙ r .0 .term }
@@ -62,9 +65,11 @@ module _ (p : Problem) (w : WithinLimits p) where
       go false false e ih = ih
 
   -- 14 for one function
-  large-one : (f : ℕ) (o : Option ℕ) (x : Option Face) → Both (Meets p) o x → large (expressionTokens p) (nodeOr o) ≡ ltb maxFaceNodes (size (one (faceTerm x f)))
+  large-one : (f : ℕ) (o : Option ℕ) (x : Option Face) → Both (Meets p) o x
+      → large (expressionTokens p) (nodeOr o) ≡ ltb maxFaceNodes (size (one (faceTerm x f)))
   unfolding large maxFaceNodes
-  large-one f none none r = ap (λ (b : Bool). b && ltb 64 (sizeIn (at (expressionTokens p) absent))) (le-ltb absent (length (expressionTokens p)) (expression-table p w .small))
+  large-one f none none r = ap (λ (b : Bool). b && ltb 64 (sizeIn (at (expressionTokens p) absent)))
+      (le-ltb absent (length (expressionTokens p)) (expression-table p w .small))
   large-one f none (some x) r = absurd r
   large-one f (some j) none r = absurd r
   large-one f (some j) (some x) r =
@@ -75,12 +80,14 @@ module _ (p : Problem) (w : WithinLimits p) where
 
   module _ (ns : List ℕ) (xs : List Face) (r : Recorded p ns xs) where
     pub large-means : (fs : List ℕ)
-        → anyLarge (expressionTokens p) (map (firstNode (patternTokens p) ns) fs) ≡ not (every (λ f. not (ltb maxFaceNodes (size (one (faceTerm (firstFace f xs) f))))) fs)
+        → anyLarge (expressionTokens p) (map (firstNode (patternTokens p) ns) fs)
+        ≡ not (every (λ f. not (ltb maxFaceNodes (size (one (faceTerm (firstFace f xs) f))))) fs)
     unfolding anyLarge firstNode
     large-means [] = refl
     large-means (f ∷ fs) =
         ap₂ _||_ (large-one f (firstIn (patternTokens p) f ns) (firstFace f xs) (first-means f ns xs r)) (large-means fs)
-        ∙ not-and (ltb maxFaceNodes (size (one (faceTerm (firstFace f xs) f)))) (every (λ g. not (ltb maxFaceNodes (size (one (faceTerm (firstFace g xs) g))))) fs)
+        ∙ not-and (ltb maxFaceNodes (size (one (faceTerm (firstFace f xs) f))))
+        (every (λ g. not (ltb maxFaceNodes (size (one (faceTerm (firstFace g xs) g))))) fs)
       where
         not-and : (a b : Bool) → a || not b ≡ not (not a && b)
         not-and true b = refl
@@ -97,21 +104,29 @@ module _ (p : Problem) (a : Accepted p) (ns : List ℕ) (xs : List Face) (agree 
     where
       expression : IsExpression (one (faceTerm (firstFace f xs) f))
       expression =
-          subst (λ (t : Term). IsExpression (one t)) (face-first f) (face-expression p (accepted-proper p a) xs agree f (functions-applied p f m))
+          subst (λ (t : Term). IsExpression (one t)) (face-first f)
+          (face-expression p (accepted-proper p a) xs agree f (functions-applied p f m))
 
       go : (o : Option ℕ) (x : Option Face) → firstFace f xs ≡ x → Both (Meets p) o x → FirstAt p xs f (nodeOr o)
       go none none e b = absurd (subst (λ (y : Option Face). IsExpression (one (faceTerm y f))) e expression .0)
       go none (some x) e b = absurd b
       go (some j) none e b = absurd b
       go (some j) (some x) e b =
-          record { face = x; isFirst = e; node = b .node; term = b .term ∙ ap some (sym (face-first f ∙ ap (λ (y : Option Face). faceTerm y f) e)) }
+          record {
+            face = x;
+            isFirst = e;
+            node = b .node;
+            term = b .term
+                ∙ ap some (sym (face-first f ∙ ap (λ (y : Option Face). faceTerm y f) e));
+          }
 
   firsts-at : (fs : List ℕ) → ((f : ℕ) → f ∈ fs → f ∈ functions p) → FirstsAt p xs fs (map (firstNode (patternTokens p) ns) fs)
   firsts-at [] h = tt
   firsts-at (f ∷ fs) h = (first-at f (h f (List·Memᴰ·head refl)), firsts-at fs (λ g m. h g (List·Memᴰ·tail m)))
 
   -- THE THEOREM: one node for each function, by ascending number, and at the node the function's face
-  pub first-faces-mean : (s : Occurring) → Surveyed (patternTokens p) s → (t : Firsts) → Listed (patternTokens p) ns (s .functions) t → FirstsAt p xs (functions p) (listed t)
+  pub first-faces-mean : (s : Occurring) → Surveyed (patternTokens p) s → (t : Firsts) → Listed (patternTokens p) ns (s .functions) t
+      → FirstsAt p xs (functions p) (listed t)
   unfolding firstsOf
   first-faces-mean s v t l =
       subst (FirstsAt p xs (functions p))

@@ -50,7 +50,8 @@ moved table table′ more i i′ t e n =
       held = n .held;
       stands = record {
         after = n .stands .after ++ more;
-        split = e ∙ ap (λ (l : List ℕ). l ++ more) (n .stands .split) ∙ append-assoc (tokens (n .scope) (one (n .named))) (n .stands .after) more;
+        split = e ∙ ap (λ (l : List ℕ). l ++ more) (n .stands .split)
+            ∙ append-assoc (tokens (n .scope) (one (n .named))) (n .stands .after) more;
       };
     }
 
@@ -68,12 +69,17 @@ at-node (suc levels) ctx sc (cons l c s) r m zero t e =
       context = ctx;
       term = q;
       held = record { readable = (r .0, r .1, tt); depths = m .depths; sizes = omega (arith, m .sizes) };
-      stands = record { after = tokens sc s; split = ap (λ (ts : List ℕ). tokenAt sc l c ∷ (ts ++ tokens sc s)) (sym (append-nil (tokens (enter l sc) c))) };
+      stands = record {
+        after = tokens sc s;
+        split = ap (λ (ts : List ℕ). tokenAt sc l c ∷ (ts ++ tokens sc s)) (sym (append-nil (tokens (enter l sc) c)));
+      };
     }
 at-node (suc levels) ctx sc (cons l c s) r m (suc n) t e =
     by-test (ltb n (size (nameless (enter l sc) c)))
-    (λ y. below y (at-node levels (contextBelow l ctx) (enter l sc) c (r .1) (room-below levels sc l c s m) n t (sym (choose-true _ _ y) ∙ e)))
-    (λ y. later y (at-node (suc levels) ctx sc s (r .2) (room-later levels sc l c s m) (n - size (nameless (enter l sc) c)) t (sym (choose-false _ _ y) ∙ e)))
+    (λ y. below y (at-node levels (contextBelow l ctx) (enter l sc) c (r .1) (room-below levels sc l c s m) n t
+    (sym (choose-true _ _ y) ∙ e)))
+    (λ y. later y (at-node (suc levels) ctx sc s (r .2) (room-later levels sc l c s m) (n - size (nameless (enter l sc) c)) t
+    (sym (choose-false _ _ y) ∙ e)))
   where
     tc : List ℕ
     tc = tokens (enter l sc) c
@@ -85,13 +91,16 @@ at-node (suc levels) ctx sc (cons l c s) r m (suc n) t e =
     long = relabel-size enter namelessLabel (enter l sc) c ∙ sym (tokens-length (enter l sc) c)
 
     below : ltb n (size (nameless (enter l sc) c)) ≡ true → AtNode tc n t → AtNode (tokenAt sc l c ∷ (tc ++ ts)) (suc n) t
-    below y k = moved tc (tokenAt sc l c ∷ (tc ++ ts)) ts n (suc n) t (drop-append-le n tc ts (omega (arith, long, ltb-true n (size (nameless (enter l sc) c)) y))) k
+    below y k = moved tc (tokenAt sc l c ∷ (tc ++ ts)) ts n (suc n) t
+        (drop-append-le n tc ts (omega (arith, long, ltb-true n (size (nameless (enter l sc) c)) y))) k
 
-    later : ltb n (size (nameless (enter l sc) c)) ≡ false → AtNode ts (n - size (nameless (enter l sc) c)) t → AtNode (tokenAt sc l c ∷ (tc ++ ts)) (suc n) t
+    later : ltb n (size (nameless (enter l sc) c)) ≡ false → AtNode ts (n - size (nameless (enter l sc) c)) t
+        → AtNode (tokenAt sc l c ∷ (tc ++ ts)) (suc n) t
     later y k =
         let j : ℕ = n - size (nameless (enter l sc) c) in
         let d : n ≡ length tc + j = omega (arith, long, ltb-false n (size (nameless (enter l sc) c)) y) in
-        moved ts (tokenAt sc l c ∷ (tc ++ ts)) [] j (suc n) t (ap (λ (x : ℕ). drop x (tc ++ ts)) d ∙ drop-append-add tc ts j ∙ sym (append-nil (drop j ts))) k
+        moved ts (tokenAt sc l c ∷ (tc ++ ts)) [] j (suc n) t
+        (ap (λ (x : ℕ). drop x (tc ++ ts)) d ∙ drop-append-add tc ts j ∙ sym (append-nil (drop j ts))) k
 
 -- What the token of a node says
 module _ (table : List ℕ) (i : ℕ) (t : Term) (n : AtNode table i t) where
@@ -101,7 +110,8 @@ module _ (table : List ℕ) (i : ℕ) (t : Term) (n : AtNode table i t) where
   pub node-size : sizeIn (at table i) ≡ size (one t)
   node-size =
       let u : NamedTerm = n .named in
-      let a : size (one u) ≡ size (one (namelessTerm (n .scope) u)) = omega (arith, relabel-size enter namelessLabel (enter (u .0) (n .scope)) (u .1)) in
+      let a : size (one u) ≡ size (one (namelessTerm (n .scope) u)) =
+      omega (arith, relabel-size enter namelessLabel (enter (u .0) (n .scope)) (u .1)) in
       stands-size (n .levels) (n .context) table i (n .scope) u (n .held) (n .stands) ∙ a ∙ sym (ap (λ (v : Term). size (one v)) (n .term))
 
   node-token : at table i ≡ tokenAt (n .scope) (n .named .0) (n .named .1)
@@ -140,7 +150,8 @@ module _ (table : List ℕ) (i : ℕ) (z : Slot) (cs : Terms) (n : AtNode table 
 pub node-applies : (table : List ℕ) (i : ℕ) (z : Slot) (cs : Terms) (f : ℕ) → AtNode table i (slot z, cs)
     → eqb (tagIn (at table i)) 6 && eqb f (payloadIn (at table i)) ≡ isApplication f z
 unfolding payloadOf
-node-applies table i z cs f n = ap₂ (λ (g m : ℕ). eqb g 6 && eqb f m) (node-tag table i z cs n) (node-payload table i z cs n) ∙ said (n .scope) z
+node-applies table i z cs f n =
+    ap₂ (λ (g m : ℕ). eqb g 6 && eqb f m) (node-tag table i z cs n) (node-payload table i z cs n) ∙ said (n .scope) z
   where
     said : (sc : List ℕ) (z : Slot) → eqb (tagOf (slot z)) 6 && eqb f (payloadOf sc (slot z)) ≡ isApplication f z
     said sc (metavariable m) = refl

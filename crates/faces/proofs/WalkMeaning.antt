@@ -42,24 +42,28 @@ same-trees [] = refl
 same-trees (c ∷ p) = ap suc (same-trees p)
 
 module _ (p : Problem) (w : WithinLimits p) where
-  table-walk : flatWalk (patternTokens p) (expressionTokens p) ≡ seenWalk seenSlots 0 0 (viewFrom [] 0 (patterns p)) (viewFrom [] 0 (expressions p))
+  table-walk : flatWalk (patternTokens p) (expressionTokens p)
+      ≡ seenWalk seenSlots 0 0 (viewFrom [] 0 (patterns p)) (viewFrom [] 0 (expressions p))
   unfolding patternTokens expressionTokens
   table-walk =
       ap (flatWalk (patternTokens p)) (sym (append-nil (expressionTokens p)))
-      ∙ flat-trees atSlots seenSlots [] [] (tells-slots []) 0 0 maxDepth maxDepth inPattern inExpression (namedPatterns p) (namedExpressions p) []
+      ∙ flat-trees atSlots seenSlots [] [] (tells-slots []) 0 0 maxDepth maxDepth inPattern inExpression (namedPatterns p)
+      (namedExpressions p) []
       (patterns-readable p w) (expressions-readable p w) (patterns-room p w) (expressions-room p w) (same-trees p)
 
   pattern-deep : Deep (λ i. depthIn (at (patternTokens p) i)) 0 0 (patterns p)
   unfolding patternTokens
   pattern-deep =
-      tokens-deep (patternTokens p) 0 maxDepth inPattern [] (namedPatterns p) [] (sym (append-nil (patternTokens p))) (patterns-readable p w) (patterns-room p w)
+      tokens-deep (patternTokens p) 0 maxDepth inPattern [] (namedPatterns p) [] (sym (append-nil (patternTokens p)))
+      (patterns-readable p w) (patterns-room p w)
 
   -- THE THEOREM: the walk on the tables fails just where a shape disagrees, and else records the faces in order
   pub walk-means : Means p (flatWalk (patternTokens p) (expressionTokens p)) (faces p)
   walk-means =
       let at0 : (u : Terms) → Looks (λ i. nodeAt i u) 0 u = λ u m h. ap (λ (i : ℕ). nodeAt i u) (zero-add m) in
       subst (λ (o : Option (List ℕ)). Means p o (faces p)) (sym table-walk)
-      (seen-both (λ i. nodeAt i (patterns p)) (λ j. nodeAt j (expressions p)) (λ i. depthIn (at (patternTokens p) i)) [] 0 0 0 0 (patterns p) (expressions p)
+      (seen-both (λ i. nodeAt i (patterns p)) (λ j. nodeAt j (expressions p)) (λ i. depthIn (at (patternTokens p) i)) [] 0 0 0 0
+      (patterns p) (expressions p)
       (readable-pattern maxDepth [] (namedPatterns p) (patterns-readable p w))
       (nameless-closed [] (namedPatterns p)) (nameless-closed [] (namedExpressions p)) (at0 (patterns p)) (at0 (expressions p))
       pattern-deep
@@ -68,7 +72,8 @@ module _ (p : Problem) (w : WithinLimits p) where
   pub walk-none : (flatWalk (patternTokens p) (expressionTokens p) ≡ none) ↔ (faces p ≡ none)
   walk-none = both-none (Recorded p) (flatWalk (patternTokens p) (expressionTokens p)) (faces p) walk-means
 
-  pub walk-some : (xs : List Face) → faces p ≡ some xs → (ns : List ℕ) × (flatWalk (patternTokens p) (expressionTokens p) ≡ some ns) × Recorded p ns xs
+  pub walk-some : (xs : List Face) → faces p ≡ some xs
+      → (ns : List ℕ) × (flatWalk (patternTokens p) (expressionTokens p) ≡ some ns) × Recorded p ns xs
   walk-some xs q =
       both-some (Recorded p) (flatWalk (patternTokens p) (expressionTokens p)) xs
       (subst (λ (o : Option (List Face)). Means p (flatWalk (patternTokens p) (expressionTokens p)) o) q walk-means)

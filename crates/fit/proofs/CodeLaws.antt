@@ -71,7 +71,8 @@ module _ (es nodes row : List ℕ) (end k : ℕ) (fits : end ≤ length nodes) (
 -- The span, from the parts of the tokens
 pub span-is : (ps es : List ℕ) (n mask low long deep across : ℕ) → low ≡ lowestMarked mask → long ≡ sizeIn (at ps (patternNode n))
     → deep ≡ depthIn (at ps (patternNode n)) → across ≡ depthIn (at es (expressionNode n + low))
-    → record { from = patternNode n + 1; to = patternNode n + long; at = expressionNode n + low; d = deep; e = across } ≡ argumentSpan ps es n mask
+    → record { from = patternNode n + 1; to = patternNode n + long; at = expressionNode n + low; d = deep; e = across }
+    ≡ argumentSpan ps es n mask
 unfolding argumentSpan
 span-is ps es n mask low long deep across l s d e = rw (e, d, s, l) refl
 

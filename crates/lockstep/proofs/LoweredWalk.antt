@@ -70,7 +70,8 @@ module _ (n d : ℕ) where
   shift-within : (k : ℕ) (u : Terms) → Closed (k + (n + d)) (shift n k u) → Closed (k + d) u
   shift-within k nil h = tt
   shift-within k (cons l c s) h =
-      let e : inner (shiftLabel n k l) (k + (n + d)) ≡ inner l k + (n + d) = inner-with (raise n k) (k + (n + d)) l ∙ inner-plus (n + d) k l in
+      let e : inner (shiftLabel n k l) (k + (n + d)) ≡ inner l k + (n + d) =
+      inner-with (raise n k) (k + (n + d)) l ∙ inner-plus (n + d) k l in
       let below : Closed (inner l k + d) c = shift-within (inner l k) c (subst (λ (m : ℕ). Closed m (shift n (inner l k) c)) e (h .1)) in
       (label-within k l (h .0), subst (λ (m : ℕ). Closed m c) (sym (inner-plus d k l)) below, shift-within k s (h .2))
 
@@ -83,8 +84,10 @@ lowered-within n d t a e h =
 -- THE THEOREM: the argument's tokens against those of what the hole holds. k is the number of binders that the walk counts from
 module _ (root root′ : List ℕ) (n : ℕ) (deeper : length root′ ≡ n + length root) (c : Forest Named) (v : NamedTerm) (u : Term)
     (lowers : lowerTerm n (namelessTerm root′ v) ≡ some u) where
-  pub lowered-walk : (levels levels′ : ℕ) (ctx : Context) → Readable levels inArgument c → Room levels root c → trees c ≡ 1 → Held levels′ ctx root′ v
-      → (p e : ℕ → Option Term) (d : ℕ → ℕ) (k i j : ℕ) (es : List ℕ) → Looks p i (nameless root c) → Looks e j (one u) → Deep d i k (nameless root c)
+  pub lowered-walk : (levels levels′ : ℕ) (ctx : Context) → Readable levels inArgument c → Room levels root c → trees c ≡ 1
+      → Held levels′ ctx root′ v
+      → (p e : ℕ → Option Term) (d : ℕ → ℕ) (k i j : ℕ) (es : List ℕ) → Looks p i (nameless root c) → Looks e j (one u)
+      → Deep d i k (nameless root c)
       → i + size (nameless root c) ≤ 65536
       → Both (RecordedBy p e d) (lockstep atSlots (length root) (length root′) 0 i j (tokens root c) (tokens root′ (one v) ++ es))
       (walk k j (nameless root c) (one u))
@@ -101,5 +104,7 @@ module _ (root root′ : List ℕ) (n : ℕ) (deeper : length root′ ≡ n + le
       same : lockstep atSlots (length root) (length root′) 0 i j (tokens root c) (tokens root′ (one v) ++ es)
           ≡ seenWalk seenSlots i j (viewFrom root 0 (nameless root c)) (viewFrom root 0 (one u))
       same =
-          flat-trees atSlots seenSlots root root′ (tells-slots root) i j levels levels′ inArgument ctx c (one v) es r (held .readable) m room single
-          ∙ ap (seenWalk seenSlots i j (viewFrom root 0 (nameless root c))) (lowered-seen root root′ n deeper (namelessTerm root′ v) u lowers)
+          flat-trees atSlots seenSlots root root′ (tells-slots root) i j levels levels′ inArgument ctx c (one v) es r
+          (held .readable) m room single
+          ∙ ap (seenWalk seenSlots i j (viewFrom root 0 (nameless root c)))
+          (lowered-seen root root′ n deeper (namelessTerm root′ v) u lowers)

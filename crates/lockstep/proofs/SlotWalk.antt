@@ -84,12 +84,15 @@ slot-code (hole i) = omega arith
 
 -- "Kinds, symbol and binder numbers and child counts must agree": codes are the same just when the labels agree
 module _ (root : List ℕ) (k : ℕ) (o : Own Variable (Unit {0})) (closed : closedLabel (k + length root) (own o)) where
-  code-agrees : (l : Nameless) → closedLabel (k + length root) l → eqb (code (seenLabel root k (own o))) (code (seenLabel root k l)) ≡ agrees o l
+  code-agrees : (l : Nameless) → closedLabel (k + length root) l
+      → eqb (code (seenLabel root k (own o))) (code (seenLabel root k l)) ≡ agrees o l
   code-agrees (slot z) h = ne-eqb (code (seenLabel root k (own o))) (code (slot z)) (λ e. omega (arith, own-code root k o, slot-code z))
   code-agrees (own q) h =
       by-test (sameOwn sameVariable o q)
-      (λ t. eq-eqb _ _ (ap (λ (x : Own Variable (Unit {0})). code (seenLabel root k (own x))) (own-eq sameVariable variable-eq o q (true-T t))) ∙ sym t)
-      (λ f. ne-eqb _ _ (λ e. false≢true (sym f ∙ ap (sameOwn sameVariable o) (sym (same e)) ∙ T-true (own-refl sameVariable variable-refl o))) ∙ sym f)
+      (λ t. eq-eqb _ _ (ap (λ (x : Own Variable (Unit {0})). code (seenLabel root k (own x)))
+      (own-eq sameVariable variable-eq o q (true-T t))) ∙ sym t)
+      (λ f. ne-eqb _ _ (λ e. false≢true
+      (sym f ∙ ap (sameOwn sameVariable o) (sym (same e)) ∙ T-true (own-refl sameVariable variable-refl o))) ∙ sym f)
     where
       same : code (seenLabel root k (own o)) ≡ code (seenLabel root k (own q)) → o ≡ q
       same e =
@@ -119,7 +122,8 @@ module _ (look : ℕ → Option Term) (i : ℕ) (l : Nameless) (c s : Terms) (h 
   look-later m g =
       let e : suc i + size c + m ≡ i + suc (size c + m) = omega arith in
       let d : size c + m - size c ≡ m = omega arith in
-      ap look e ∙ h (suc (size c + m)) (omega arith) ∙ choose-false _ _ (le-ltb (size c + m) (size c) (omega arith)) ∙ ap (λ (k : ℕ). nodeAt k s) d
+      ap look e ∙ h (suc (size c + m)) (omega arith) ∙ choose-false _ _ (le-ltb (size c + m) (size c) (omega arith))
+      ∙ ap (λ (k : ℕ). nodeAt k s) d
 
 -- There are d i binders above node i, the first of a forest that has k around it, and so for the nodes after it
 abbrev pub Deep : (ℕ → ℕ) → ℕ → ℕ → Terms → Type 0
@@ -137,20 +141,23 @@ pub both-some : {A B : Type 0} (R : A → B → Type 0) (a : Option A) (b : B) �
 both-some R none b r = absurd r
 both-some R (some a) b r = (a, refl, r)
 
-guard-both : {A B : Type 0} (R : A → B → Type 0) (s t : Bool) (a : Option A) (b : Option B) → s ≡ t → (t ≡ true → Both R a b) → Both R (guard s a) (guard t b)
+guard-both : {A B : Type 0} (R : A → B → Type 0) (s t : Bool) (a : Option A) (b : Option B) → s ≡ t → (t ≡ true → Both R a b)
+    → Both R (guard s a) (guard t b)
 guard-both R true true a b e h = h refl
 guard-both R true false a b e h = absurd (false≢true (sym e))
 guard-both R false true a b e h = absurd (false≢true e)
 guard-both R false false a b e h = tt
 
 module _ (p e : ℕ → Option Term) (d : ℕ → ℕ) where
-  append-recorded : (ns ns′ : List ℕ) (xs xs′ : List Face) → RecordedBy p e d ns xs → RecordedBy p e d ns′ xs′ → RecordedBy p e d (ns ++ ns′) (xs ++ xs′)
+  append-recorded : (ns ns′ : List ℕ) (xs xs′ : List Face) → RecordedBy p e d ns xs → RecordedBy p e d ns′ xs′
+      → RecordedBy p e d (ns ++ ns′) (xs ++ xs′)
   append-recorded [] ns′ [] xs′ r r′ = r′
   append-recorded [] ns′ (x ∷ xs) xs′ r r′ = absurd r
   append-recorded (n ∷ ns) ns′ [] xs′ r r′ = absurd r
   append-recorded (n ∷ ns) ns′ (x ∷ xs) xs′ r r′ = (r .0, append-recorded ns ns′ xs xs′ (r .1) r′)
 
-  join-both : (a b : Option (List ℕ)) (x y : Option (List Face)) → Both (RecordedBy p e d) a x → Both (RecordedBy p e d) b y → Both (RecordedBy p e d) (join a b) (join x y)
+  join-both : (a b : Option (List ℕ)) (x y : Option (List Face)) → Both (RecordedBy p e d) a x → Both (RecordedBy p e d) b y
+      → Both (RecordedBy p e d) (join a b) (join x y)
   join-both none b none y r r′ = tt
   join-both none b (some x) y r r′ = absurd r
   join-both (some a) b none y r r′ = absurd r
@@ -168,8 +175,10 @@ module _ (p e : ℕ → Option Term) (d : ℕ → ℕ) where
         (record { slots = ap p q ∙ lp; under = ap d q ∙ dp; node = r; term = le }, tt)
 
     -- One node of each forest; a and x are the walks of the children, which are alike where the labels are the same
-    meet-both : (n k i j : ℕ) (l l′ : Nameless) (c c′ : Terms) → patternLabel l c → closedLabel (k + length root) l → closedLabel (k + length root) l′
-        → i < 65536 → d i ≡ n → p i ≡ some (l, c) → e j ≡ some (l′, c′) → (a : Option (List ℕ)) (x : Option (List Face)) → (l ≡ l′ → Both (RecordedBy p e d) a x)
+    meet-both : (n k i j : ℕ) (l l′ : Nameless) (c c′ : Terms) → patternLabel l c → closedLabel (k + length root) l
+        → closedLabel (k + length root) l′
+        → i < 65536 → d i ≡ n → p i ≡ some (l, c) → e j ≡ some (l′, c′) → (a : Option (List ℕ)) (x : Option (List Face))
+        → (l ≡ l′ → Both (RecordedBy p e d) a x)
         → Both (RecordedBy p e d) (seenMeet seenSlots i j (seenLabel root k l) (seenLabel root k l′) a) (meet n j l c (l′, c′) x)
     meet-both n k i j (own o) l′ c c′ q h h′ few dp lp le a x ih =
         subst (λ (w : Option (List ℕ)). Both (RecordedBy p e d) w (guard (agrees o l′) x)) (sym (choose-false _ _ (own-goes root k o)))
@@ -180,8 +189,10 @@ module _ (p e : ℕ → Option Term) (d : ℕ → ℕ) where
     meet-both n k i j (slot (hole b)) l′ c c′ q h h′ few dp lp le a x ih = absurd q
 
     -- THE THEOREM
-    pub seen-both : (n k i j : ℕ) (u v : Terms) → IsPattern u → Closed (k + length root) u → Closed (k + length root) v → Looks p i u → Looks e j v
-        → Deep d i n u → i + size u ≤ 65536 → Both (RecordedBy p e d) (seenWalk seenSlots i j (viewFrom root k u) (viewFrom root k v)) (walk n j u v)
+    pub seen-both : (n k i j : ℕ) (u v : Terms) → IsPattern u → Closed (k + length root) u → Closed (k + length root) v → Looks p i u
+        → Looks e j v
+        → Deep d i n u → i + size u ≤ 65536
+        → Both (RecordedBy p e d) (seenWalk seenSlots i j (viewFrom root k u) (viewFrom root k v)) (walk n j u v)
     seen-both n k i j nil nil q h h′ lp le dp few = tt
     seen-both n k i j nil (cons l c s) q h h′ lp le dp few = tt
     seen-both n k i j (cons l c s) nil q h h′ lp le dp few = tt
@@ -203,15 +214,19 @@ module _ (p e : ℕ → Option Term) (d : ℕ → ℕ) where
         below = seenWalk seenSlots (suc i) (suc j) (viewFrom root (inner l k) c) (viewFrom root (inner l′ k) c′)
 
         children : l ≡ l′
-            → Both (RecordedBy p e d) (seenWalk seenSlots (suc i) (suc j) (viewFrom root (inner l k) c) (viewFrom root (inner l k) c′)) (walk (inner l n) (suc j) c c′)
+            → Both (RecordedBy p e d) (seenWalk seenSlots (suc i) (suc j) (viewFrom root (inner l k) c) (viewFrom root (inner l k) c′))
+            (walk (inner l n) (suc j) c c′)
             → Both (RecordedBy p e d) below (walk (inner l n) (suc j) c c′)
         children z r =
             subst (λ (m : Nameless). Both (RecordedBy p e d)
-            (seenWalk seenSlots (suc i) (suc j) (viewFrom root (inner l k) c) (viewFrom root (inner m k) c′)) (walk (inner l n) (suc j) c c′)) z r
+            (seenWalk seenSlots (suc i) (suc j) (viewFrom root (inner l k) c) (viewFrom root (inner m k) c′))
+            (walk (inner l n) (suc j) c c′)) z r
 
-        later : Both (RecordedBy p e d) (seenWalk seenSlots (suc i + size c) (suc j + size c′) (viewFrom root k s) (viewFrom root k s′)) (walk n (suc j + size c′) s s′)
+        later : Both (RecordedBy p e d) (seenWalk seenSlots (suc i + size c) (suc j + size c′) (viewFrom root k s) (viewFrom root k s′))
+            (walk n (suc j + size c′) s s′)
             → Both (RecordedBy p e d)
-            (seenWalk seenSlots (suc i + size (viewFrom root (inner l k) c)) (suc j + size (viewFrom root (inner l′ k) c′)) (viewFrom root k s) (viewFrom root k s′))
+            (seenWalk seenSlots (suc i + size (viewFrom root (inner l k) c)) (suc j + size (viewFrom root (inner l′ k) c′))
+            (viewFrom root k s) (viewFrom root k s′))
             (walk n (suc j + size c′) s s′)
         later r =
             subst (λ (w : Option (List ℕ)). Both (RecordedBy p e d) w (walk n (suc j + size c′) s s′))

@@ -62,11 +62,13 @@ module _ (ps es : List ℕ) (s : Span) (inside : s .to ≤ length ps) where
           ∙ lockstep-out atSlots (s .d) (s .e) i j (at ps i) (drop (suc i) (take (s .to) ps))
 
       module _ (hj : j < length es) where
-        opened : left ps es s i j ≡ lockstep atSlots (s .d) (s .e) 0 i j (at ps i ∷ drop (suc i) (take (s .to) ps)) (at es j ∷ drop (suc j) es)
+        opened : left ps es s i j ≡ lockstep atSlots (s .d) (s .e) 0 i j (at ps i ∷ drop (suc i) (take (s .to) ps))
+            (at es j ∷ drop (suc j) es)
         unfolding left
         opened = ap₂ (lockstep atSlots (s .d) (s .e) 0 i j) front (drop-cons es j 0 hj)
 
-        pub left-differs : isSlot (at ps i) ≡ false → eqb (keyOf (s .d) (at ps i)) (keyOf (s .e) (at es j)) ≡ false → left ps es s i j ≡ none
+        pub left-differs : isSlot (at ps i) ≡ false → eqb (keyOf (s .d) (at ps i)) (keyOf (s .e) (at es j)) ≡ false
+            → left ps es s i j ≡ none
         left-differs f n =
             opened ∙ lockstep-differs atSlots (s .d) (s .e) i j (at ps i) (at es j) (drop (suc i) (take (s .to) ps)) (drop (suc j) es) f n
 
@@ -107,7 +109,8 @@ module _ (ps es old : List ℕ) (s : Span) (l : Lent ps es old s) where
   unfolding left
   walking-start =
       record {
-        whole = ap (λ (qs : List ℕ). lockstep atSlots (s .d) (s .e) 0 (s .from) (s .at) qs (drop (s .at) es)) (sym (drop-take (s .from) (s .to) ps))
+        whole = ap (λ (qs : List ℕ). lockstep atSlots (s .d) (s .e) 0 (s .from) (s .at) qs (drop (s .at) es))
+            (sym (drop-take (s .from) (s .to) ps))
             ∙ sym (join-nothing (left ps es s (s .from) (s .at)));
         kept = refl;
         long = refl;
@@ -133,10 +136,12 @@ module _ (ps es old : List ℕ) (s : Span) (l : Lent ps es old s) where
       where
         made : (xs : List ℕ) → xs ≡ take n out → length (take n out) ≡ n → out ≡ xs ++ drop (length xs) old
         made xs e m =
-            sym (take-append-drop n out) ∙ ap₂ (λ (u v : List ℕ). u ++ v) (sym e) (w .kept ∙ ap (λ (k : ℕ). drop k old) (sym m ∙ ap length (sym e)))
+            sym (take-append-drop n out)
+            ∙ ap₂ (λ (u v : List ℕ). u ++ v) (sym e) (w .kept ∙ ap (λ (k : ℕ). drop k old) (sym m ∙ ap length (sym e)))
 
     module _ (hi : i < s .to) (hj : j < length es) where
-      pub walking-same : isSlot (at ps i) ≡ false → eqb (keyOf (s .d) (at ps i)) (keyOf (s .e) (at es j)) ≡ true → Walking ps es old out s (i + 1) (j + 1) n
+      pub walking-same : isSlot (at ps i) ≡ false → eqb (keyOf (s .d) (at ps i)) (keyOf (s .e) (at es j)) ≡ true
+          → Walking ps es old out s (i + 1) (j + 1) n
       walking-same f e =
           record {
             whole = w .whole ∙ ap (join (some (take n out))) (left-same ps es s (l .inside) i j hi hj f e);
@@ -149,7 +154,8 @@ module _ (ps es old : List ℕ) (s : Span) (l : Lent ps es old s) where
       room-left : n < length out
       room-left = omega (arith, l .room, w .long, w .behind)
 
-      pub walking-face : isSlot (at ps i) ≡ true → Walking ps es old (set out n (faceCode i j)) s (i + sizeIn (at ps i)) (j + sizeIn (at es j)) (n + 1)
+      pub walking-face : isSlot (at ps i) ≡ true
+          → Walking ps es old (set out n (faceCode i j)) s (i + sizeIn (at ps i)) (j + sizeIn (at es j)) (n + 1)
       walking-face f =
           let v : ℕ = faceCode i j in
           let some-nodes : 1 ≤ sizeIn (at ps i) = l .patterns .counted i (omega (arith, l .inside)) in

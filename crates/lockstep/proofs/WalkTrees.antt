@@ -1,5 +1,6 @@
 -- The walk of the tokens of two forests is the walk of their views.
---   root       the scope around a forest, whose length is the depth from which its keys are seen; k binders of the forest's own are above it
+--   root       the scope around a forest, whose length is the depth from which its keys are seen; k binders of the forest's own are above
+-- it
 --   seenWalk   two views walked together, the first node of the left having the number i, that of the right the number j. It stops by
 --              a node's number and label; two nodes agree when they have the same code. Where it stops, it records the face
 --   Tells      a stop by tokens and one by labels are the same
@@ -75,7 +76,8 @@ module _ (stop : Stop) (seen : SeenStop) (root root′ : List ℕ) (tells : Tell
     below′ = tokens (enter l′ sc′) c′ ++ es
 
     -- The walk stops: both subterms are passed
-    node-face : stop i x ≡ true → flat i j (x ∷ below) (y ∷ below′) ≡ join (some (faceCode i j ∷ [])) (flat (suc i + size c) (suc j + size c′) ps es)
+    node-face : stop i x ≡ true
+        → flat i j (x ∷ below) (y ∷ below′) ≡ join (some (faceCode i j ∷ [])) (flat (suc i + size c) (suc j + size c′) ps es)
     unfolding x y below below′
     node-face f =
         let n : suc (size c) - 1 ≡ size c = omega arith in
@@ -84,7 +86,8 @@ module _ (stop : Stop) (seen : SeenStop) (root root′ : List ℕ) (tells : Tell
         ∙ ap (join (some (faceCode i j ∷ [])))
         (ap₂ (λ (a b : ℕ). lockstep stop (length root) (length root′) (a - 1) (suc i) (j + b) below (drop b (y ∷ below′)))
         (size-at sc l c room small) (size-at sc′ l′ c′ room′ small′)
-        ∙ lockstep-skip stop (length root) (length root′) (suc (size c) - 1) (suc i) (j + suc (size c′)) below (drop (suc (size c′)) (y ∷ below′))
+        ∙ lockstep-skip stop (length root) (length root′) (suc (size c) - 1) (suc i) (j + suc (size c′)) below
+        (drop (suc (size c′)) (y ∷ below′))
         ∙ ap₂ (λ (a b : ℕ). flat (suc i + a) b (drop a below) (drop (suc (size c′)) (y ∷ below′))) n m
         ∙ ap₂ (flat (suc i + size c) (suc j + size c′))
         (drop-at (tokens (enter l sc) c) ps (size c) (tokens-length (enter l sc) c))
@@ -117,7 +120,8 @@ module _ (stop : Stop) (seen : SeenStop) (root root′ : List ℕ) (tells : Tell
       told = tells i k sc l c room small
 
       -- One node of each forest; w is the walk of the children
-      node : (w : Option (List ℕ)) → (trees c ≡ trees c′ → flat (suc i) (suc j) below below′ ≡ join w (flat (suc i + size c) (suc j + size c′) ps es))
+      node : (w : Option (List ℕ))
+          → (trees c ≡ trees c′ → flat (suc i) (suc j) below below′ ≡ join w (flat (suc i + size c) (suc j + size c′) ps es))
           → flat i j (x ∷ below) (y ∷ below′) ≡ join (seenMeet seen i j o o′ w) (flat (suc i + size c) (suc j + size c′) ps es)
       node w ih = by-test (seen i o) stops goes
         where
@@ -146,10 +150,12 @@ module _ (stop : Stop) (seen : SeenStop) (root root′ : List ℕ) (tells : Tell
         (walked (suc i) (suc j) (inner (namelessLabel sc l) k) (inner (namelessLabel sc′ l′) k′) (enter l sc) (enter l′ sc′) c c′)
 
     then-later :
-        flat i j (tokenAt sc l c ∷ (tokens (enter l sc) c ++ (tokens sc s ++ ps))) (tokenAt sc′ l′ c′ ∷ (tokens (enter l′ sc′) c′ ++ (tokens sc′ s′ ++ es)))
+        flat i j (tokenAt sc l c ∷ (tokens (enter l sc) c ++ (tokens sc s ++ ps)))
+        (tokenAt sc′ l′ c′ ∷ (tokens (enter l′ sc′) c′ ++ (tokens sc′ s′ ++ es)))
         ≡ join here (flat (suc i + size c) (suc j + size c′) (tokens sc s ++ ps) (tokens sc′ s′ ++ es))
         → flat (suc i + size c) (suc j + size c′) (tokens sc s ++ ps) (tokens sc′ s′ ++ es)
-        ≡ join (walked (suc i + size c) (suc j + size c′) k k′ sc sc′ s s′) (flat (suc i + size c + size s) (suc j + size c′ + size s′) ps es)
+        ≡ join (walked (suc i + size c) (suc j + size c′) k k′ sc sc′ s s′)
+        (flat (suc i + size c + size s) (suc j + size c′ + size s′) ps es)
         → flat i j (tokens sc (cons l c s) ++ ps) (tokens sc′ (cons l′ c′ s′) ++ es)
         ≡ join (walked i j k k′ sc sc′ (cons l c s) (cons l′ c′ s′)) (flat (i + size (cons l c s)) (j + size (cons l′ c′ s′)) ps es)
     unfolding tokens here
@@ -191,14 +197,17 @@ module _ (stop : Stop) (seen : SeenStop) (root root′ : List ℕ) (tells : Tell
       (room-depth levels sc l c s m) (room-size levels sc l c s m) (room-depth levels′ sc′ l′ c′ s′ m′) (room-size levels′ sc′ l′ c′ s′ m′)
       deep deep′ ctx ctx′ (r .0) (r′ .0)
       (walked (suc i) (suc j) (inner (namelessLabel sc l) k) (inner (namelessLabel sc′ l′) k′) (enter l sc) (enter l′ sc′) c c′)
-      (λ q. flat-from (suc i) (suc j) (inner (namelessLabel sc l) k) (inner (namelessLabel sc′ l′) k′) levels levels′ (contextBelow l ctx) (contextBelow l′ ctx′)
-      (enter l sc) (enter l′ sc′) c c′ (tokens sc s ++ ps) (tokens sc′ s′ ++ es) (enter-deep k (length root) sc l deep) (enter-deep k′ (length root′) sc′ l′ deep′)
+      (λ q. flat-from (suc i) (suc j) (inner (namelessLabel sc l) k) (inner (namelessLabel sc′ l′) k′) levels levels′ (contextBelow l ctx)
+      (contextBelow l′ ctx′)
+      (enter l sc) (enter l′ sc′) c c′ (tokens sc s ++ ps) (tokens sc′ s′ ++ es) (enter-deep k (length root) sc l deep)
+      (enter-deep k′ (length root′) sc′ l′ deep′)
       (r .1) (r′ .1) (room-below levels sc l c s m) (room-below levels′ sc′ l′ c′ s′ m′) q))
       (flat-from (suc i + size c) (suc j + size c′) k k′ (suc levels) (suc levels′) ctx ctx′ sc sc′ s s′ ps es deep deep′
       (r .2) (r′ .2) (room-later levels sc l c s m) (room-later levels′ sc′ l′ c′ s′ m′) (omega arith))
 
   -- The left forest alone, each forest seen from its own scope
-  pub flat-trees : (i j levels levels′ : ℕ) (ctx ctx′ : Context) (u v : Forest Named) (es : List ℕ) → Readable levels ctx u → Readable levels′ ctx′ v
+  pub flat-trees : (i j levels levels′ : ℕ) (ctx ctx′ : Context) (u v : Forest Named) (es : List ℕ) → Readable levels ctx u
+      → Readable levels′ ctx′ v
       → Room levels root u → Room levels′ root′ v → trees u ≡ trees v
       → lockstep stop (length root) (length root′) 0 i j (tokens root u) (tokens root′ v ++ es)
       ≡ seenWalk seen i j (viewFrom root 0 (nameless root u)) (viewFrom root′ 0 (nameless root′ v))

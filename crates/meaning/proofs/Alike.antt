@@ -124,7 +124,8 @@ alike-eq same h (cons l c s) (cons l′ c′ s′) t =
 pub alike-refl : {L : Type 0} (same : L → L → Bool) → Fair same → Fair (alike same)
 alike-refl same h nil = tt
 alike-refl same h (cons l c s) =
-    T-and (same l l) (alike same c c && alike same s s) (h l) (T-and (alike same c c) (alike same s s) (alike-refl same h c) (alike-refl same h s))
+    T-and (same l l) (alike same c c && alike same s s) (h l)
+    (T-and (alike same c c) (alike same s s) (alike-refl same h c) (alike-refl same h s))
 
 -- A test that is sound and fair decides equality
 pub decides : {A : Type 0} (same : A → A → Bool) → Sound same → Fair same → (x y : A) → (same x y ≡ true) ↔ (x ≡ y)

@@ -72,7 +72,8 @@ module _ (bs : List ℕ) (n : ℕ) (l : Nameless) (c s : Terms) (ms : Marks) whe
       let none-below : setSize (take (size (view (ownerOf bs) (one (l, c))) - 1) ms) ≡ 0 =
       ap (λ (k : ℕ). setSize (take k ms)) nodes-below ∙ ap setSize b ∙ size-blank (size c) in
       T-and (eqb (setSize (take (size (view (ownerOf bs) (one (l, c))) - 1) ms)) 0) (areApart ms (inChildren ++ inLater))
-      (true-T (ap (λ (k : ℕ). eqb k 0) none-below)) (node-apart (blank-apart ms inChildren (rw (length-views (below n l bs) (suc n) c) b)) y)
+      (true-T (ap (λ (k : ℕ). eqb k 0) none-below))
+      (node-apart (blank-apart ms inChildren (rw (length-views (below n l bs) (suc n) c) b)) y)
 
   apart-marked : size c ≤ length ms
       → T (eqb (setSize (take (size (view (ownerOf bs) (one (l, c))) - 1) ms)) 0 && areApart ms (inChildren ++ inLater))
@@ -87,14 +88,17 @@ clear-test bs n ms nil g = blank-apart ms [] refl
 clear-test bs n [] (cons l c s) g = tt
 clear-test bs n (none ∷ ms) (cons l c s) g =
     node-apart bs n l c s ms (clear-test (below n l bs) (suc n) ms c (g .0)) (clear-test bs (suc n + size c) (drop (size c) ms) s (g .1))
-clear-test bs n (some i ∷ ms) (cons l c s) g = marked-apart bs n l c s ms (g .0) (clear-test bs (suc n + size c) (drop (size c) ms) s (g .1))
+clear-test bs n (some i ∷ ms) (cons l c s) g =
+    marked-apart bs n l c s ms (g .0) (clear-test bs (suc n + size c) (drop (size c) ms) s (g .1))
 
 test-clear : (bs : List ℕ) (n : ℕ) (ms : Marks) (w : Terms) → size w ≤ length ms → T (areApart ms (viewsFrom bs n w)) → Clear ms w
 test-clear bs n ms nil h t = tt
 test-clear bs n [] (cons l c s) h t = absurd (omega arith)
 test-clear bs n (none ∷ ms) (cons l c s) h t =
-    let r = children-later bs n l c s ms t in
-    (test-clear (below n l bs) (suc n) ms c (omega arith) (r .0), test-clear bs (suc n + size c) (drop (size c) ms) s (rw length-drop (omega arith)) (r .1))
+    let r = children-later bs n l c s ms t in (
+      test-clear (below n l bs) (suc n) ms c (omega arith) (r .0),
+      test-clear bs (suc n + size c) (drop (size c) ms) s (rw length-drop (omega arith)) (r .1),
+    )
 test-clear bs n (some i ∷ ms) (cons l c s) h t =
     let r = apart-marked bs n l c s ms (omega arith) t in
     (r .0, test-clear bs (suc n + size c) (drop (size c) ms) s (rw length-drop (omega arith)) (r .1))
@@ -112,21 +116,25 @@ choice-clear n face ms c =
 view-within : (bs : List ℕ) (n : ℕ) (w : Terms) (k : ℕ) (u : View Owner) → getElem? (viewsFrom bs n w) k ≡ some u → k + size u ≤ size w
 view-within bs n nil k u e = never (cc)
 view-within bs n (cons l c s) zero u e =
-    let sizes : size u ≡ size (one (l, c)) = ap (λ (v : View Owner). size v) (let q : u ≡ view (ownerOf bs) (one (l, c)) = cc in q) ∙ size-view bs (l, c) in
+    let sizes : size u ≡ size (one (l, c)) =
+    ap (λ (v : View Owner). size v) (let q : u ≡ view (ownerOf bs) (one (l, c)) = cc in q) ∙ size-view bs (l, c) in
     omega arith
 view-within bs n (cons l c s) (suc k) u e =
     ⊎-elim
     (λ x. let r = view-within (below n l bs) (suc n) c k u (x .1) in omega arith)
-    (λ x. let r = view-within bs (suc n + size c) s (x .0) u (x .2) in let m = length-views (below n l bs) (suc n) c in let y = x .1 in omega arith)
+    (λ x. let r = view-within bs (suc n + size c) s (x .0) u (x .2) in let m = length-views (below n l bs) (suc n) c in let y = x .1 in
+    omega arith)
     (at-append (viewsFrom (below n l bs) (suc n) c) (viewsFrom bs (suc n + size c) s) k u e)
 
 -- Of two subexpressions the later comes after the earlier one, or is a part of it
-view-nested : (bs : List ℕ) (n : ℕ) (w : Terms) (j k : ℕ) (u v : View Owner) → getElem? (viewsFrom bs n w) j ≡ some u → getElem? (viewsFrom bs n w) k ≡ some v
+view-nested : (bs : List ℕ) (n : ℕ) (w : Terms) (j k : ℕ) (u v : View Owner) → getElem? (viewsFrom bs n w) j ≡ some u
+    → getElem? (viewsFrom bs n w) k ≡ some v
     → j < k → (j + size u ≤ k) ⊎ (k + size v ≤ j + size u)
 view-nested bs n nil j k u v d e h = never (cc)
 view-nested bs n (cons l c s) j zero u v d e h = absurd (omega arith)
 view-nested bs n (cons l c s) zero (suc k) u v d e h =
-    let sizes : size u ≡ size (one (l, c)) = ap (λ (x : View Owner). size x) (let q : u ≡ view (ownerOf bs) (one (l, c)) = cc in q) ∙ size-view bs (l, c) in
+    let sizes : size u ≡ size (one (l, c)) =
+    ap (λ (x : View Owner). size x) (let q : u ≡ view (ownerOf bs) (one (l, c)) = cc in q) ∙ size-view bs (l, c) in
     let m = length-views (below n l bs) (suc n) c in
     ⊎-elim
     (λ x. let r = view-within (below n l bs) (suc n) c k v (x .1) in inr (omega arith))
@@ -136,15 +144,18 @@ view-nested bs n (cons l c s) (suc j) (suc k) u v d e h =
     let m = length-views (below n l bs) (suc n) c in
     ⊎-elim
     (λ x. ⊎-elim
-    (λ y. ⊎-elim (λ r. inl (omega arith)) (λ r. inr (omega arith)) (view-nested (below n l bs) (suc n) c j k u v (x .1) (y .1) (omega arith)))
+    (λ y. ⊎-elim (λ r. inl (omega arith)) (λ r. inr (omega arith))
+    (view-nested (below n l bs) (suc n) c j k u v (x .1) (y .1) (omega arith)))
     (λ y. let r = view-within (below n l bs) (suc n) c j u (x .1) in let z = y .1 in inl (omega arith))
     (at-append (viewsFrom (below n l bs) (suc n) c) (viewsFrom bs (suc n + size c) s) k v e))
     (λ x. let a = x .1 in ⊎-elim
     (λ y. let b = y .0 in absurd (omega arith))
-    (λ y. let b = y .1 in ⊎-elim (λ r. inl (omega arith)) (λ r. inr (omega arith)) (view-nested bs (suc n + size c) s (x .0) (y .0) u v (x .2) (y .2) (omega arith)))
+    (λ y. let b = y .1 in ⊎-elim (λ r. inl (omega arith)) (λ r. inr (omega arith))
+    (view-nested bs (suc n + size c) s (x .0) (y .0) u v (x .2) (y .2) (omega arith)))
     (at-append (viewsFrom (below n l bs) (suc n) c) (viewsFrom bs (suc n + size c) s) k v e))
     (at-append (viewsFrom (below n l bs) (suc n) c) (viewsFrom bs (suc n + size c) s) j u d)
 
 -- EQUAL SUBEXPRESSIONS NEVER NEST, since they have equal size: with one place, the nodes of a choice lie apart by themselves
-pub equal-apart : (face : Term) (j k : ℕ) (u : View Owner) → getElem? (views face) j ≡ some u → getElem? (views face) k ≡ some u → j < k → j + size u ≤ k
+pub equal-apart : (face : Term) (j k : ℕ) (u : View Owner) → getElem? (views face) j ≡ some u → getElem? (views face) k ≡ some u → j < k
+    → j + size u ≤ k
 equal-apart face j k u d e h = ⊎-elim (λ x. x) (λ x. absurd (omega arith)) (view-nested [] 0 (one face) j k u u d e h)

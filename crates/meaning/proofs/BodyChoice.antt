@@ -31,7 +31,8 @@ module _ (R : Mark → View Owner → Type 0) where
   along-append [] (u ∷ us) vs a b = absurd a
   along-append (m ∷ ms) (u ∷ us) vs a b = (a .0, along-append ms us vs (a .1) b)
 
-  along-at : (ms : Marks) (vs : List (View Owner)) → Along R ms vs → (k : ℕ) (m : Mark) (v : View Owner) → getElem? ms k ≡ some m → getElem? vs k ≡ some v → R m v
+  along-at : (ms : Marks) (vs : List (View Owner)) → Along R ms vs → (k : ℕ) (m : Mark) (v : View Owner) → getElem? ms k ≡ some m
+      → getElem? vs k ≡ some v → R m v
   along-at ms [] a k m v e f = never (cc)
   along-at [] (u ∷ us) a k m v e f = absurd a
   along-at (x ∷ ms) (u ∷ us) a zero m v e f =
@@ -43,7 +44,8 @@ module _ (R : Mark → View Owner → Type 0) (bs : List ℕ) (n : ℕ) (l : Nam
   abbrev inChildren : List (View Owner)
   inChildren = viewsFrom (below n l bs) (suc n) c
 
-  node-along : Along R ms inChildren → Along R (drop (size c) ms) (viewsFrom bs (suc n + size c) s) → Along R ms (inChildren ++ viewsFrom bs (suc n + size c) s)
+  node-along : Along R ms inChildren → Along R (drop (size c) ms) (viewsFrom bs (suc n + size c) s)
+      → Along R ms (inChildren ++ viewsFrom bs (suc n + size c) s)
   node-along a b =
       along-append R ms inChildren (viewsFrom bs (suc n + size c) s) a
       (subst (λ (k : ℕ). Along R (drop k ms) (viewsFrom bs (suc n + size c) s)) (sym (length-views (below n l bs) (suc n) c)) b)
@@ -69,7 +71,8 @@ blank-along a (none ∷ ms) (v ∷ vs) e = (λ i q. unmarked i q, blank-along a 
 blank-along a (some j ∷ ms) (v ∷ vs) e = never (cc)
 
 module _ (a : ℕ → Term) where
-  fits-along : (bs : List ℕ) (n : ℕ) (ms : Marks) (u : Terms) → size u ≤ length ms → Fits a (length bs) ms u → Clear ms u → Along (SeenAs a) ms (viewsFrom bs n u)
+  fits-along : (bs : List ℕ) (n : ℕ) (ms : Marks) (u : Terms) → size u ≤ length ms → Fits a (length bs) ms u → Clear ms u
+      → Along (SeenAs a) ms (viewsFrom bs n u)
   fits-along bs n ms nil h f g = tt
   fits-along bs n [] (cons l c s) h f g = absurd (omega arith)
   fits-along bs n (none ∷ ms) (cons l c s) h f g = (
@@ -85,7 +88,8 @@ module _ (a : ℕ → Term) where
         (fits-along bs (suc n + size c) (drop (size c) ms) s (rw length-drop (omega arith)) (f .1) (g .1)),
   )
     where
-      seen : (i : ℕ) → j ≡ i → (view (ownerOf bs) (one (l, c)) ≡ view (ownerOf []) (one (a i))) × (usesFace (view (ownerOf bs) (one (l, c))) ≡ false)
+      seen : (i : ℕ) → j ≡ i → (view (ownerOf bs) (one (l, c)) ≡ view (ownerOf []) (one (a i)))
+          × (usesFace (view (ownerOf bs) (one (l, c))) ≡ false)
       seen i q =
           let e : _≡_ {A = Term} (shiftTerm (length bs) (a i)) (l, c) = ap (λ (x : ℕ). shiftTerm (length bs) (a x)) (sym q) ∙ f .0 in (
             ap (λ (t : Term). view (ownerOf bs) (one t)) (sym e) ∙ view-shift bs (a i),
@@ -120,7 +124,8 @@ size-append (some i ∷ ms) ns = let h = size-append ms ns in omega arith
 size-front : (n m : ℕ) (ms : Marks) → setSize (take (n + m) ms) ≡ setSize (take n ms) + setSize (take m (drop n ms))
 size-front n m ms = ap setSize (take-add n m ms) ∙ size-append (take n ms) (take m (drop n ms))
 
-holes-counted : (ms : Marks) (u : Terms) → IsExpression u → size u ≤ length ms → Clear ms u → holesIn (punch ms u) ≡ setSize (take (size u) ms)
+holes-counted : (ms : Marks) (u : Terms) → IsExpression u → size u ≤ length ms → Clear ms u
+    → holesIn (punch ms u) ≡ setSize (take (size u) ms)
 holes-counted ms nil x h g = refl
 holes-counted ms (cons (slot z) c s) x h g = absurd (x .0)
 holes-counted [] (cons (own o) c s) x h g = absurd (omega arith)
@@ -136,7 +141,8 @@ holes-counted (some i ∷ ms) (cons (own o) c s) x h g =
     omega arith
 
 -- "a body's number of holes is the size of its set"
-pub holes-are-set : (n : ℕ) (face : Term) (ms : Marks) → IsExpression (one face) → Choice n face ms → holesIn (punch ms (one face)) ≡ setSize ms
+pub holes-are-set : (n : ℕ) (face : Term) (ms : Marks) → IsExpression (one face) → Choice n face ms
+    → holesIn (punch ms (one face)) ≡ setSize ms
 holes-are-set n face ms x c =
     let l : length ms ≡ size (one face) = c .long in
     holes-counted ms (one face) x (omega arith) (choice-clear n face ms c) ∙ ap setSize (ap (λ (k : ℕ). take k ms) (sym l) ∙ take-length ms)

@@ -70,7 +70,8 @@ exact-word (u ∷ []) b h = absurd (omega arith)
 exact-word (u ∷ v ∷ []) b h = (word-of u v (b .1 .0), omega arith)
 exact-word (u ∷ v ∷ w ∷ c) b h = absurd (omega arith)
 
-pub two-words : (c : Bytes) → All Byte c → 4 ≤ length c → (word (wordAt c 0) ++ word (wordAt c 2) ++ drop 4 c ≡ c) × (wordAt c 0 < 65536) × (wordAt c 2 < 65536)
+pub two-words : (c : Bytes) → All Byte c → 4 ≤ length c
+    → (word (wordAt c 0) ++ word (wordAt c 2) ++ drop 4 c ≡ c) × (wordAt c 0 < 65536) × (wordAt c 2 < 65536)
 two-words [] b h = absurd (omega arith)
 two-words (u ∷ []) b h = absurd (omega arith)
 two-words (u ∷ v ∷ []) b h = absurd (omega arith)

@@ -160,7 +160,8 @@ module _ (s : Bytes) (p : Problem) (b : All Byte s) (accepted : accept s ≡ got
   step : (n : ℕ) {reply : HostReply} (before from : List Row) → rows p ≡ before ++ from
       → SearchCall s (placeValue (placeOf from)) n reply → Step p (placeValue (placeOf from)) n from reply
   step zero before from w k =
-      subst (Step p (placeValue (placeOf from)) 0 from) (sym (when-zero s (placeValue (placeOf from)) 0 p accepted refl k)) (still-step p from 15)
+      subst (Step p (placeValue (placeOf from)) 0 from) (sym (when-zero s (placeValue (placeOf from)) 0 p accepted refl k))
+      (still-step p from 15)
   step (suc n) before from w k =
       let f : From (rows p) (placeOf from) from = record { before = before; whole = w; begins = refl } in
       let m : Names p (placeValue (placeOf from)) (placeOf from) =

@@ -58,11 +58,13 @@ module _ (p : Problem) (σ : Filling) (b : ℕ → Term) (fit : Fitting p σ b) 
       let r = source-at (x .what) (x .node) (x .term) s i in
       record {
         holds = value-is (s .number) (σ (s .number)) (x .term) (faced x q)
-            (subst (λ (z : Slot). fillHandler σ (x .under) z (fill (fillHandler σ) (x .under) (x .children)) ≡ x .term) (r .0) (theWalk .satisfied x q))
+            (subst (λ (z : Slot). fillHandler σ (x .under) z (fill (fillHandler σ) (x .under) (x .children)) ≡ x .term) (r .0)
+            (theWalk .satisfied x q))
             ∙ ap value (sym (r .1));
         expression = subst (λ (t : Term). IsExpression (one t)) (sym (r .1)) (faced x q);
         standing = alone;
-        stands = slot-standing (patterns p) (metavariable (s .number)) (x .children) (s .number, alone) (slotOf x q (metavariable (s .number)) (r .0)) (List·Memᴰ·head refl);
+        stands = slot-standing (patterns p) (metavariable (s .number)) (x .children) (s .number, alone)
+            (slotOf x q (metavariable (s .number)) (r .0)) (List·Memᴰ·head refl);
         needed = refl;
       }
 
@@ -106,7 +108,8 @@ module _ (p : Problem) (σ : Filling) (b : ℕ → Term) (fit : Fitting p σ b) 
       first q = let r = each-mem sourceOf s (theWalk .found) q in plain-right (r .0) (r .1) s (r .2)
 
       second : s ∈ each (λ x. fromApplication b x (x .what)) (theWalk .found) → Right p σ s
-      second q = let r = each-mem (λ x. fromApplication b x (x .what)) s (theWalk .found) q in application-right (r .0 .what) (r .0) (r .1) refl s (r .2)
+      second q = let r = each-mem (λ x. fromApplication b x (x .what)) s (theWalk .found) q in
+          application-right (r .0 .what) (r .0) (r .1) refl s (r .2)
 
   -- WHAT NEEDS A VALUE HAS A SOURCE
   pub needed-source : (m : ℕ) (w : Where) → (m, w) ∈ standings (patterns p) → needs σ w ≡ true → HasSource m (sourcesIn b (theWalk .found))
@@ -125,11 +128,18 @@ module _ (p : Problem) (σ : Filling) (b : ℕ → Term) (fit : Fitting p σ b) 
           let ap-f : f ∈ applied (patterns p) = appliedAt f n (x .0) (x .1) (x .2) in
           let zero-add : 0 + a .0 ≡ a .0 = omega arith in
           let small : a .0 < n = subst (λ (k : ℕ). a .0 < k) (ap trees (sym (x .3)) ∙ shape .0) (a .1) in
-          let hole-there : hasHole (a .0) (one (b f)) ≡ true = hole-needed f (a .0) ap-f (ap (needs σ) (ap (argumentOf f) (sym zero-add) ∙ sym (a .2)) ∙ needy) in
-          let s = application-has σ (b f) f n (x .0) (fit .agree f ap-f) (x .2) shape (faced (x .0) (x .1)) (theWalk .satisfied (x .0) (x .1)) (placesOf p f) (fit .shapes f ap-f) (a .0) m small hole-there
+          let hole-there : hasHole (a .0) (one (b f)) ≡ true =
+          hole-needed f (a .0) ap-f (ap (needs σ) (ap (argumentOf f) (sym zero-add) ∙ sym (a .2)) ∙ needy) in
+          let s = application-has σ (b f) f n (x .0) (fit .agree f ap-f) (x .2) shape (faced (x .0) (x .1))
+          (theWalk .satisfied (x .0) (x .1)) (placesOf p f) (fit .shapes f ap-f) (a .0) m small hole-there
           (subst (λ (d : Terms). m ∈ plain (one (argument d (a .0)))) (sym (x .3)) (a .3)) in
-          let inApplication : s .0 ∈ fromApplication b (x .0) (x .0 .what) = subst (λ (z : Slot). s .0 ∈ fromApplication b (x .0) z) (sym (x .2)) (s .1) in
-          (s .0, Memᴰ·append-right {a = s .0} (each sourceOf (theWalk .found)) (mem-each (λ y. fromApplication b y (y .what)) (x .0) (s .0) (theWalk .found) (x .1) inApplication), s .2)
+          let inApplication : s .0 ∈ fromApplication b (x .0) (x .0 .what) =
+          subst (λ (z : Slot). s .0 ∈ fromApplication b (x .0) z) (sym (x .2)) (s .1) in (
+            s .0,
+            Memᴰ·append-right {a = s .0} (each sourceOf (theWalk .found))
+                (mem-each (λ y. fromApplication b y (y .what)) (x .0) (s .0) (theWalk .found) (x .1) inApplication),
+            s .2,
+          )
       go (hole k) c q j = absurd (List·Memᴰ·not-nil j)
 
 -- Looking a source up
@@ -137,7 +147,8 @@ pub lookup-is : (m : ℕ) (ss : List Source) (s : Source) → lookup m ss ≡ so
 lookup-is m [] s e = never (cc)
 lookup-is m (x ∷ xs) s e = go (eqb m (x .number)) refl (lookup-is m xs s) e
   where
-    go : (b : Bool) → eqb m (x .number) ≡ b → (lookup m xs ≡ some s → (s ∈ xs) × (s .number ≡ m)) → choose b (some x) (lookup m xs) ≡ some s → (s ∈ (x ∷ xs)) × (s .number ≡ m)
+    go : (b : Bool) → eqb m (x .number) ≡ b → (lookup m xs ≡ some s → (s ∈ xs) × (s .number ≡ m)) → choose b (some x) (lookup m xs) ≡ some s
+        → (s ∈ (x ∷ xs)) × (s .number ≡ m)
     go true q ih r = let w : x ≡ s = cc in (List·Memᴰ·head (sym w), ap (λ (y : Source). y .number) (sym w) ∙ sym (eqb-eq m (x .number) q))
     go false q ih r = let y = ih r in (List·Memᴰ·tail (y .0), y .1)
 
@@ -145,7 +156,8 @@ pub lookup-none : (m : ℕ) (ss : List Source) → lookup m ss ≡ none → HasS
 lookup-none m [] e h = List·Memᴰ·not-nil (h .1)
 lookup-none m (x ∷ xs) e h = go (eqb m (x .number)) refl (λ q i. lookup-none m xs q (h .0, i, h .2)) e (List·Memᴰ·cases-cons (h .1))
   where
-    go : (b : Bool) → eqb m (x .number) ≡ b → (lookup m xs ≡ none → h .0 ∈ xs → ⊥) → choose b (some x) (lookup m xs) ≡ none → (h .0 ≡ x) ⊎ (h .0 ∈ xs) → ⊥
+    go : (b : Bool) → eqb m (x .number) ≡ b → (lookup m xs ≡ none → h .0 ∈ xs → ⊥) → choose b (some x) (lookup m xs) ≡ none
+        → (h .0 ≡ x) ⊎ (h .0 ∈ xs) → ⊥
     go true q ih r j = never (cc)
     go false q ih r (inl j) =
         let k : x .number ≡ m = ap (λ (y : Source). y .number) (sym j) ∙ h .2 in
@@ -163,24 +175,29 @@ lookup-cases m ss = go (lookup m ss) refl
 module _ (p : Problem) (r : Row) where
   pub candidate-function : (f : ℕ) → f ∈ applied (patterns p) → candidate p r f ≡ body (rowBody p r f)
   unfolding candidate
-  candidate-function f a = choose-true (body (rowBody p r f)) (choose (isPlain p f) (given (lookup f (sources p r))) absent) (mem-isIn f (applied (patterns p)) a)
+  candidate-function f a = choose-true (body (rowBody p r f)) (choose (isPlain p f) (given (lookup f (sources p r))) absent)
+      (mem-isIn f (applied (patterns p)) a)
 
   pub candidate-plain : (m : ℕ) → (m ∈ applied (patterns p) → ⊥) → m ∈ plain (patterns p) → candidate p r m ≡ given (lookup m (sources p r))
   unfolding candidate
   candidate-plain m a q =
-      choose-false (body (rowBody p r m)) (choose (isPlain p m) (given (lookup m (sources p r))) absent) (not-isIn m (applied (patterns p)) a)
+      choose-false (body (rowBody p r m)) (choose (isPlain p m) (given (lookup m (sources p r))) absent)
+      (not-isIn m (applied (patterns p)) a)
       ∙ choose-true (given (lookup m (sources p r))) absent (mem-isIn m (plain (patterns p)) q)
 
   pub candidate-other : (m : ℕ) → (m ∈ applied (patterns p) → ⊥) → (m ∈ plain (patterns p) → ⊥) → candidate p r m ≡ absent
   unfolding candidate
   candidate-other m a q =
-      choose-false (body (rowBody p r m)) (choose (isPlain p m) (given (lookup m (sources p r))) absent) (not-isIn m (applied (patterns p)) a)
+      choose-false (body (rowBody p r m)) (choose (isPlain p m) (given (lookup m (sources p r))) absent)
+      (not-isIn m (applied (patterns p)) a)
       ∙ choose-false (given (lookup m (sources p r))) absent (not-isIn m (plain (patterns p)) q)
 
-  sources-found : (σ : Filling) (fit : Fitting p σ (rowBody p r)) → sources p r ≡ sourcesIn (rowBody p r) (theWalk p σ (rowBody p r) fit .found)
+  sources-found : (σ : Filling) (fit : Fitting p σ (rowBody p r))
+      → sources p r ≡ sourcesIn (rowBody p r) (theWalk p σ (rowBody p r) fit .found)
   sources-found σ fit = ap (λ (o : Option (List Face)). sourcesIn (rowBody p r) (orNone o)) (theWalk p σ (rowBody p r) fit .defined)
 
-  pub fitting-source : (σ : Filling) → Fitting p σ (rowBody p r) → (m : ℕ) (s : Source) → lookup m (sources p r) ≡ some s → Right p σ s × (s .number ≡ m)
+  pub fitting-source : (σ : Filling) → Fitting p σ (rowBody p r) → (m : ℕ) (s : Source) → lookup m (sources p r) ≡ some s
+      → Right p σ s × (s .number ≡ m)
   fitting-source σ fit m s e =
       let i = lookup-is m (sources p r) s e in
       (source-right p σ (rowBody p r) fit s (subst (λ (l : List Source). s ∈ l) (sources-found σ fit) (i .0)), i .1)
@@ -202,7 +219,8 @@ module _ (p : Problem) (r : Row) where
     shapes = λ f a. shape f a (s .bodies f a);
   }
     where
-      shape : (f : ℕ) → f ∈ applied (patterns p) → (b : Term) × (σ f ≡ body b) × IsBody (placesOf p f) (one b) × ClosedTerm b → IsBody (placesOf p f) (one (rowBody p r f))
+      shape : (f : ℕ) → f ∈ applied (patterns p) → (b : Term) × (σ f ≡ body b) × IsBody (placesOf p f) (one b) × ClosedTerm b
+          → IsBody (placesOf p f) (one (rowBody p r f))
       shape f a x =
           let q : body (x .0) ≡ body (rowBody p r f) = sym (x .1) ∙ h f (applied-functions p c f a) in
           let e : x .0 ≡ rowBody p r f = cc in
@@ -211,7 +229,8 @@ module _ (p : Problem) (r : Row) where
   pub solution-candidate : (σ : Filling) → Proper p → Solution p σ → HasBodies p r σ → (m : ℕ) → σ m ≡ candidate p r m
   solution-candidate σ c s h m =
       by-test (isFunction p m)
-      (λ a. let q : m ∈ applied (patterns p) = isIn-mem m (applied (patterns p)) a in h m (applied-functions p c m q) ∙ sym (candidate-function m q))
+      (λ a. let q : m ∈ applied (patterns p) = isIn-mem m (applied (patterns p)) a in h m (applied-functions p c m q)
+      ∙ sym (candidate-function m q))
       (λ a. let na : m ∈ applied (patterns p) → ⊥ = λ q. false≢true (sym a ∙ mem-isIn m (applied (patterns p)) q) in
       by-test (isPlain p m)
       (λ b. plain-case na (isIn-mem m (plain (patterns p)) b) (lookup-cases m (sources p r)))
@@ -221,7 +240,8 @@ module _ (p : Problem) (r : Row) where
       fit : Fitting p σ (rowBody p r)
       fit = solution-fitting σ c s h
 
-      plain-case : (m ∈ applied (patterns p) → ⊥) → m ∈ plain (patterns p) → (lookup m (sources p r) ≡ none) ⊎ ((x : Source) × (lookup m (sources p r) ≡ some x)) → σ m ≡ candidate p r m
+      plain-case : (m ∈ applied (patterns p) → ⊥) → m ∈ plain (patterns p)
+          → (lookup m (sources p r) ≡ none) ⊎ ((x : Source) × (lookup m (sources p r) ≡ some x)) → σ m ≡ candidate p r m
       plain-case na q (inl e) = s .idleOpen m q (fitting-idle σ fit m e) ∙ sym (candidate-plain m na q ∙ ap given e)
       plain-case na q (inr x) =
           let y = fitting-source σ fit m (x .0) (x .1) in

@@ -25,7 +25,8 @@ use Rattle.meaning.proofs.Ordered.{keep-ordered, ordered-distinct, Plac
 use Rattle.meaning.proofs.Ordered.{product-ordered, product-are, earlier-strict, earlierRow-strict}
 
 -- Where one list has an element, so has each list of the same length
-pub at-other : {A B : Type 0} (xs : List A) (ys : List B) (k : ℕ) (x : A) → length xs ≡ length ys → getElem? xs k ≡ some x → (y : B) × (getElem? ys k ≡ some y)
+pub at-other : {A B : Type 0} (xs : List A) (ys : List B) (k : ℕ) (x : A) → length xs ≡ length ys → getElem? xs k ≡ some x
+    → (y : B) × (getElem? ys k ≡ some y)
 at-other [] ys k x l e = never (cc)
 at-other (z ∷ xs) [] k x l e = absurd (omega arith)
 at-other (z ∷ xs) (y ∷ ys) zero x l e = (y, refl)
@@ -64,7 +65,8 @@ choose-mem : {A : Type 0} (b : Bool) (x y : A) (xs : List A) → y ∈ choose b 
 choose-mem true x y xs m = ⊎-elim (λ e. inl (refl, e)) inr (List·Memᴰ·cases-cons m)
 choose-mem false x y xs m = inr m
 
-mem-chosen : (i k : ℕ) (ms : Marks) (us : List (View Owner)) (u : View Owner) → getElem? ms k ≡ some (some i) → getElem? us k ≡ some u → u ∈ chosen i ms us
+mem-chosen : (i k : ℕ) (ms : Marks) (us : List (View Owner)) (u : View Owner) → getElem? ms k ≡ some (some i) → getElem? us k ≡ some u
+    → u ∈ chosen i ms us
 mem-chosen i k [] us u e d = never (cc)
 mem-chosen i k (m ∷ ms) [] u e d = never (cc)
 mem-chosen i zero (m ∷ ms) (v ∷ us) u e d =
@@ -79,7 +81,8 @@ chosen-mem i [] us u h = absurd (List·Memᴰ·not-nil h)
 chosen-mem i (m ∷ ms) [] u h = absurd (List·Memᴰ·not-nil h)
 chosen-mem i (m ∷ ms) (v ∷ us) u h = go (chosen-mem i ms us u) (choose-mem (isPlace i m) v u (chosen i ms us) h)
   where
-    go : (u ∈ chosen i ms us → (k : ℕ) × (getElem? ms k ≡ some (some i)) × (getElem? us k ≡ some u)) → ((isPlace i m ≡ true) × (u ≡ v)) ⊎ (u ∈ chosen i ms us)
+    go : (u ∈ chosen i ms us → (k : ℕ) × (getElem? ms k ≡ some (some i)) × (getElem? us k ≡ some u))
+        → ((isPlace i m ≡ true) × (u ≡ v)) ⊎ (u ∈ chosen i ms us)
         → (k : ℕ) × (getElem? (m ∷ ms) k ≡ some (some i)) × (getElem? (v ∷ us) k ≡ some u)
     go ih (inl r) = (0, ap some (isPlace-eq i m (r .0)), ap some (sym (r .1)))
     go ih (inr q) = let (k, e, d) = ih q in (suc k, e, d)
@@ -89,7 +92,9 @@ allSame-eq [] t u v m n = absurd (List·Memᴰ·not-nil m)
 allSame-eq (w ∷ us) t u v m n = sym (from u m) ∙ from v n
   where
     from : (x : View Owner) → x ∈ (w ∷ us) → w ≡ x
-    from x h = ⊎-elim (λ e. sym e) (λ k. sameOwned-eq w x (true-T (all-mem (λ y. sameOwned w y ≡ true) x us (every-all (sameOwned w) us t) k))) (List·Memᴰ·cases-cons h)
+    from x h = ⊎-elim (λ e. sym e)
+        (λ k. sameOwned-eq w x (true-T (all-mem (λ y. sameOwned w y ≡ true) x us (every-all (sameOwned w) us t) k)))
+        (List·Memᴰ·cases-cons h)
 
 eq-allSame : (us : List (View Owner)) → ((u v : View Owner) → u ∈ us → v ∈ us → u ≡ v) → T (allSame us)
 eq-allSame [] h = tt
@@ -110,7 +115,8 @@ module _ (us : List (View Owner)) (ms : Marks) (i : ℕ) where
       let same = and-T (allSame (chosen i ms us)) (every isFree (chosen i ms us)) t .0 in
       p ∙ ap some (allSame-eq (chosen i ms us) same u v (mem-chosen i j ms us u d p) (mem-chosen i k ms us v e q)) ∙ sym q
 
-  fits-unbound : T (fitsPlace us ms i) → (k : ℕ) (u : View Owner) → getElem? ms k ≡ some (some i) → getElem? us k ≡ some u → usesFace u ≡ false
+  fits-unbound : T (fitsPlace us ms i) → (k : ℕ) (u : View Owner) → getElem? ms k ≡ some (some i) → getElem? us k ≡ some u
+      → usesFace u ≡ false
   fits-unbound t k u d e =
       let free = and-T (allSame (chosen i ms us)) (every isFree (chosen i ms us)) t .1 in
       not-true (all-mem (λ v. isFree v ≡ true) u (chosen i ms us) (every-all isFree (chosen i ms us) free) (mem-chosen i k ms us u d e))
@@ -168,7 +174,8 @@ apart-test [] us a = tt
 apart-test (m ∷ ms) [] a = tt
 apart-test (none ∷ ms) (v ∷ us) a = apart-test ms us (later-apart none v ms us a)
 apart-test (some i ∷ ms) (v ∷ us) a =
-    let past : (k h : ℕ) → getElem? ms k ≡ some (some h) → size v - 1 ≤ k = λ k h e. let r = a 0 (suc k) i h v refl e refl (omega arith) in omega arith in
+    let past : (k h : ℕ) → getElem? ms k ≡ some (some h) → size v - 1 ≤ k =
+    λ k h e. let r = a 0 (suc k) i h v refl e refl (omega arith) in omega arith in
     T-and (eqb (setSize (take (size v - 1) ms)) 0) (areApart ms us)
     (true-T (ap (λ (n : ℕ). eqb n 0) (front-unmarked (size v - 1) ms past))) (apart-test ms us (later-apart (some i) v ms us a))
 
@@ -197,7 +204,8 @@ module _ (n : ℕ) (face : Term) (ms : Marks) where
       let low : (k i : ℕ) → getElem? ms k ≡ some (some i) → i < n = λ k i d. all-mem (Placed n) (some i) ms a (at-mem ms k (some i) d) in
       let every-place = and-T (every (fitsPlace (views face) ms) (upTo n)) (areApart ms (views face)) (true-T t) .0 in
       let fits : (i : ℕ) → i < n → T (fitsPlace (views face) ms i) =
-      λ i b. true-T (all-mem (λ j. fitsPlace (views face) ms j ≡ true) i (upTo n) (every-all (fitsPlace (views face) ms) (upTo n) every-place) (mem-upTo n i b)) in
+      λ i b. true-T (all-mem (λ j. fitsPlace (views face) ms j ≡ true) i (upTo n)
+      (every-all (fitsPlace (views face) ms) (upTo n) every-place) (mem-upTo n i b)) in
       record {
         long = l;
         places = low;
@@ -212,8 +220,10 @@ each-choice p [] [] = (λ h. h, λ h. h)
 each-choice p [] (c ∷ r) = (λ h. h, λ h. h)
 each-choice p (f ∷ fs) [] = (λ h. h, λ h. h)
 each-choice p (f ∷ fs) (c ∷ r) =
-    let ih = each-choice p fs r in
-    (λ h. (choices-sound (placesOf p f) (faceOf p f) c (h .0), ih .0 (h .1)), λ h. (choices-full (placesOf p f) (faceOf p f) c (h .0), ih .1 (h .1)))
+    let ih = each-choice p fs r in (
+      λ h. (choices-sound (placesOf p f) (faceOf p f) c (h .0), ih .0 (h .1)),
+      λ h. (choices-full (placesOf p f) (faceOf p f) c (h .0), ih .1 (h .1)),
+    )
 
 over-are : (p : Problem) (w : Option (List Face)) (r : Row) → (r ∈ rowsOver p w) ↔ ((isSome w ≡ true) × ChoiceEach p (functions p) r)
 over-are p none r = (λ m. absurd (List·Memᴰ·not-nil m), λ h. absurd (false≢true (h .0)))
@@ -255,7 +265,8 @@ rows-ordered p = go (faces p)
     go none = empty
     go (some xs) =
         product-ordered (map (λ f. choices (placesOf p f) (faceOf p f)) (functions p))
-        (all-map (Ordered Earlier) (λ f. choices (placesOf p f) (faceOf p f)) (λ f. choices-ordered (placesOf p f) (faceOf p f)) (functions p))
+        (all-map (Ordered Earlier) (λ f. choices (placesOf p f) (faceOf p f)) (λ f. choices-ordered (placesOf p f) (faceOf p f))
+        (functions p))
 
 pub rows-once : (p : Problem) → Distinct (rows p)
 rows-once p = ordered-distinct EarlierRow earlierRow-strict (rows p) (rows-ordered p)

@@ -1,4 +1,5 @@
--- The entry points on document 01's first example, (P(X), s), and on (∀x.P(x), ∀y.y), one of whose two rows is no solution row: every kind of
+-- The entry points on document 01's first example, (P(X), s), and on (∀x.P(x), ∀y.y), one of whose two rows is no solution row: every kind
+-- of
 -- answer, and every refusal from 15 on.
 use mathlib.Core.Path.{_≡_, refl, ap, sym, _∙_, subst}
 use mathlib.Core.Logic.{_⊎_, inl, inr, ⊎-elim}

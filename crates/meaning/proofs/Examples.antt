@@ -33,11 +33,38 @@ HoldsInBytes s =
 -- THE STARRED CASES
 pub starred-hold : All HoldsInBytes starred
 unfolding accepts texts reads
-starred-hold = ((refl, (refl, refl), refl, refl), ((refl, (refl, refl), refl, refl), ((refl, (refl, refl), refl, refl), ((refl, (refl, refl), refl, refl), ((refl, (refl, refl), refl, refl), ((refl, (refl, refl), refl, refl), ((refl, (refl, refl), refl, refl), ((refl, (refl, refl), refl, refl), ((refl, (refl, refl), refl, refl), tt)))))))))
+starred-hold = (
+  (refl, (refl, refl), refl, refl),
+  (
+    (refl, (refl, refl), refl, refl),
+    (
+      (refl, (refl, refl), refl, refl),
+      (
+        (refl, (refl, refl), refl, refl),
+        (
+          (refl, (refl, refl), refl, refl),
+          (
+            (refl, (refl, refl), refl, refl),
+            ((refl, (refl, refl), refl, refl), ((refl, (refl, refl), refl, refl), ((refl, (refl, refl), refl, refl), tt))),
+          ),
+        ),
+      ),
+    ),
+  ),
+)
 
 pub further-hold : All Holds further
 unfolding texts
-further-hold = ((refl, refl), ((refl, refl), ((refl, refl), ((refl, refl), ((refl, refl), ((refl, refl), ((refl, refl), ((refl, refl), ((refl, refl), ((refl, refl), tt))))))))))
+further-hold = (
+  (refl, refl),
+  (
+    (refl, refl),
+    (
+      (refl, refl),
+      ((refl, refl), ((refl, refl), ((refl, refl), ((refl, refl), ((refl, refl), ((refl, refl), ((refl, refl), tt))))))),
+    ),
+  ),
+)
 
 -- "No variable of a value, body or argument is ever caught": the body ∀w.w=□ filled with a variable that is bound outside it
 abbrev bound-by : ℕ → Term

@@ -100,7 +100,8 @@ keep-mem {A} p x (y ∷ ys) m = go (p y) refl (keep-mem p x ys) m
     under : (x ∈ ys) × (p x ≡ true) → (x ∈ (y ∷ ys)) × (p x ≡ true)
     under r = (List·Memᴰ·tail (r .0), r .1)
 
-    go : (b : Bool) → p y ≡ b → (x ∈ keep p ys → (x ∈ ys) × (p x ≡ true)) → x ∈ choose b (y ∷ keep p ys) (keep p ys) → (x ∈ (y ∷ ys)) × (p x ≡ true)
+    go : (b : Bool) → p y ≡ b → (x ∈ keep p ys → (x ∈ ys) × (p x ≡ true)) → x ∈ choose b (y ∷ keep p ys) (keep p ys)
+        → (x ∈ (y ∷ ys)) × (p x ≡ true)
     go true q ih h = ⊎-elim (λ (e : x ≡ y). (List·Memᴰ·head e, ap p e ∙ q)) (λ k. under (ih k)) (List·Memᴰ·cases-cons h)
     go false q ih h = under (ih h)
 
@@ -158,7 +159,8 @@ countFrom-mem k (suc n) m h = go (countFrom-mem (suc k) n m) (List·Memᴰ·case
 
 pub distinct-countFrom : (k n : ℕ) → Distinct (countFrom k n)
 distinct-countFrom k zero = tt
-distinct-countFrom k (suc n) = (λ m. let r = countFrom-mem (suc k) n k m in let h : suc k ≤ k = r .0 in omega arith, distinct-countFrom (suc k) n)
+distinct-countFrom k (suc n) =
+    (λ m. let r = countFrom-mem (suc k) n k m in let h : suc k ≤ k = r .0 in omega arith, distinct-countFrom (suc k) n)
 
 pub mem-upTo : (n m : ℕ) → m < n → m ∈ upTo n
 mem-upTo n m h = mem-countFrom 0 n m (omega arith) (omega arith)
@@ -180,7 +182,8 @@ pub at-append : {A : Type 0} (xs ys : List A) (k : ℕ) (x : A) → getElem? (xs
     → ((k < length xs) × (getElem? xs k ≡ some x)) ⊎ ((i : ℕ) × (k ≡ length xs + i) × (getElem? ys i ≡ some x))
 at-append [] ys k x e = inr (k, omega arith, e)
 at-append (z ∷ xs) ys zero x e = inl (omega arith, e)
-at-append (z ∷ xs) ys (suc k) x e = ⊎-elim (λ r. inl (let h = r .0 in omega arith, r .1)) (λ r. inr (r .0, (let h = r .1 in omega arith), r .2)) (at-append xs ys k x e)
+at-append (z ∷ xs) ys (suc k) x e =
+    ⊎-elim (λ r. inl (let h = r .0 in omega arith, r .1)) (λ r. inr (r .0, (let h = r .1 in omega arith), r .2)) (at-append xs ys k x e)
 
 pub drop-mem : {A : Type 0} (x : A) (n : ℕ) (xs : List A) → x ∈ drop n xs → x ∈ xs
 drop-mem x zero xs q = q

@@ -27,13 +27,16 @@ agrees-self o = own-refl sameVariable variable-refl o
 module _ (h : Handler) where
   -- One node, when its children are known to walk as they should
   meet-in : (k n : ℕ) (l : Nameless) (c : Terms) (t : Term) (below : Option (List Face))
-      → (fill h (inner l k) c ≡ t .1 → AllO (Satisfied h) below) → fillLabel h k l (fill h (inner l k) c) ≡ t → AllO (Satisfied h) (meet k n l c t below)
+      → (fill h (inner l k) c ≡ t .1 → AllO (Satisfied h) below) → fillLabel h k l (fill h (inner l k) c) ≡ t
+      → AllO (Satisfied h) (meet k n l c t below)
   meet-in k n (own o) c t below f e =
-      guard-in (Satisfied h) (agrees o (t .0)) below (subst (λ (x : Term). T (agrees o (x .0))) e (agrees-self o)) (f (ap (λ (x : Term). x .1) e))
+      guard-in (Satisfied h) (agrees o (t .0)) below (subst (λ (x : Term). T (agrees o (x .0))) e (agrees-self o))
+      (f (ap (λ (x : Term). x .1) e))
   meet-in k n (slot z) c t below f e = (e, tt)
 
   meet-out : (k n : ℕ) (l : Nameless) (c : Terms) (t : Term) (below : Option (List Face))
-      → (AllO (Satisfied h) below → fill h (inner l k) c ≡ t .1) → AllO (Satisfied h) (meet k n l c t below) → fillLabel h k l (fill h (inner l k) c) ≡ t
+      → (AllO (Satisfied h) below → fill h (inner l k) c ≡ t .1) → AllO (Satisfied h) (meet k n l c t below)
+      → fillLabel h k l (fill h (inner l k) c) ≡ t
   meet-out k n (own o) c t below f g =
       let r = guard-out (Satisfied h) (agrees o (t .0)) below g in pair-eq (agrees-eq o (t .0) (r .0)) (f (r .1))
   meet-out k n (slot z) c t below f g = g .0
@@ -53,7 +56,8 @@ module _ (h : Handler) where
   walk-out k n (cons l c s) nil g = absurd g
   walk-out k n (cons l c s) (cons l′ c′ s′) g =
       let r = join-out (Satisfied h) (meet k n l c (l′, c′) (walk (inner l k) (suc n) c c′)) (walk k (suc n + size c′) s s′) g in
-      graft-eq (meet-out k n l c (l′, c′) (walk (inner l k) (suc n) c c′) (walk-out (inner l k) (suc n) c c′) (r .0)) (walk-out k (suc n + size c′) s s′ (r .1))
+      graft-eq (meet-out k n l c (l′, c′) (walk (inner l k) (suc n) c c′) (walk-out (inner l k) (suc n) c c′) (r .0))
+      (walk-out k (suc n + size c′) s s′ (r .1))
 
 -- THE THEOREM
 pub lockstep : (h : Handler) (k n : ℕ) (p e : Terms) → (fill h k p ≡ e) ↔ AllO (Satisfied h) (walk k n p e)

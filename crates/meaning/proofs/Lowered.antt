@@ -28,7 +28,8 @@ use Rattle.meaning.proofs.Lists.{never, or-false, by-test, eqb-self}
 use Rattle.meaning.proofs.ChoiceLaws.{at-other, length-views, isPlace-eq}
 
 -- Relabelling twice, and with nothing changed
-with-with : {X Y Z B : Type 0} (f : X → Y) (g : Y → Z) (h : X → Z) → ((x : X) → g (f x) ≡ h x) → (l : Label X B) → withVariable g (withVariable f l) ≡ withVariable h l
+with-with : {X Y Z B : Type 0} (f : X → Y) (g : Y → Z) (h : X → Z) → ((x : X) → g (f x) ≡ h x) → (l : Label X B)
+    → withVariable g (withVariable f l) ≡ withVariable h l
 with-with f g h e (own (symbol n)) = refl
 with-with f g h e (own (variable v)) = ap (λ w. own (variable w)) (e v)
 with-with f g h e (own (application n)) = refl
@@ -120,7 +121,8 @@ above-free k (bound i) = go (ltb i k)
     go false = refl
 
 -- Labels and forests
-label-free : (bs : List ℕ) (k : ℕ) (l : Nameless) → usesLabel (withVariable (see (ownerOf bs) k) l) ≡ false → (m : Nameless) × (lowerLabel (length bs) k l ≡ some m)
+label-free : (bs : List ℕ) (k : ℕ) (l : Nameless) → usesLabel (withVariable (see (ownerOf bs) k) l) ≡ false
+    → (m : Nameless) × (lowerLabel (length bs) k l ≡ some m)
 label-free bs k (own (symbol n)) e = (own (symbol n), refl)
 label-free bs k (own (variable v)) e = let (w, q) = sink-free bs k v e in (own (variable w), rw q)
 label-free bs k (own (application n)) e = (own (application n), refl)
@@ -137,10 +139,12 @@ above-label k (slot z) = refl
 abbrev pub viewUnder : {W : Type 0} → (ℕ → W) → ℕ → Terms → View W
 viewUnder who k u = relabelled (see who) k u
 
-forest-free : (bs : List ℕ) (k : ℕ) (u : Terms) → usesFace (viewUnder (ownerOf bs) k u) ≡ false → (v : Terms) × (lower (length bs) k u ≡ some v)
+forest-free : (bs : List ℕ) (k : ℕ) (u : Terms) → usesFace (viewUnder (ownerOf bs) k u) ≡ false
+    → (v : Terms) × (lower (length bs) k u ≡ some v)
 forest-free bs k nil e = (nil, refl)
 forest-free bs k (cons l c s) e =
-    let (el, e′) = or-false (usesLabel (withVariable (see (ownerOf bs) k) l)) (usesFace (viewUnder (ownerOf bs) (inner l k) c) || usesFace (viewUnder (ownerOf bs) k s)) e in
+    let (el, e′) = or-false (usesLabel (withVariable (see (ownerOf bs) k) l))
+    (usesFace (viewUnder (ownerOf bs) (inner l k) c) || usesFace (viewUnder (ownerOf bs) k s)) e in
     let (ec, es) = or-false (usesFace (viewUnder (ownerOf bs) (inner l k) c)) (usesFace (viewUnder (ownerOf bs) k s)) e′ in
     let (l′, p) = label-free bs k l el in
     let (c′, q) = forest-free bs (inner l k) c ec in
@@ -174,7 +178,10 @@ pub lowered-view : (bs : List ℕ) (t a : Term) → lowerTerm (length bs) t ≡ 
 lowered-view bs t a e = sym (ap (λ (x : Term). view (ownerOf bs) (one x)) (shift-lower-term (length bs) t a e)) ∙ view-shift bs a
 
 pub lowered-none : (bs : List ℕ) (t : Term) → (lowerTerm (length bs) t ≡ none) ↔ (usesFace (view (ownerOf bs) (one t)) ≡ true)
-lowered-none bs t = (λ e. by-test (usesFace (view (ownerOf bs) (one t))) (λ h. h) (λ h. absurd (some-none e h)), back (lowerTerm (length bs) t) refl)
+lowered-none bs t = (
+  λ e. by-test (usesFace (view (ownerOf bs) (one t))) (λ h. h) (λ h. absurd (some-none e h)),
+  back (lowerTerm (length bs) t) refl,
+)
   where
     some-none : lowerTerm (length bs) t ≡ none → usesFace (view (ownerOf bs) (one t)) ≡ false → ⊥
     some-none e h = let (a, q) = term-free bs t h in Option·some-ne-none a (sym q ∙ e)
@@ -215,13 +222,22 @@ views-nodes : (bs : List ℕ) (n : ℕ) (u : Terms) → viewsFrom bs n u ≡ map
 unfolding nodesFrom
 views-nodes bs n nil = refl
 views-nodes bs n (cons l c s) =
-    rw (views-nodes (below n l bs) (suc n) c, views-nodes bs (suc n + size c) s, map-append nodeView (nodesFrom (below n l bs) (suc n) c) (nodesFrom bs (suc n + size c) s))
+    rw (
+      views-nodes (below n l bs) (suc n) c,
+      views-nodes bs (suc n + size c) s,
+      map-append nodeView (nodesFrom (below n l bs) (suc n) c) (nodesFrom bs (suc n + size c) s),
+    )
 
 lowers-nodes : (bs : List ℕ) (n : ℕ) (u : Terms) → lowersFrom (length bs) u ≡ map nodeLowered (nodesFrom bs n u)
 unfolding nodesFrom
 lowers-nodes bs n nil = refl
 lowers-nodes bs n (cons l c s) =
-    rw (← length-below n l bs, lowers-nodes (below n l bs) (suc n) c, lowers-nodes bs (suc n + size c) s, map-append nodeLowered (nodesFrom (below n l bs) (suc n) c) (nodesFrom bs (suc n + size c) s))
+    rw (
+      ← length-below n l bs,
+      lowers-nodes (below n l bs) (suc n) c,
+      lowers-nodes bs (suc n + size c) s,
+      map-append nodeLowered (nodesFrom (below n l bs) (suc n) c) (nodesFrom bs (suc n + size c) s),
+    )
 
 at-map : {A B : Type 0} (f : A → B) (xs : List A) (k : ℕ) (x : A) → getElem? xs k ≡ some x → getElem? (map f xs) k ≡ some (f x)
 at-map f [] k x e = never (cc)
@@ -233,7 +249,8 @@ node-at : (face : Term) (ms : Marks) (k : ℕ) (m : Mark) → length ms ≡ size
     → (x : Node) × (getElem? (views face) k ≡ some (nodeView x)) × (getElem? (lowers face) k ≡ some (nodeLowered x))
 node-at face ms k m l e =
     let nodes : List Node = nodesFrom [] 0 (one face) in
-    let long : length nodes ≡ size (one face) = sym (length-map nodes nodeView) ∙ ap length (sym (views-nodes [] 0 (one face))) ∙ length-views [] 0 (one face) in
+    let long : length nodes ≡ size (one face) =
+    sym (length-map nodes nodeView) ∙ ap length (sym (views-nodes [] 0 (one face))) ∙ length-views [] 0 (one face) in
     let (x, q) = at-other ms nodes k m (l ∙ sym long) e in (
       x,
       ap (λ (us : List (View Owner)). getElem? us k) (views-nodes [] 0 (one face)) ∙ at-map nodeView nodes k x q,
@@ -266,7 +283,8 @@ module _ (n : ℕ) (face : Term) (ms : Marks) where
       let (a, q) = term-free (x .0) (x .1) (c .unbound k i (nodeView x) e v) in
       (a, w ∙ ap some q, v ∙ ap some (lowered-view (x .0) (x .1) a q))
 
-  place-term : Choice n face ms → (i : ℕ) → (a : Term) × ((k : ℕ) → getElem? ms k ≡ some (some i) → getElem? (lowers face) k ≡ some (some a))
+  place-term : Choice n face ms → (i : ℕ)
+      → (a : Term) × ((k : ℕ) → getElem? ms k ≡ some (some i) → getElem? (lowers face) k ≡ some (some a))
   place-term c i = go (marked i ms)
     where
       go : ((k : ℕ) × (getElem? ms k ≡ some (some i))) ⊎ ((k : ℕ) → getElem? ms k ≡ some (some i) → ⊥)
@@ -277,7 +295,8 @@ module _ (n : ℕ) (face : Term) (ms : Marks) where
             a,
             λ k e.
                 let (b, q, w) = marked-term c k i e in
-                let same = Option·some-injective (view (ownerOf []) (one b)) (view (ownerOf []) (one a)) (sym w ∙ sym (c .equal j k i d e) ∙ v) in
+                let same = Option·some-injective (view (ownerOf []) (one b)) (view (ownerOf []) (one a))
+                (sym w ∙ sym (c .equal j k i d e) ∙ v) in
                 q ∙ ap {B = Option (Option Term)} (λ (t : Term). some (some t)) (view-injective b a same),
           )
 
@@ -290,14 +309,16 @@ module _ (n : ℕ) (face : Term) (ms : Marks) where
       let (x, v, w) = node-at face ms k (some i) l e in
       v ∙ ap some (lowered-view (x .0) (x .1) (a i) (Option·some-injective (nodeLowered x) (some (a i)) (sym w ∙ h k i e)))
 
-  takes-choice : length ms ≡ size (one face) → ((k i : ℕ) → getElem? ms k ≡ some (some i) → i < n) → Apart ms (views face) → (a : ℕ → Term) → Takes face ms a → Choice n face ms
+  takes-choice : length ms ≡ size (one face) → ((k i : ℕ) → getElem? ms k ≡ some (some i) → i < n) → Apart ms (views face) → (a : ℕ → Term)
+      → Takes face ms a → Choice n face ms
   takes-choice l low apart a h =
       record {
         long = l;
         places = low;
         equal = λ j k i d e. takes-view l a h j i d ∙ sym (takes-view l a h k i e);
         unbound = λ k i u d e.
-            let p : u ≡ view (ownerOf []) (one (a i)) = Option·some-injective u (view (ownerOf []) (one (a i))) (sym e ∙ takes-view l a h k i d) in
+            let p : u ≡ view (ownerOf []) (one (a i)) =
+            Option·some-injective u (view (ownerOf []) (one (a i))) (sym e ∙ takes-view l a h k i d) in
             ap usesFace p ∙ above-unused 0 (one (a i));
         apart = apart;
       }

@@ -170,7 +170,8 @@ tag-byte (slot (function f n)) = omega arith
 tag-byte (slot (hole i)) = omega arith
 
 -- The main theorems. A head that is read was a field of its kind's tag, which has a place there
-pub head-field : (ctx : Context) (s : Bytes) (h : Head) → All Byte s → headOf ctx s ≡ got h → (field (kindTag (h .kind)) (h .content) ++ h .later ≡ s) × Placed ctx (h .kind)
+pub head-field : (ctx : Context) (s : Bytes) (h : Head) → All Byte s → headOf ctx s ≡ got h
+    → (field (kindTag (h .kind)) (h .content) ++ h .later ≡ s) × Placed ctx (h .kind)
 unfolding headOf
 head-field ctx s h b e =
     by-got (partsOf s) _ (unless-got (eqb (length s) 0) 7 _ e .1) (λ p parts e.
@@ -180,12 +181,14 @@ head-field ctx s h b e =
     subst (λ (h : Head). (field (kindTag (h .kind)) (h .content) ++ h .later ≡ s) × Placed ctx (h .kind)) (got-is e) (whole, r .1)))
 
 -- A field whose tag has a place there is read as a head of that kind
-pub field-head : (ctx : Context) (tag : ℕ) (k : Kind) (c later : Bytes) → kindOf ctx tag ≡ got k → headOf ctx (field tag c ++ later) ≡ got (record { kind = k; content = c; later = later })
+pub field-head : (ctx : Context) (tag : ℕ) (k : Kind) (c later : Bytes) → kindOf ctx tag ≡ got k
+    → headOf ctx (field tag c ++ later) ≡ got (record { kind = k; content = c; later = later })
 unfolding headOf
 field-head ctx tag k c later e = rw (field-some tag c later, field-parts tag c later, e)
 
 -- A content that is read says what its bytes are
-pub content-opened : (ctx : Context) (k : Kind) (c : Bytes) (x : Content) → All Byte c → Placed ctx k → contentOf k c ≡ got x → Opened ctx (kindTag k) c x
+pub content-opened : (ctx : Context) (k : Kind) (c : Bytes) (x : Content) → All Byte c → Placed ctx k → contentOf k c ≡ got x
+    → Opened ctx (kindTag k) c x
 unfolding contentOf
 content-opened ctx symbolKind c x b p e =
     let r = when-got (eqb (length c) 2) 6 _ e in
@@ -206,19 +209,22 @@ content-opened ctx binderKind c x b p e =
 content-opened ctx metavariableKind c x b p e =
     let r = when-got (eqb (length c) 1) 6 _ e in
     let q = when-got (ltb (getD c 0 0) metavariableCount) 10 _ (r .1) in
-    subst (Opened ctx 5 c) (got-is (q .1)) (refl, one-byte c (eqb-true (length c) 1 (r .0)), (p, ltb-true (getD c 0 0) metavariableCount (q .0), refl))
+    subst (Opened ctx 5 c) (got-is (q .1))
+    (refl, one-byte c (eqb-true (length c) 1 (r .0)), (p, ltb-true (getD c 0 0) metavariableCount (q .0), refl))
 content-opened ctx (functionKind n) c x b p e =
     let r = unless-got (eqb (length c) 0) 6 _ e in
     let some : (length c ≡ 0 → ⊥) = eqb-false (length c) 0 (r .0) in
     let q = when-got (ltb (getD c 0 0) metavariableCount) 10 _ (r .1) in
-    subst (Opened ctx 6 c) (got-is (q .1)) (refl, first-byte c (omega arith), λ f h. (p .0, ltb-true (getD c 0 0) metavariableCount (q .0), p .1, h))
+    subst (Opened ctx 6 c) (got-is (q .1))
+    (refl, first-byte c (omega arith), λ f h. (p .0, ltb-true (getD c 0 0) metavariableCount (q .0), p .1, h))
 content-opened ctx (holeKind i) c x b p e =
     let r = when-got (eqb (length c) 0) 6 _ e in
     let some : length c ≡ 0 = eqb-true (length c) 0 (r .0) in
     subst (Opened ctx 10 c) (got-is (r .1)) (refl, sym (none-left c (omega arith)), (p .0, p .1, refl))
 
 -- The content of a node that fits is read as that node
-pub content-on : (ctx : Context) (l : Named) (c : Forest Named) → NodeFits ctx l c → contentOf (kindOn l) (fixedPart l ++ encode c) ≡ got (contentOn l c)
+pub content-on : (ctx : Context) (l : Named) (c : Forest Named) → NodeFits ctx l c
+    → contentOf (kindOn l) (fixedPart l ++ encode c) ≡ got (contentOn l c)
 unfolding contentOf encode word
 content-on ctx (own (symbol n)) c fits = rw (fits .1, word-value n)
 content-on ctx (own (variable x)) c fits = rw (fits .1, word-value x)

@@ -59,7 +59,8 @@ node-stands (suc n) (cons l c s) t e =
       | yes h ↦ below (node-stands n c t (sym (choose-true (nodeAt n c) (nodeAt (n - size c) s) (ltb-yes n (size c) h)) ∙ e))
       | no h ↦
           let d : suc n ≡ suc (size c + (n - size c)) = omega arith in
-          beside (node-stands (n - size c) s t (sym (choose-false (nodeAt n c) (nodeAt (n - size c) s) (ltb-no n (size c) (omega arith))) ∙ e)) d
+          beside (node-stands (n - size c) s t
+          (sym (choose-false (nodeAt n c) (nodeAt (n - size c) s) (ltb-no n (size c) (omega arith))) ∙ e)) d
     ]
 
 -- The nodes of a subterm are nodes of the whole
@@ -77,7 +78,8 @@ module _ {E L M : Type 0} (into : L → E → E) (f : E → L → M) where
   abbrev pub relabelTree : E → Tree L → Tree M
   relabelTree e t = (f e (t .0), relabel into f (into (t .0) e) (t .1))
 
-  pub relabel-stands : {n : ℕ} {u : Forest L} {t : Tree L} → Stands n u t → (e : E) → (e′ : E) × Stands n (relabel into f e u) (relabelTree e′ t)
+  pub relabel-stands : {n : ℕ} {u : Forest L} {t : Tree L} → Stands n u t → (e : E)
+      → (e′ : E) × Stands n (relabel into f e u) (relabelTree e′ t)
   relabel-stands here e = (e, here)
   relabel-stands (below {l} h) e = let r = relabel-stands h (into l e) in (r .0, below (r .1))
   relabel-stands (beside {l} {c} {n} h d) e =
@@ -105,9 +107,11 @@ pub record WalkedOwn (k n : ℕ) (o : Own Variable (Unit {0})) (c s : Terms) (t 
 
 pub walked-own : (k n : ℕ) (o : Own Variable (Unit {0})) (c s : Terms) (t : Term) (s′ : Terms) (xs : List Face)
     → walk k n (cons (own o) c s) (graft t s′) ≡ some xs → WalkedOwn k n o c s t s′ xs
-walked-own k n o c s t s′ xs q = go (agrees o (t .0)) (walk (inner (own o) k) (suc n) c (t .1)) (walk k (suc n + size (t .1)) s s′) refl refl refl q
+walked-own k n o c s t s′ xs q =
+    go (agrees o (t .0)) (walk (inner (own o) k) (suc n) c (t .1)) (walk k (suc n + size (t .1)) s s′) refl refl refl q
   where
-    go : (b : Bool) (x y : Option (List Face)) → agrees o (t .0) ≡ b → walk (inner (own o) k) (suc n) c (t .1) ≡ x → walk k (suc n + size (t .1)) s s′ ≡ y
+    go : (b : Bool) (x y : Option (List Face)) → agrees o (t .0) ≡ b → walk (inner (own o) k) (suc n) c (t .1) ≡ x
+        → walk k (suc n + size (t .1)) s s′ ≡ y
         → join (guard b x) y ≡ some xs → WalkedOwn k n o c s t s′ xs
     go true (some x) (some y) d e f r = record { agree = true-T d; inside = x; later = y; areInside = e; areLater = f; whole = cc }
     go true (some x) none d e f r = never (cc)
@@ -190,7 +194,8 @@ source-there (hole i) n t s q = absurd (List·Memᴰ·not-nil q)
 abbrev Further : ℕ → Terms → Source → Type 0
 Further n e s = (j : ℕ) × (s .node ≡ n + j) × Stands j e (s .term)
 
-source-within : (n : ℕ) (e : Terms) (xs : List Face) → ((x : Face) → x ∈ xs → Within n e x) → (s : Source) → s ∈ each sourceOf xs → Further n e s
+source-within : (n : ℕ) (e : Terms) (xs : List Face) → ((x : Face) → x ∈ xs → Within n e x) → (s : Source) → s ∈ each sourceOf xs
+    → Further n e s
 source-within n e xs w s q =
     let y = each-mem sourceOf s xs q in
     let r = w (y .0) (y .1) in
@@ -198,7 +203,8 @@ source-within n e xs w s q =
     let t : s .term ≡ y .0 .term = source-at (y .0 .what) (y .0 .node) (y .0 .term) s (y .2) .1 in
     (r .0, d ∙ r .1, subst (λ (x : Term). Stands (r .0) e x) (sym t) (r .2))
 
-hole-within : (k n : ℕ) (a : Term) (e : Terms) (h : Face) → Within n e h → (s : Source) → s ∈ fromHole k a (some h) → ClosedTerm (s .term) → Further n e s
+hole-within : (k n : ℕ) (a : Term) (e : Terms) (h : Face) → Within n e h → (s : Source) → s ∈ fromHole k a (some h) → ClosedTerm (s .term)
+    → Further n e s
 hole-within k n a e h w s q d = go (lowerTerm (h .under) (h .term)) refl q
   where
     at : (u : Term) → lowerTerm (h .under) (h .term) ≡ some u → (o : Option (List Face)) → walk k (h .node) (one a) (one u) ≡ o
@@ -210,16 +216,19 @@ hole-within k n a e h w s q d = go (lowerTerm (h .under) (h .term)) refl q
         let j : h .node ≡ n + w .0 = w .1 in
         (w .0 + r .0, omega arith, stands-in (w .2) (lowered-stands (h .under) (h .term) u g (r .2) d) refl)
 
-    go : (o : Option Term) → lowerTerm (h .under) (h .term) ≡ o → s ∈ each sourceOf (orNone (andThen o (λ u. walk k (h .node) (one a) (one u)))) → Further n e s
+    go : (o : Option Term) → lowerTerm (h .under) (h .term) ≡ o
+        → s ∈ each sourceOf (orNone (andThen o (λ u. walk k (h .node) (one a) (one u)))) → Further n e s
     go none g m = absurd (List·Memᴰ·not-nil m)
     go (some u) g m = at u g (walk k (h .node) (one a) (one u)) refl m
 
-application-within : (b : ℕ → Term) (n : ℕ) (e : Terms) (x : Face) → Within n e x → (z : Slot) (s : Source) → s ∈ fromApplication b x z → ClosedTerm (s .term)
+application-within : (b : ℕ → Term) (n : ℕ) (e : Terms) (x : Face) → Within n e x → (z : Slot) (s : Source) → s ∈ fromApplication b x z
+    → ClosedTerm (s .term)
     → Further n e s
 application-within b n e x w (metavariable m) s q d = absurd (List·Memᴰ·not-nil q)
 application-within b n e x w (hole i) s q d = absurd (List·Memᴰ·not-nil q)
 application-within b n e x w (function f a) s q d =
-    let y = each-mem (λ i. fromHole (x .under) (argument (x .children) i) (lowestHole i (orNone (walk 0 (x .node) (one (b f)) (one (x .term)))))) s (upTo a) q in
+    let y = each-mem (λ i. fromHole (x .under) (argument (x .children) i)
+    (lowestHole i (orNone (walk 0 (x .node) (one (b f)) (one (x .term)))))) s (upTo a) q in
     further (at (walk 0 (x .node) (one (b f)) (one (x .term))) refl (y .0) (y .2))
   where
     further : Further (x .node) (one (x .term)) s → Further n e s
@@ -231,18 +240,21 @@ application-within b n e x w (function f a) s q d =
     atHole : (ys : List Face) → ((h : Face) → h ∈ ys → Within (x .node) (one (x .term)) h) → (i : ℕ) (o : Option Face) → lowestHole i ys ≡ o
         → s ∈ fromHole (x .under) (argument (x .children) i) o → Further (x .node) (one (x .term)) s
     atHole ys g i none f m = absurd (List·Memᴰ·not-nil m)
-    atHole ys g i (some h) f m = hole-within (x .under) (x .node) (argument (x .children) i) (one (x .term)) h (g h (lowest-is i ys h f .0)) s m d
+    atHole ys g i (some h) f m =
+        hole-within (x .under) (x .node) (argument (x .children) i) (one (x .term)) h (g h (lowest-is i ys h f .0)) s m d
 
     at : (o : Option (List Face)) → walk 0 (x .node) (one (b f)) (one (x .term)) ≡ o → (i : ℕ)
         → s ∈ fromHole (x .under) (argument (x .children) i) (lowestHole i (orNone o)) → Further (x .node) (one (x .term)) s
     at none g i m = absurd (List·Memᴰ·not-nil m)
     at (some ys) g i m = atHole ys (face-within 0 (x .node) (one (b f)) (one (x .term)) ys g) i (lowestHole i ys) refl m
 
-sources-within : (b : ℕ → Term) (e : Terms) (xs : List Face) → ((x : Face) → x ∈ xs → Within 0 e x) → (s : Source) → s ∈ sourcesIn b xs → ClosedTerm (s .term)
+sources-within : (b : ℕ → Term) (e : Terms) (xs : List Face) → ((x : Face) → x ∈ xs → Within 0 e x) → (s : Source) → s ∈ sourcesIn b xs
+    → ClosedTerm (s .term)
     → Further 0 e s
 sources-within b e xs w s q d =
     ⊎-elim (source-within 0 e xs w s)
-    (λ m. let y = each-mem (λ x. fromApplication b x (x .what)) s xs m in application-within b 0 e (y .0) (w (y .0) (y .1)) (y .0 .what) s (y .2) d)
+    (λ m. let y = each-mem (λ x. fromApplication b x (x .what)) s xs m in
+    application-within b 0 e (y .0) (w (y .0) (y .1)) (y .0 .what) s (y .2) d)
     (List·Memᴰ·append-cases (each sourceOf xs) q)
 
 -- Names. The scopes sc at the end of loc ++ sc lie outside the term
@@ -254,22 +266,28 @@ resolve-outside (y ∷ ys) i x h = go (eqb x y) (resolve ys (suc i) x) (resolve-
     more (free z) c = tt
     more (bound j) c = omega arith
 
-    go : (b : Bool) (v : Variable) → (closedVariable (suc i) v → v ≡ free x) → closedVariable i (choose b (bound i) v) → choose b (bound i) v ≡ free x
+    go : (b : Bool) (v : Variable) → (closedVariable (suc i) v → v ≡ free x) → closedVariable i (choose b (bound i) v)
+        → choose b (bound i) v ≡ free x
     go true v f c = absurd (omega arith)
     go false v f c = f (more v c)
 
-resolve-drop : (loc sc : List ℕ) (i x : ℕ) → closedVariable (i + length loc) (resolve (loc ++ sc) i x) → resolve (loc ++ sc) i x ≡ resolve loc i x
+resolve-drop : (loc sc : List ℕ) (i x : ℕ) → closedVariable (i + length loc) (resolve (loc ++ sc) i x)
+    → resolve (loc ++ sc) i x ≡ resolve loc i x
 resolve-drop [] sc i x h = let e : i + 0 ≡ i = omega arith in resolve-outside sc i x (subst (λ k. closedVariable k (resolve sc i x)) e h)
 resolve-drop (y ∷ loc) sc i x h =
     go (eqb x y) (resolve (loc ++ sc) (suc i) x) (resolve loc (suc i) x)
-    (λ c. resolve-drop loc sc (suc i) x (let e : i + suc (length loc) ≡ suc i + length loc = omega arith in subst (λ k. closedVariable k (resolve (loc ++ sc) (suc i) x)) e c)) h
+    (λ c. resolve-drop loc sc (suc i) x
+    (let e : i + suc (length loc) ≡ suc i + length loc = omega arith in
+    subst (λ k. closedVariable k (resolve (loc ++ sc) (suc i) x)) e c)) h
   where
-    go : (b : Bool) (v w : Variable) → (closedVariable (i + suc (length loc)) v → v ≡ w) → closedVariable (i + suc (length loc)) (choose b (bound i) v)
+    go : (b : Bool) (v w : Variable) → (closedVariable (i + suc (length loc)) v → v ≡ w)
+        → closedVariable (i + suc (length loc)) (choose b (bound i) v)
         → choose b (bound i) v ≡ choose b (bound i) w
     go true v w f c = refl
     go false v w f c = f c
 
-label-drop : (loc sc : List ℕ) (l : Named) → closedLabel (length loc) (namelessLabel (loc ++ sc) l) → namelessLabel (loc ++ sc) l ≡ namelessLabel loc l
+label-drop : (loc sc : List ℕ) (l : Named) → closedLabel (length loc) (namelessLabel (loc ++ sc) l)
+    → namelessLabel (loc ++ sc) l ≡ namelessLabel loc l
 label-drop loc sc (own (symbol n)) h = refl
 label-drop loc sc (own (variable x)) h =
     let e : length loc ≡ 0 + length loc = omega arith in
@@ -292,7 +310,8 @@ enter-length loc sc (own (application n)) = refl
 enter-length loc sc (own (binder b x)) = refl
 enter-length loc sc (slot z) = refl
 
-nameless-drop : (loc sc : List ℕ) (u : Forest Named) → Closed (length loc) (nameless (loc ++ sc) u) → nameless (loc ++ sc) u ≡ nameless loc u
+nameless-drop : (loc sc : List ℕ) (u : Forest Named) → Closed (length loc) (nameless (loc ++ sc) u)
+    → nameless (loc ++ sc) u ≡ nameless loc u
 nameless-drop loc sc nil h = refl
 nameless-drop loc sc (cons l c s) h =
     let e : enter l (loc ++ sc) ≡ enter l loc ++ sc = enter-append loc sc l in
@@ -325,7 +344,8 @@ face-node p xs q x m =
     rw j at (r .1)
 
 -- A value's node is the node where the value stands, also when it comes from a hole inside a face
-pub source-node : (p : Problem) (r : Row) (s : Source) → s ∈ sources p r → ClosedTerm (s .term) → nodeAt (s .node) (expressions p) ≡ some (s .term)
+pub source-node : (p : Problem) (r : Row) (s : Source) → s ∈ sources p r → ClosedTerm (s .term)
+    → nodeAt (s .node) (expressions p) ≡ some (s .term)
 source-node p r s q d = go (faces p) refl q
   where
     go : (o : Option (List Face)) → faces p ≡ o → s ∈ sourcesIn (rowBody p r) (orNone o) → nodeAt (s .node) (expressions p) ≡ some (s .term)

@@ -129,7 +129,8 @@ mem-marksOf n (some i) h = Memᴰ·append-left (none ∷ []) (mem-map some (mem-
 
 marksOf-mem : (n : ℕ) (m : Mark) → m ∈ marksOf n → Placed n m
 marksOf-mem n m h =
-    ⊎-elim (λ k. placed-none n m k .1) (λ k. subst (Placed n) (sym (List·Memᴰ·eq-of-singleton k)) tt) (List·Memᴰ·append-cases (map some (upTo n)) h)
+    ⊎-elim (λ k. placed-none n m k .1) (λ k. subst (Placed n) (sym (List·Memᴰ·eq-of-singleton k)) tt)
+    (List·Memᴰ·append-cases (map some (upTo n)) h)
 
 mem-allMarks : (n : ℕ) (ms : Marks) → All (Placed n) ms → ms ∈ allMarks n (length ms)
 mem-allMarks n [] h = List·Memᴰ·head refl
@@ -163,7 +164,8 @@ product-mem (xs ∷ xss) ys h = let (z, zs, i, j, e) = fronted-mem ys xs (produc
 pub allMarks-ordered : (n k : ℕ) → Ordered Earlier (allMarks n k)
 allMarks-ordered n zero = more (λ y m. absurd (List·Memᴰ·not-nil m)) empty
 allMarks-ordered n (suc k) =
-    fronted-ordered Before Earlier (λ x y u v h. here h) (λ x u v h. later h) (marksOf n) (allMarks n k) (marksOf-ordered n) (allMarks-ordered n k)
+    fronted-ordered Before Earlier (λ x y u v h. here h) (λ x u v h. later h) (marksOf n) (allMarks n k) (marksOf-ordered n)
+    (allMarks-ordered n k)
 
 pub allMarks-are : (n k : ℕ) (ms : Marks) → (ms ∈ allMarks n k) ↔ ((length ms ≡ k) × All (Placed n) ms)
 allMarks-are n k ms = (allMarks-mem n k ms, λ h. subst (λ (j : ℕ). ms ∈ allMarks n j) (h .0) (mem-allMarks n ms (h .1)))

@@ -113,7 +113,8 @@ said-here : (is : List Item) (i : Item) → Distinct (map (λ (j : Item). j .0) 
 said-here [] i d m = absurd (List·Memᴰ·not-nil m)
 said-here (j ∷ is) i d m =
     ⊎-elim
-    (λ (e : i ≡ j). item-said j is (i .0) (ap (λ (x : Item). eqb (x .0) (j .0)) e ∙ eqb-self (j .0)) ∙ ap (λ (x : Item). meant (x .1)) (sym e))
+    (λ (e : i ≡ j). item-said j is (i .0) (ap (λ (x : Item). eqb (x .0) (j .0)) e ∙ eqb-self (j .0))
+    ∙ ap (λ (x : Item). meant (x .1)) (sym e))
     (λ (q : i ∈ is).
     later-said j is (i .0)
     (eqb-other (i .0) (j .0) (λ e. d .0 (subst (λ (x : ℕ). x ∈ map (λ (y : Item). y .0) is) e (mem-map (λ (y : Item). y .0) q))))
@@ -238,7 +239,8 @@ module _ (p : Problem) (is : List Item) where
         says = record { once = once-distinct (map (λ (i : Item). i .0) is) (a .0); names = λ m. refl };
         solution = record {
           meets = sameTerms-eq (filled σ (patterns p)) (expressions p) (f .1);
-          bodies = λ g q. entry-body (placesOf p g) (σ g) (every-mem (λ h. isBodyEntry (placesOf p h) (σ h)) (applied (patterns p)) (k .0) g q);
+          bodies = λ g q. entry-body (placesOf p g) (σ g)
+              (every-mem (λ h. isBodyEntry (placesOf p h) (σ h)) (applied (patterns p)) (k .0) g q);
           values = λ m q. entry-value (σ m) (every-mem (λ h. isValueEntry (σ h)) (plain (patterns p)) (k .1) m q);
           others = known-others p is (every-mem knownItem is (b .0));
           openIdle = λ m o w q.

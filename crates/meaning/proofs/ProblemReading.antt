@@ -25,7 +25,8 @@ use Rattle.meaning.proofs.TermReading.{term-read-encodes, term-read-rea
 use Rattle.meaning.proofs.TermReading.{term-encode-whole}
 
 -- A pair of terms
-pair-faithful : (s : Bytes) (c : Constraint) → All Byte s → readPair s ≡ got c → (encode (one (c .pattern)) ++ encode (one (c .expression)) ≡ s) × ReadableConstraint c
+pair-faithful : (s : Bytes) (c : Constraint) → All Byte s → readPair s ≡ got c
+    → (encode (one (c .pattern)) ++ encode (one (c .expression)) ≡ s) × ReadableConstraint c
 unfolding readPair
 pair-faithful s c b e =
     by-got (readTerm maxDepth inPattern s) _ e (λ p first e.
@@ -36,13 +37,19 @@ pair-faithful s c b e =
     let back = term-read-whole maxDepth inExpression (p .1) (x .0) (x .1) bytes second (w .0) in
     subst (λ (c : Constraint). (encode (one (c .pattern)) ++ encode (one (c .expression)) ≡ s) × ReadableConstraint c) (got-is (w .1)) (
       ap (λ (l : Bytes). encode (one (p .0)) ++ l) back ∙ front,
-      (term-read-readable maxDepth inPattern s (p .0) (p .1) b first, term-read-readable maxDepth inExpression (p .1) (x .0) (x .1) bytes second),
+      (
+        term-read-readable maxDepth inPattern s (p .0) (p .1) b first,
+        term-read-readable maxDepth inExpression (p .1) (x .0) (x .1) bytes second,
+      ),
     )))
 
 pair-complete : (c : Constraint) → ReadableConstraint c → readPair (encode (one (c .pattern)) ++ encode (one (c .expression))) ≡ got c
 unfolding readPair
 pair-complete c r =
-    rw (term-encode-read maxDepth inPattern (c .pattern) (encode (one (c .expression))) (r .0), term-encode-whole maxDepth inExpression (c .expression) (r .1))
+    rw (
+      term-encode-read maxDepth inPattern (c .pattern) (encode (one (c .expression))) (r .0),
+      term-encode-whole maxDepth inExpression (c .expression) (r .1),
+    )
 
 -- A constraint's head
 head-faithful : (left : ℕ) (s : Bytes) (q : Parts) → All Byte s → constraintHead left s ≡ got q → field 7 (q .content) ++ q .later ≡ s
@@ -54,12 +61,14 @@ head-faithful left s q b e =
     let whole : field 7 (p .content) ++ p .later ≡ s = rw (← eqb-true (p .tag) 7 (w .0)) (parts-field s p b parts) in
     subst (λ (q : Parts). field 7 (q .content) ++ q .later ≡ s) (got-is (u .1)) whole)
 
-head-complete : (left : ℕ) (c later : Bytes) → constraintHead (suc left) (field 7 c ++ later) ≡ got (record { tag = 7; content = c; later = later })
+head-complete : (left : ℕ) (c later : Bytes)
+    → constraintHead (suc left) (field 7 c ++ later) ≡ got (record { tag = 7; content = c; later = later })
 unfolding constraintHead
 head-complete left c later = rw (field-parts 7 c later, ne-eqb (suc left) 0 (λ e. omega arith))
 
 -- Constraints
-encode-problem : (c : Constraint) (p : Problem) → encodeProblem (c ∷ p) ≡ field 7 (encode (one (c .pattern)) ++ encode (one (c .expression))) ++ encodeProblem p
+encode-problem : (c : Constraint) (p : Problem)
+    → encodeProblem (c ∷ p) ≡ field 7 (encode (one (c .pattern)) ++ encode (one (c .expression))) ++ encodeProblem p
 unfolding encodeProblem encodeConstraint
 encode-problem c p = refl
 
@@ -75,7 +84,8 @@ none-constrained left s t =
     let z : length s ≡ 0 = eqb-true (length s) 0 t in
     (none-encoded ∙ sym (none-left s (omega arith)), tt, omega arith)
 
-more-constrained : (left : ℕ) (s : Bytes) (q : Parts) (c : Constraint) (p : Problem) → All Byte s → field 7 (q .content) ++ q .later ≡ s → readPair (q .content) ≡ got c → Constrained left (q .later) p → Constrained (suc left) s (c ∷ p)
+more-constrained : (left : ℕ) (s : Bytes) (q : Parts) (c : Constraint) (p : Problem) → All Byte s → field 7 (q .content) ++ q .later ≡ s
+    → readPair (q .content) ≡ got c → Constrained left (q .later) p → Constrained (suc left) s (c ∷ p)
 more-constrained left s q c p b whole pair rest =
     let f = pair-faithful (q .content) c (field-content 7 (q .content) (q .later) s whole b) pair in
     (encode-problem c p ∙ ap₂ (λ (x y : Bytes). field 7 x ++ y) (f .0) (rest .0) ∙ whole, (f .1, rest .1), omega arith)
@@ -94,14 +104,21 @@ constraints-faithful (suc left) s p b e =
     let ih = constraints-faithful left (q .later) cs (field-later 7 (q .content) (q .later) s whole b) rest in
     subst (Constrained (suc left) s) (got-is e) (more-constrained left s q c cs b whole pair ih)))))
 
-constraints-complete : (left : ℕ) (p : Problem) → All ReadableConstraint p → length p ≤ left → readConstraints left (encodeProblem p) ≡ got p
+constraints-complete : (left : ℕ) (p : Problem) → All ReadableConstraint p → length p ≤ left
+    → readConstraints left (encodeProblem p) ≡ got p
 unfolding readConstraints
 constraints-complete zero [] r h = rw none-encoded
 constraints-complete (suc left) [] r h = rw none-encoded
 constraints-complete zero (c ∷ p) r h = absurd (omega arith)
 constraints-complete (suc left) (c ∷ p) r h =
     let content : Bytes = encode (one (c .pattern)) ++ encode (one (c .expression)) in
-    rw (encode-problem c p, field-some 7 content (encodeProblem p), head-complete left content (encodeProblem p), pair-complete c (r .0), constraints-complete left p (r .1) (omega arith))
+    rw (
+      encode-problem c p,
+      field-some 7 content (encodeProblem p),
+      head-complete left content (encodeProblem p),
+      pair-complete c (r .0),
+      constraints-complete left p (r .1) (omega arith),
+    )
 
 -- The whole input
 problem-faithful : (s : Bytes) (p : Problem) → All Byte s → readProblem s ≡ got p → (length s ≤ maxInput) × Constrained maxConstraints s p
@@ -119,14 +136,16 @@ constraint-bytes c r h =
     let whole = field-length 7 (p ++ x) in
     let both = length-append p x in
     field-bytes 7 (p ++ x) (omega arith) h
-    (all-append Byte p x (term-bytes maxDepth inPattern (c .pattern) (r .0) (omega arith)) (term-bytes maxDepth inExpression (c .expression) (r .1) (omega arith)))
+    (all-append Byte p x (term-bytes maxDepth inPattern (c .pattern) (r .0) (omega arith))
+    (term-bytes maxDepth inExpression (c .expression) (r .1) (omega arith)))
 
 constraints-bytes : (p : Problem) → All ReadableConstraint p → length (encodeProblem p) < 65536 → All Byte (encodeProblem p)
 unfolding encodeProblem
 constraints-bytes [] r h = tt
 constraints-bytes (c ∷ p) r h =
     let both = length-append (encodeConstraint c) (encodeProblem p) in
-    all-append Byte (encodeConstraint c) (encodeProblem p) (constraint-bytes c (r .0) (omega arith)) (constraints-bytes p (r .1) (omega arith))
+    all-append Byte (encodeConstraint c) (encodeProblem p) (constraint-bytes c (r .0) (omega arith))
+    (constraints-bytes p (r .1) (omega arith))
 
 -- The checks give back the problem that they are made on
 checked-same : (q p : Problem) → checkProblem q ≡ got p → q ≡ p
@@ -148,7 +167,8 @@ read-within s p b e =
 -- Every problem within the limits is read back from its encoding, which consists of bytes
 pub read-encode : (p : Problem) → WithinLimits p → readProblem (encodeProblem p) ≡ got p
 unfolding readProblem
-read-encode p w = rw (le-ltb maxInput (length (encodeProblem p)) (w .input)) (constraints-complete maxConstraints p (w .constraints) (w .count))
+read-encode p w = rw (le-ltb maxInput (length (encodeProblem p)) (w .input))
+    (constraints-complete maxConstraints p (w .constraints) (w .count))
 
 pub problem-bytes : (p : Problem) → WithinLimits p → All (λ b. b < 256) (encodeProblem p)
 unfolding maxInput

@@ -64,10 +64,14 @@ pub readable-expression : (levels : ℕ) (sc : List ℕ) (u : Forest Named) → 
 unfolding contextBelow
 readable-expression levels sc nil h = tt
 readable-expression zero sc (cons l c s) h = absurd h
-readable-expression (suc levels) sc (cons (own (symbol n)) c s) h = (tt, readable-expression levels sc c (h .1), readable-expression (suc levels) sc s (h .2))
-readable-expression (suc levels) sc (cons (own (variable x)) c s) h = (tt, readable-expression levels sc c (h .1), readable-expression (suc levels) sc s (h .2))
-readable-expression (suc levels) sc (cons (own (application n)) c s) h = (tt, readable-expression levels sc c (h .1), readable-expression (suc levels) sc s (h .2))
-readable-expression (suc levels) sc (cons (own (binder b x)) c s) h = (tt, readable-expression levels (x ∷ sc) c (h .1), readable-expression (suc levels) sc s (h .2))
+readable-expression (suc levels) sc (cons (own (symbol n)) c s) h =
+    (tt, readable-expression levels sc c (h .1), readable-expression (suc levels) sc s (h .2))
+readable-expression (suc levels) sc (cons (own (variable x)) c s) h =
+    (tt, readable-expression levels sc c (h .1), readable-expression (suc levels) sc s (h .2))
+readable-expression (suc levels) sc (cons (own (application n)) c s) h =
+    (tt, readable-expression levels sc c (h .1), readable-expression (suc levels) sc s (h .2))
+readable-expression (suc levels) sc (cons (own (binder b x)) c s) h =
+    (tt, readable-expression levels (x ∷ sc) c (h .1), readable-expression (suc levels) sc s (h .2))
 readable-expression (suc levels) sc (cons (slot (metavariable m)) c s) h = absurd (h .0 .0)
 readable-expression (suc levels) sc (cons (slot (function f n)) c s) h = absurd (h .0 .0)
 readable-expression (suc levels) sc (cons (slot (hole i)) c s) h = absurd (h .0 .0)
@@ -76,10 +80,14 @@ pub readable-argument : (levels : ℕ) (sc : List ℕ) (u : Forest Named) → Re
 unfolding contextBelow
 readable-argument levels sc nil h = tt
 readable-argument zero sc (cons l c s) h = absurd h
-readable-argument (suc levels) sc (cons (own (symbol n)) c s) h = (tt, readable-argument levels sc c (h .1), readable-argument (suc levels) sc s (h .2))
-readable-argument (suc levels) sc (cons (own (variable x)) c s) h = (tt, readable-argument levels sc c (h .1), readable-argument (suc levels) sc s (h .2))
-readable-argument (suc levels) sc (cons (own (application n)) c s) h = (tt, readable-argument levels sc c (h .1), readable-argument (suc levels) sc s (h .2))
-readable-argument (suc levels) sc (cons (own (binder b x)) c s) h = (tt, readable-argument levels (x ∷ sc) c (h .1), readable-argument (suc levels) sc s (h .2))
+readable-argument (suc levels) sc (cons (own (symbol n)) c s) h =
+    (tt, readable-argument levels sc c (h .1), readable-argument (suc levels) sc s (h .2))
+readable-argument (suc levels) sc (cons (own (variable x)) c s) h =
+    (tt, readable-argument levels sc c (h .1), readable-argument (suc levels) sc s (h .2))
+readable-argument (suc levels) sc (cons (own (application n)) c s) h =
+    (tt, readable-argument levels sc c (h .1), readable-argument (suc levels) sc s (h .2))
+readable-argument (suc levels) sc (cons (own (binder b x)) c s) h =
+    (tt, readable-argument levels (x ∷ sc) c (h .1), readable-argument (suc levels) sc s (h .2))
 readable-argument (suc levels) sc (cons (slot (metavariable m)) c s) h =
     (relabel-nil enter namelessLabel sc c (h .0 .2), readable-argument levels sc c (h .1), readable-argument (suc levels) sc s (h .2))
 readable-argument (suc levels) sc (cons (slot (function f n)) c s) h = absurd (h .0 .0)
@@ -97,10 +105,14 @@ pub readable-pattern : (levels : ℕ) (sc : List ℕ) (u : Forest Named) → Rea
 unfolding contextBelow
 readable-pattern levels sc nil h = tt
 readable-pattern zero sc (cons l c s) h = absurd h
-readable-pattern (suc levels) sc (cons (own (symbol n)) c s) h = (tt, readable-pattern levels sc c (h .1), readable-pattern (suc levels) sc s (h .2))
-readable-pattern (suc levels) sc (cons (own (variable x)) c s) h = (tt, readable-pattern levels sc c (h .1), readable-pattern (suc levels) sc s (h .2))
-readable-pattern (suc levels) sc (cons (own (application n)) c s) h = (tt, readable-pattern levels sc c (h .1), readable-pattern (suc levels) sc s (h .2))
-readable-pattern (suc levels) sc (cons (own (binder b x)) c s) h = (tt, readable-pattern levels (x ∷ sc) c (h .1), readable-pattern (suc levels) sc s (h .2))
+readable-pattern (suc levels) sc (cons (own (symbol n)) c s) h =
+    (tt, readable-pattern levels sc c (h .1), readable-pattern (suc levels) sc s (h .2))
+readable-pattern (suc levels) sc (cons (own (variable x)) c s) h =
+    (tt, readable-pattern levels sc c (h .1), readable-pattern (suc levels) sc s (h .2))
+readable-pattern (suc levels) sc (cons (own (application n)) c s) h =
+    (tt, readable-pattern levels sc c (h .1), readable-pattern (suc levels) sc s (h .2))
+readable-pattern (suc levels) sc (cons (own (binder b x)) c s) h =
+    (tt, readable-pattern levels (x ∷ sc) c (h .1), readable-pattern (suc levels) sc s (h .2))
 readable-pattern (suc levels) sc (cons (slot (metavariable m)) c s) h =
     let a : IsArgument (nameless sc c) = readable-argument levels sc c (h .1) in
     (relabel-nil enter namelessLabel sc c (h .0 .2), argument-pattern (nameless sc c) a, readable-pattern (suc levels) sc s (h .2))
@@ -129,23 +141,29 @@ unfolding Small
 readable-small levels ctx sc nil h = (λ m q. absurd (List·Memᴰ·not-nil q), λ m q. absurd (List·Memᴰ·not-nil q))
 readable-small zero ctx sc (cons l c s) h = absurd h
 readable-small (suc levels) ctx sc (cons (own (symbol n)) c s) h =
-    both (applications (nameless sc c)) (applications (nameless sc s)) (plain (nameless sc c)) (plain (nameless sc s)) (readable-small levels (contextBelow (own (symbol n)) ctx) sc c (h .1)) (readable-small (suc levels) ctx sc s (h .2))
+    both (applications (nameless sc c)) (applications (nameless sc s)) (plain (nameless sc c)) (plain (nameless sc s))
+    (readable-small levels (contextBelow (own (symbol n)) ctx) sc c (h .1)) (readable-small (suc levels) ctx sc s (h .2))
 readable-small (suc levels) ctx sc (cons (own (variable x)) c s) h =
-    both (applications (nameless sc c)) (applications (nameless sc s)) (plain (nameless sc c)) (plain (nameless sc s)) (readable-small levels (contextBelow (own (variable x)) ctx) sc c (h .1)) (readable-small (suc levels) ctx sc s (h .2))
+    both (applications (nameless sc c)) (applications (nameless sc s)) (plain (nameless sc c)) (plain (nameless sc s))
+    (readable-small levels (contextBelow (own (variable x)) ctx) sc c (h .1)) (readable-small (suc levels) ctx sc s (h .2))
 readable-small (suc levels) ctx sc (cons (own (application n)) c s) h =
-    both (applications (nameless sc c)) (applications (nameless sc s)) (plain (nameless sc c)) (plain (nameless sc s)) (readable-small levels (contextBelow (own (application n)) ctx) sc c (h .1)) (readable-small (suc levels) ctx sc s (h .2))
+    both (applications (nameless sc c)) (applications (nameless sc s)) (plain (nameless sc c)) (plain (nameless sc s))
+    (readable-small levels (contextBelow (own (application n)) ctx) sc c (h .1)) (readable-small (suc levels) ctx sc s (h .2))
 readable-small (suc levels) ctx sc (cons (own (binder b x)) c s) h =
-    both (applications (nameless (x ∷ sc) c)) (applications (nameless sc s)) (plain (nameless (x ∷ sc) c)) (plain (nameless sc s)) (readable-small levels (contextBelow (own (binder b x)) ctx) (x ∷ sc) c (h .1)) (readable-small (suc levels) ctx sc s (h .2))
+    both (applications (nameless (x ∷ sc) c)) (applications (nameless sc s)) (plain (nameless (x ∷ sc) c)) (plain (nameless sc s))
+    (readable-small levels (contextBelow (own (binder b x)) ctx) (x ∷ sc) c (h .1)) (readable-small (suc levels) ctx sc s (h .2))
 readable-small (suc levels) ctx sc (cons (slot (metavariable m)) c s) h =
     let r = readable-small (suc levels) ctx sc s (h .2) in
     (r .0, λ k q. ⊎-elim (λ (e : k ≡ m). subst (λ (x : ℕ). x < metavariableCount) (sym e) (h .0 .1)) (r .1 k) (List·Memᴰ·cases-cons q))
 readable-small (suc levels) ctx sc (cons (slot (function f n)) c s) h =
-    let r = both (applications (nameless sc c)) (applications (nameless sc s)) (plain (nameless sc c)) (plain (nameless sc s)) (readable-small levels (contextBelow (slot (function f n)) ctx) sc c (h .1)) (readable-small (suc levels) ctx sc s (h .2)) in
+    let r = both (applications (nameless sc c)) (applications (nameless sc s)) (plain (nameless sc c)) (plain (nameless sc s))
+    (readable-small levels (contextBelow (slot (function f n)) ctx) sc c (h .1)) (readable-small (suc levels) ctx sc s (h .2)) in
     (λ a q. ⊎-elim (λ (e : a ≡ (f, n)). subst Tagged (sym e) (h .0 .1, h .0 .2)) (r .0 a) (List·Memᴰ·cases-cons q), r .1)
 readable-small (suc levels) ctx sc (cons (slot (hole i)) c s) h = readable-small (suc levels) ctx sc s (h .2)
 
 -- A list of readable terms is a readable forest
-readable-forest : (levels : ℕ) (ctx : Context) (ts : List NamedTerm) → All (λ t. Readable levels ctx (one t)) ts → Readable levels ctx (forestOf ts)
+readable-forest : (levels : ℕ) (ctx : Context) (ts : List NamedTerm) → All (λ t. Readable levels ctx (one t)) ts
+    → Readable levels ctx (forestOf ts)
 readable-forest levels ctx [] h = tt
 readable-forest zero ctx (t ∷ ts) h = absurd (h .0)
 readable-forest (suc levels) ctx (t ∷ ts) h = (h .0 .0, h .0 .1, readable-forest (suc levels) ctx ts (h .1))
@@ -153,14 +171,17 @@ readable-forest (suc levels) ctx (t ∷ ts) h = (h .0 .0, h .0 .1, readable-fore
 pub patterns-readable : (p : Problem) → WithinLimits p → Readable maxDepth inPattern (namedPatterns p)
 patterns-readable p w = readable-forest maxDepth inPattern (map (λ (c : Constraint). c .pattern) p) (each-pattern p (w .constraints))
   where
-    each-pattern : (cs : Problem) → All ReadableConstraint cs → All (λ t. Readable maxDepth inPattern (one t)) (map (λ (c : Constraint). c .pattern) cs)
+    each-pattern : (cs : Problem) → All ReadableConstraint cs
+        → All (λ t. Readable maxDepth inPattern (one t)) (map (λ (c : Constraint). c .pattern) cs)
     each-pattern [] h = tt
     each-pattern (c ∷ cs) h = (h .0 .0, each-pattern cs (h .1))
 
 pub expressions-readable : (p : Problem) → WithinLimits p → Readable maxDepth inExpression (namedExpressions p)
-expressions-readable p w = readable-forest maxDepth inExpression (map (λ (c : Constraint). c .expression) p) (each-expression p (w .constraints))
+expressions-readable p w =
+    readable-forest maxDepth inExpression (map (λ (c : Constraint). c .expression) p) (each-expression p (w .constraints))
   where
-    each-expression : (cs : Problem) → All ReadableConstraint cs → All (λ t. Readable maxDepth inExpression (one t)) (map (λ (c : Constraint). c .expression) cs)
+    each-expression : (cs : Problem) → All ReadableConstraint cs
+        → All (λ t. Readable maxDepth inExpression (one t)) (map (λ (c : Constraint). c .expression) cs)
     each-expression [] h = tt
     each-expression (c ∷ cs) h = (h .0 .1, each-expression cs (h .1))
 
@@ -169,13 +190,15 @@ pub not-both-ways : (p : Problem) → checkProblem p ≡ got p → bothWays p �
 unfolding checkProblem
 not-both-ways p e =
     by-test (bothWays p)
-    (λ h. never (cc (choose-true {A = Answer Problem} (refused 12) (choose (ltb maxFunctions (length (functions p))) (refused 13) (choose (overlarge p) (refused 14) (got p))) h)))
+    (λ h. never (cc (choose-true {A = Answer Problem} (refused 12)
+    (choose (ltb maxFunctions (length (functions p))) (refused 13) (choose (overlarge p) (refused 14) (got p))) h)))
     (λ h. h)
 
 separated : (p : Problem) → bothWays p ≡ false → (m : ℕ) → m < metavariableCount → m ∈ applied (patterns p) → m ∈ plain (patterns p) → ⊥
 unfolding bothWays
 separated p e m small a b =
-    let ok : T (every (λ x. not (isFunction p x && isPlain p x)) (upTo metavariableCount)) = not-not (every (λ x. not (isFunction p x && isPlain p x)) (upTo metavariableCount)) e in
+    let ok : T (every (λ x. not (isFunction p x && isPlain p x)) (upTo metavariableCount)) =
+    not-not (every (λ x. not (isFunction p x && isPlain p x)) (upTo metavariableCount)) e in
     let f : not (isFunction p m && isPlain p m) ≡ true =
     all-mem (λ x. not (isFunction p x && isPlain p x) ≡ true) m (upTo metavariableCount)
     (every-all (λ x. not (isFunction p x && isPlain p x)) (upTo metavariableCount) ok) (mem-upTo metavariableCount m small) in
@@ -188,7 +211,8 @@ separated p e m small a b =
     not-not false q = absurd (true≢false q)
 
 -- A function of a readable problem has an application that has a tag
-tagged-applied : (p : Problem) → WithinLimits p → (f : ℕ) → f ∈ applied (patterns p) → (n : ℕ) × ((f, n) ∈ applications (patterns p)) × Tagged (f, n)
+tagged-applied : (p : Problem) → WithinLimits p → (f : ℕ) → f ∈ applied (patterns p)
+    → (n : ℕ) × ((f, n) ∈ applications (patterns p)) × Tagged (f, n)
 unfolding Small
 tagged-applied p w f h =
     let (a, m, e) = map-mem (λ (x : ℕ × ℕ). x .0) f (applications (patterns p)) h in
@@ -213,7 +237,8 @@ places-among : (f n : ℕ) (xs : List (ℕ × ℕ)) → (f, n) ∈ xs → (f, pl
 places-among f n [] m = absurd (List·Memᴰ·not-nil m)
 places-among f n (a ∷ xs) m = go (eqb f (a .0)) refl (places-among f n xs) (List·Memᴰ·cases-cons m)
   where
-    go : (b : Bool) → eqb f (a .0) ≡ b → ((f, n) ∈ xs → (f, placesAmong f xs) ∈ xs) → ((f, n) ≡ a) ⊎ ((f, n) ∈ xs) → (f, choose b (a .1) (placesAmong f xs)) ∈ (a ∷ xs)
+    go : (b : Bool) → eqb f (a .0) ≡ b → ((f, n) ∈ xs → (f, placesAmong f xs) ∈ xs) → ((f, n) ≡ a) ⊎ ((f, n) ∈ xs)
+        → (f, choose b (a .1) (placesAmong f xs)) ∈ (a ∷ xs)
     go true q ih r = List·Memᴰ·head (ap (λ (g : ℕ). (g, a .1)) (eqb-eq f (a .0) q))
     go false q ih (inl r) = absurd (false≢true (sym q ∙ ap (λ (x : ℕ × ℕ). eqb f (x .0)) (sym r) ∙ eqb-self f))
     go false q ih (inr r) = List·Memᴰ·tail (ih r)
@@ -223,7 +248,8 @@ pub one-place : (p : Problem) → WithinLimits p → (f : ℕ) → f ∈ applied
 unfolding placesOf Small
 one-place p w f h =
     let (n, m, t) = tagged-applied p w f h in
-    readable-small maxDepth inPattern [] (namedPatterns p) (patterns-readable p w) .0 (f, placesOf p f) (places-among f n (applications (patterns p)) m) .1
+    readable-small maxDepth inPattern [] (namedPatterns p) (patterns-readable p w) .0 (f, placesOf p f)
+    (places-among f n (applications (patterns p)) m) .1
 
 -- EVERY APPLICATION of a function has as many arguments as the function has places
 pub same-places : (p : Problem) → WithinLimits p → (f n : ℕ) → (f, n) ∈ applications (patterns p) → n ≡ placesOf p f
@@ -233,7 +259,8 @@ same-places p w f n m =
     ∙ sym (one-place p w f (mem-map (λ (a : ℕ × ℕ). a .0) m))
 
 -- Each place of a function has a hole with a tag
-pub hole-tagged : (p : Problem) → WithinLimits p → (f i : ℕ) → f ∈ applied (patterns p) → i < placesOf p f → NodeFits inBody (slot (hole i)) nil
+pub hole-tagged : (p : Problem) → WithinLimits p → (f i : ℕ) → f ∈ applied (patterns p) → i < placesOf p f
+    → NodeFits inBody (slot (hole i)) nil
 hole-tagged p w f i h small = let e = one-place p w f h in (tt, omega arith, refl)
 
 -- The ascending lists hold just the metavariables that occur
@@ -243,7 +270,9 @@ functions-applied p f h = isIn-mem f (applied (patterns p)) (keep-mem (isFunctio
 
 pub applied-functions : (p : Problem) → Proper p → (f : ℕ) → f ∈ applied (patterns p) → f ∈ functions p
 unfolding functions
-applied-functions p c f h = mem-keep (isFunction p) f (upTo metavariableCount) (mem-upTo metavariableCount f (c .smallApplied f h)) (mem-isIn f (applied (patterns p)) h)
+applied-functions p c f h =
+    mem-keep (isFunction p) f (upTo metavariableCount) (mem-upTo metavariableCount f (c .smallApplied f h))
+    (mem-isIn f (applied (patterns p)) h)
 
 pub applied-occurs : (p : Problem) → Proper p → (m : ℕ) → m ∈ applied (patterns p) → m ∈ metavariables p
 unfolding metavariables

@@ -40,7 +40,8 @@ clearNode (some i) below unmarked = unmarked
 
 abbrev pub Clear : {L : Type 0} → Marks → Forest L → Type 0
 Clear ms nil = Unit {0}
-Clear ms (cons l c s) = clearNode (mark ms) (Clear (rest ms) c) (take (size c) (rest ms) ≡ blank (size c)) × Clear (drop (size c) (rest ms)) s
+Clear ms (cons l c s) = clearNode (mark ms) (Clear (rest ms) c) (take (size c) (rest ms) ≡ blank (size c))
+    × Clear (drop (size c) (rest ms)) s
 
 abbrev pub holesOf : (ℕ → Term) → Terms → Marks
 holesOf a nil = []
@@ -55,7 +56,11 @@ module _ (b : Marks) where
   punch-more ms nil h = refl
   punch-more [] (cons l c s) h = absurd (omega arith)
   punch-more (m ∷ ms) (cons l c s) h =
-      rw (punch-more ms c (omega arith), drop-append-le (size c) ms b (omega arith), punch-more (drop (size c) ms) s (rw length-drop (omega arith)))
+      rw (
+        punch-more ms c (omega arith),
+        drop-append-le (size c) ms b (omega arith),
+        punch-more (drop (size c) ms) s (rw length-drop (omega arith)),
+      )
 
   fits-more : (a : ℕ → Term) (k : ℕ) (ms : Marks) (u : Terms) → size u ≤ length ms → Fits a k ms u → Fits a k (ms ++ b) u
   fits-more a k ms nil h f = tt
@@ -98,7 +103,12 @@ module _ (a : ℕ → Term) where
   holes-length k (cons (slot (metavariable m)) c s) = rw (length-append (holesOf a c) (holesOf a s), holes-length k c, holes-length k s)
   holes-length k (cons (slot (function m d)) c s) = rw (length-append (holesOf a c) (holesOf a s), holes-length k c, holes-length k s)
   holes-length k (cons (slot (hole i)) c s) =
-      rw (length-append (blank (size (a i .1))) (holesOf a s), blank-length (size (a i .1)), holes-length k s, shift-size k (inner (a i .0) 0) (a i .1))
+      rw (
+        length-append (blank (size (a i .1))) (holesOf a s),
+        blank-length (size (a i .1)),
+        holes-length k s,
+        shift-size k (inner (a i .0) 0) (a i .1),
+      )
 
   module _ (n : ℕ) where
     pub punch-holes : (k : ℕ) (b : Terms) → IsBody n b → punch (holesOf a b) (plugAll a k b) ≡ b
@@ -124,14 +134,16 @@ module _ (a : ℕ → Term) where
     fits-holes k nil h = tt
     fits-holes k (cons (own o) c s) h =
         let e : length (holesOf a c) ≡ size (plugAll a (inner (own o) k) c) = holes-length (inner (own o) k) c in (
-          fits-more (holesOf a s) a (inner (own o) k) (holesOf a c) (plugAll a (inner (own o) k) c) (omega arith) (fits-holes (inner (own o) k) c (h .1)),
+          fits-more (holesOf a s) a (inner (own o) k) (holesOf a c) (plugAll a (inner (own o) k) c) (omega arith)
+              (fits-holes (inner (own o) k) c (h .1)),
           rw (drop-at (holesOf a c) (holesOf a s) (size (plugAll a (inner (own o) k) c)) e) (fits-holes k s (h .2)),
         )
     fits-holes k (cons (slot (metavariable m)) c s) h = absurd (h .0)
     fits-holes k (cons (slot (function m d)) c s) h = absurd (h .0)
     fits-holes k (cons (slot (hole i)) c s) h = (
       refl,
-      rw (drop-at (blank (size (a i .1))) (holesOf a s) (size (shift k (inner (a i .0) 0) (a i .1))) (hole-length a k i)) (fits-holes k s (h .2)),
+      rw (drop-at (blank (size (a i .1))) (holesOf a s) (size (shift k (inner (a i .0) 0) (a i .1))) (hole-length a k i))
+          (fits-holes k s (h .2)),
     )
 
     pub clear-holes : (k : ℕ) (b : Terms) → IsBody n b → Clear (holesOf a b) (plugAll a k b)
@@ -145,7 +157,8 @@ module _ (a : ℕ → Term) where
     clear-holes k (cons (slot (function m d)) c s) h = absurd (h .0)
     clear-holes k (cons (slot (hole i)) c s) h =
         let e : length (blank (size (a i .1))) ≡ size (shift k (inner (a i .0) 0) (a i .1)) = hole-length a k i in (
-          take-at (blank (size (a i .1))) (holesOf a s) (size (shift k (inner (a i .0) 0) (a i .1))) e ∙ rw (shift-size k (inner (a i .0) 0) (a i .1)),
+          take-at (blank (size (a i .1))) (holesOf a s) (size (shift k (inner (a i .0) 0) (a i .1))) e
+              ∙ rw (shift-size k (inner (a i .0) 0) (a i .1)),
           rw (drop-at (blank (size (a i .1))) (holesOf a s) (size (shift k (inner (a i .0) 0) (a i .1))) e) (clear-holes k s (h .2)),
         )
 
@@ -163,14 +176,16 @@ same-front (some i ∷ p) [] (cons (own o) c s) h x y f g e = absurd (omega arit
 same-front (none ∷ p) (none ∷ q) (cons (own o) c s) h x y f g e =
     ap (λ (z : Marks). none ∷ z) (split-eq (size c) (size s) p q
     (same-front p q c (h .1) (omega arith) (omega arith) (f .0) (g .0) (cc))
-    (same-front (drop (size c) p) (drop (size c) q) s (h .2) (rw length-drop (omega arith)) (rw length-drop (omega arith)) (f .1) (g .1) (cc)))
+    (same-front (drop (size c) p) (drop (size c) q) s (h .2) (rw length-drop (omega arith)) (rw length-drop (omega arith)) (f .1) (g .1)
+    (cc)))
 same-front (none ∷ p) (some j ∷ q) (cons (own o) c s) h x y f g e = never (cc)
 same-front (some i ∷ p) (none ∷ q) (cons (own o) c s) h x y f g e = never (cc)
 same-front (some i ∷ p) (some j ∷ q) (cons (own o) c s) h x y f g e =
     let ij : i ≡ j = cc in
     rw ij (ap (λ (z : Marks). some j ∷ z) (split-eq (size c) (size s) p q
     (f .0 ∙ sym (g .0))
-    (same-front (drop (size c) p) (drop (size c) q) s (h .2) (rw length-drop (omega arith)) (rw length-drop (omega arith)) (f .1) (g .1) (cc))))
+    (same-front (drop (size c) p) (drop (size c) q) s (h .2) (rw length-drop (omega arith)) (rw length-drop (omega arith)) (f .1) (g .1)
+    (cc))))
 
 -- UNIQUE
 pub punch-unique : (p q : Marks) (u : Terms) → IsExpression u → length p ≡ size u → length q ≡ size u → Clear p u → Clear q u

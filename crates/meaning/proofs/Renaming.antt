@@ -92,7 +92,8 @@ kept y (cons l c s) sc sc′ o m =
     (kept y s sc sc′ (q .1) m)
 
 -- A forest in which y does not occur reads as its renaming
-turned-label : (x y : ℕ) (l : Named) (sc sc′ : List ℕ) → occursLabel y l ≡ false → Turns x y sc sc′ → namelessLabel sc l ≡ namelessLabel sc′ (withVariable (newName x y) l)
+turned-label : (x y : ℕ) (l : Named) (sc sc′ : List ℕ) → occursLabel y l ≡ false → Turns x y sc sc′
+    → namelessLabel sc l ≡ namelessLabel sc′ (withVariable (newName x y) l)
 turned-label x y (own (symbol n)) sc sc′ o m = refl
 turned-label x y (own (variable z)) sc sc′ o m = ap (λ (v : Variable). own (variable v)) (by-test (eqb x z) renames other)
   where
@@ -106,7 +107,9 @@ turned-label x y (own (binder b z)) sc sc′ o m = refl
 turned-label x y (slot z) sc sc′ o m = refl
 
 -- The children of a node, from what is known of them in all scopes
-turned-below : (x y : ℕ) (l : Named) (c : Forest Named) (sc sc′ : List ℕ) → occursLabel y l ≡ false → occurs y c ≡ false → Turns x y sc sc′ → ((r r′ : List ℕ) → Turns x y r r′ → nameless r c ≡ nameless r′ (rename x y c)) → nameless (enter l sc) c ≡ nameless (enter (withVariable (newName x y) l) sc′) (choose (binds x l) c (rename x y c))
+turned-below : (x y : ℕ) (l : Named) (c : Forest Named) (sc sc′ : List ℕ) → occursLabel y l ≡ false → occurs y c ≡ false → Turns x y sc sc′
+    → ((r r′ : List ℕ) → Turns x y r r′ → nameless r c ≡ nameless r′ (rename x y c))
+    → nameless (enter l sc) c ≡ nameless (enter (withVariable (newName x y) l) sc′) (choose (binds x l) c (rename x y c))
 turned-below x y (own (symbol n)) c sc sc′ o p m ih = ih sc sc′ m
 turned-below x y (own (variable z)) c sc sc′ o p m ih = ih sc sc′ m
 turned-below x y (own (application n)) c sc sc′ o p m ih = ih sc sc′ m
@@ -121,7 +124,8 @@ turned-below x y (own (binder b w)) c sc sc′ o p m ih = by-test (eqb x w) hide
     passes e = ih (w ∷ sc) (w ∷ sc′) (turns-under x y w sc sc′ e o m) ∙ ap (nameless (w ∷ sc′)) (sym (choose-false c (rename x y c) e))
 turned-below x y (slot z) c sc sc′ o p m ih = ih sc sc′ m
 
-turned : (x y : ℕ) (u : Forest Named) (sc sc′ : List ℕ) → occurs y u ≡ false → Turns x y sc sc′ → nameless sc u ≡ nameless sc′ (rename x y u)
+turned : (x y : ℕ) (u : Forest Named) (sc sc′ : List ℕ) → occurs y u ≡ false → Turns x y sc sc′
+    → nameless sc u ≡ nameless sc′ (rename x y u)
 turned x y nil sc sc′ o m = refl
 turned x y (cons l c s) sc sc′ o m =
     let p = or-false (occursLabel y l) (occurs y c || occurs y s) o in
@@ -141,7 +145,8 @@ resolve-past : (sc : List ℕ) (i j x : ℕ) → i < j → sameVariable (resolve
 resolve-past [] i j x h = refl
 resolve-past (y ∷ ys) i j x h = go (eqb x y) (resolve-past ys i (suc j) x (omega arith))
   where
-    go : (b : Bool) → sameVariable (resolve ys (suc j) x) (bound i) ≡ false → sameVariable (choose b (bound j) (resolve ys (suc j) x)) (bound i) ≡ false
+    go : (b : Bool) → sameVariable (resolve ys (suc j) x) (bound i) ≡ false
+        → sameVariable (choose b (bound j) (resolve ys (suc j) x)) (bound i) ≡ false
     go true ih = eqb-other j i (λ e. omega arith)
     go false ih = ih
 
@@ -149,7 +154,8 @@ name-resolve : (sc : List ℕ) (i x : ℕ) → nameIn sc i (resolve sc i x) ≡ 
 name-resolve [] i x = refl
 name-resolve (y ∷ ys) i x = go (eqb x y) refl (name-resolve ys (suc i) x)
   where
-    go : (b : Bool) → eqb x y ≡ b → nameIn ys (suc i) (resolve ys (suc i) x) ≡ x → nameIn (y ∷ ys) i (choose b (bound i) (resolve ys (suc i) x)) ≡ x
+    go : (b : Bool) → eqb x y ≡ b → nameIn ys (suc i) (resolve ys (suc i) x) ≡ x
+        → nameIn (y ∷ ys) i (choose b (bound i) (resolve ys (suc i) x)) ≡ x
     go true e ih = choose-true _ _ (eqb-self i) ∙ sym (eqb-eq x y e)
     go false e ih = choose-false _ _ (resolve-past ys i (suc i) x (omega arith)) ∙ ih
 
@@ -175,7 +181,8 @@ rebind-alpha z (own (application n)) c s o = same
 rebind-alpha z (own (binder b x)) c s o = step o
 rebind-alpha z (slot y) c s o = same
 
-rebind-below : (z : ℕ) (l : Named) (c : Forest Named) (sc : List ℕ) → occurs z c ≡ false → nameless (enter l sc) c ≡ nameless (enter (rebind z l) sc) (renameBelow z l c)
+rebind-below : (z : ℕ) (l : Named) (c : Forest Named) (sc : List ℕ) → occurs z c ≡ false
+    → nameless (enter l sc) c ≡ nameless (enter (rebind z l) sc) (renameBelow z l c)
 rebind-below z (own (symbol n)) c sc o = refl
 rebind-below z (own (variable x)) c sc o = refl
 rebind-below z (own (application n)) c sc o = refl
@@ -236,12 +243,15 @@ renameBelow-size z (own (binder b x)) c = rename-size x z c
 renameBelow-size z (slot y) c = refl
 
 -- Two nodes that read the same: both take the bound name z, fresh to both, and are then alike up to what is below
-join-nodes : (z : ℕ) (l l′ : Named) (c c′ s s′ : Forest Named) → occurs z c ≡ false → occurs z c′ ≡ false → rebind z l ≡ rebind z l′ → Alpha (renameBelow z l c) (renameBelow z l′ c′) → Alpha s s′ → Alpha (cons l c s) (cons l′ c′ s′)
+join-nodes : (z : ℕ) (l l′ : Named) (c c′ s s′ : Forest Named) → occurs z c ≡ false → occurs z c′ ≡ false → rebind z l ≡ rebind z l′
+    → Alpha (renameBelow z l c) (renameBelow z l′ c′) → Alpha s s′ → Alpha (cons l c s) (cons l′ c′ s′)
 join-nodes z l l′ c c′ s s′ o o′ r a b =
     let mid = subst (λ (k : Named). Alpha (cons (rebind z l) (renameBelow z l c) s) (cons k (renameBelow z l′ c′) s′)) r (node a b) in
     chain (rebind-alpha z l c s o) (chain mid (back (rebind-alpha z l′ c′ s′ o′)))
 
-same-below : (z : ℕ) (l l′ : Named) (c c′ : Forest Named) (sc : List ℕ) → occurs z c ≡ false → occurs z c′ ≡ false → rebind z l ≡ rebind z l′ → nameless (enter l sc) c ≡ nameless (enter l′ sc) c′ → nameless (enter (rebind z l) sc) (renameBelow z l c) ≡ nameless (enter (rebind z l) sc) (renameBelow z l′ c′)
+same-below : (z : ℕ) (l l′ : Named) (c c′ : Forest Named) (sc : List ℕ) → occurs z c ≡ false → occurs z c′ ≡ false
+    → rebind z l ≡ rebind z l′ → nameless (enter l sc) c ≡ nameless (enter l′ sc) c′
+    → nameless (enter (rebind z l) sc) (renameBelow z l c) ≡ nameless (enter (rebind z l) sc) (renameBelow z l′ c′)
 same-below z l l′ c c′ sc o o′ r e =
     sym (rebind-below z l c sc o)
     ∙ e
@@ -264,7 +274,8 @@ nameless-alpha-within (suc n) (cons l c s) (cons l′ c′ s′) sc h e =
     let r : rebind z l ≡ rebind z l′ = sym (named-label z sc l) ∙ ap (named z sc) heads ∙ named-label z sc l′ in
     let below = same-below z l l′ c c′ sc o o′ r bodies in
     join-nodes z l l′ c c′ s s′ o o′ r
-    (nameless-alpha-within n (renameBelow z l c) (renameBelow z l′ c′) (enter (rebind z l) sc) (omega (arith, renameBelow-size z l c)) below)
+    (nameless-alpha-within n (renameBelow z l c) (renameBelow z l′ c′) (enter (rebind z l) sc)
+    (omega (arith, renameBelow-size z l c)) below)
     (nameless-alpha-within n s s′ sc (omega arith) rests)
 
 -- Terms that are equal up to bound names read the same, in every scope

@@ -38,11 +38,13 @@ application-is f (metavariable m) e = absurd (false≢true e)
 application-is f (function g n) e = (n, ap (λ (h : ℕ). function h n) (sym (eqb-eq f g e)))
 application-is f (hole i) e = absurd (false≢true e)
 
-first-there : (f n : ℕ) (xs : List Face) (x : Face) → x ∈ xs → x .what ≡ function f n → (y : Face) × (firstFace f xs ≡ some y) × (y ∈ xs) × ((a : ℕ) × (y .what ≡ function f a))
+first-there : (f n : ℕ) (xs : List Face) (x : Face) → x ∈ xs → x .what ≡ function f n
+    → (y : Face) × (firstFace f xs ≡ some y) × (y ∈ xs) × ((a : ℕ) × (y .what ≡ function f a))
 first-there f n [] x m e = absurd (List·Memᴰ·not-nil m)
 first-there f n (z ∷ zs) x m e = go (isApplication f (z .what)) refl (λ q. first-there f n zs x q e) (List·Memᴰ·cases-cons m)
   where
-    go : (b : Bool) → isApplication f (z .what) ≡ b → (x ∈ zs → (y : Face) × (firstFace f zs ≡ some y) × (y ∈ zs) × ((a : ℕ) × (y .what ≡ function f a))) → (x ≡ z) ⊎ (x ∈ zs)
+    go : (b : Bool) → isApplication f (z .what) ≡ b
+        → (x ∈ zs → (y : Face) × (firstFace f zs ≡ some y) × (y ∈ zs) × ((a : ℕ) × (y .what ≡ function f a))) → (x ≡ z) ⊎ (x ∈ zs)
         → (y : Face) × (choose b (some z) (firstFace f zs) ≡ some y) × (y ∈ (z ∷ zs)) × ((a : ℕ) × (y .what ≡ function f a))
     go true q ih r = (z, refl, List·Memᴰ·head refl, application-is f (z .what) q)
     go false q ih (inl r) = absurd (false≢true (sym q ∙ ap (isApplication f) (ap (λ (y : Face). y .what) (sym r) ∙ e) ∙ eqb-self f))
@@ -53,12 +55,14 @@ holes-places : (n : ℕ) (a : ℕ → Term) (b : Terms) → IsBody n b → (i : 
 holes-places n a nil h i q = absurd (List·Memᴰ·not-nil q)
 holes-places n a (cons (own o) c s) h i q =
     ⊎-elim (λ (e : some i ≡ none). never (cc))
-    (λ r. ⊎-elim (holes-places n a c (h .1) i) (holes-places n a s (h .2) i) (List·Memᴰ·append-cases (holesOf a c) r)) (List·Memᴰ·cases-cons q)
+    (λ r. ⊎-elim (holes-places n a c (h .1) i) (holes-places n a s (h .2) i) (List·Memᴰ·append-cases (holesOf a c) r))
+    (List·Memᴰ·cases-cons q)
 holes-places n a (cons (slot (metavariable m)) c s) h i q = absurd (h .0)
 holes-places n a (cons (slot (function m d)) c s) h i q = absurd (h .0)
 holes-places n a (cons (slot (hole j)) c s) h i q =
     ⊎-elim (λ (e : some i ≡ some j). let w : j ≡ i = cc in subst (λ (x : ℕ). x < n) w (h .0 .0))
-    (λ r. ⊎-elim (λ z. absurd (none-blank (size (a j .1)) i z)) (holes-places n a s (h .2) i) (List·Memᴰ·append-cases (blank (size (a j .1))) r)) (List·Memᴰ·cases-cons q)
+    (λ r. ⊎-elim (λ z. absurd (none-blank (size (a j .1)) i z)) (holes-places n a s (h .2) i)
+    (List·Memᴰ·append-cases (blank (size (a j .1))) r)) (List·Memᴰ·cases-cons q)
   where
     none-blank : (k i : ℕ) → some i ∈ blank k → ⊥
     none-blank zero i z = List·Memᴰ·not-nil z
@@ -91,13 +95,15 @@ module _ (p : Problem) (c : Proper p) (xs : List Face) (defined : faces p ≡ so
         among = y .2;
         places = y .3 .0;
         applies = y .3 .1;
-        isFirst = ap (λ (o : Option (List Face)). faceTerm (firstFace f (orNone o)) f) defined ∙ ap (λ (o : Option Face). faceTerm o f) (y .1);
+        isFirst = ap (λ (o : Option (List Face)). faceTerm (firstFace f (orNone o)) f) defined
+            ∙ ap (λ (o : Option Face). faceTerm o f) (y .1);
       }
 
   pub face-expression : (f : ℕ) → f ∈ applied (patterns p) → IsExpression (one (faceOf p f))
   face-expression f a =
       let x = face-of f a in
-      subst (λ (t : Term). IsExpression (one t)) (sym (x .isFirst)) (faces-expression 0 0 (patterns p) (expressions p) xs (c .expression) defined (x .face) (x .among))
+      subst (λ (t : Term). IsExpression (one t)) (sym (x .isFirst))
+      (faces-expression 0 0 (patterns p) (expressions p) xs (c .expression) defined (x .face) (x .among))
 
 -- A body that fills to its function's face comes from a choice of it
 module _ (p : Problem) (σ : Filling) (b : ℕ → Term) (fit : Fitting p σ b) where
@@ -112,7 +118,8 @@ module _ (p : Problem) (σ : Filling) (b : ℕ → Term) (fit : Fitting p σ b) 
       let sat : Satisfied (fillHandler σ) (x .face) = theWalk p σ b fit .satisfied (x .face) (x .among) in
       let ex : IsExpression (one (x .face .term)) = faced p σ b fit (x .face) (x .among) in
       let args : ℕ → Term = arguments σ (b f) f (x .places) (x .face) (fit .agree f a) (x .applies) shape ex sat in
-      let e : plug args (b f) ≡ faceOf p f = plugged σ (b f) f (x .places) (x .face) (fit .agree f a) (x .applies) shape ex sat ∙ sym (x .isFirst) in
+      let e : plug args (b f) ≡ faceOf p f =
+      plugged σ (b f) f (x .places) (x .face) (fit .agree f a) (x .applies) shape ex sat ∙ sym (x .isFirst) in
       (holesOf args (one (b f)), from-plug args e)
     where
       from-plug : (args : ℕ → Term) → plug args (b f) ≡ faceOf p f → Chosen f (holesOf args (one (b f)))
@@ -129,18 +136,21 @@ module _ (p : Problem) (σ : Filling) (b : ℕ → Term) (fit : Fitting p σ b) 
           record { choice = r .0; punched = r .1 }
 
 -- Rows by the choices of their functions
-pub choice-in : (p : Problem) (fs : List ℕ) (r : Row) → ChoiceEach p fs r → (f : ℕ) → f ∈ fs → Choice (placesOf p f) (faceOf p f) (choiceIn fs r f)
+pub choice-in : (p : Problem) (fs : List ℕ) (r : Row) → ChoiceEach p fs r → (f : ℕ) → f ∈ fs
+    → Choice (placesOf p f) (faceOf p f) (choiceIn fs r f)
 choice-in p [] r h f q = absurd (List·Memᴰ·not-nil q)
 choice-in p (g ∷ gs) [] h f q = absurd h
 choice-in p (g ∷ gs) (c ∷ r) h f q = go (eqb f g) refl (choice-in p gs r (h .1) f) (List·Memᴰ·cases-cons q)
   where
-    go : (b : Bool) → eqb f g ≡ b → (f ∈ gs → Choice (placesOf p f) (faceOf p f) (choiceIn gs r f)) → (f ≡ g) ⊎ (f ∈ gs) → Choice (placesOf p f) (faceOf p f) (choose b c (choiceIn gs r f))
+    go : (b : Bool) → eqb f g ≡ b → (f ∈ gs → Choice (placesOf p f) (faceOf p f) (choiceIn gs r f)) → (f ≡ g) ⊎ (f ∈ gs)
+        → Choice (placesOf p f) (faceOf p f) (choose b c (choiceIn gs r f))
     go true e ih k = subst (λ (x : ℕ). Choice (placesOf p x) (faceOf p x) c) (sym (eqb-eq f g e)) (h .0)
     go false e ih (inl k) = absurd (false≢true (sym e ∙ ap (eqb f) (sym k) ∙ eqb-self f))
     go false e ih (inr k) = ih k
 
 -- A row of choices that are given one by one
-row-of : (p : Problem) (P : ℕ → Marks → Type 0) → ((f : ℕ) (ms : Marks) → P f ms → Choice (placesOf p f) (faceOf p f) ms) → (fs : List ℕ) → ((f : ℕ) → f ∈ fs → (ms : Marks) × P f ms)
+row-of : (p : Problem) (P : ℕ → Marks → Type 0) → ((f : ℕ) (ms : Marks) → P f ms → Choice (placesOf p f) (faceOf p f) ms) → (fs : List ℕ)
+    → ((f : ℕ) → f ∈ fs → (ms : Marks) × P f ms)
     → (r : Row) × ChoiceEach p fs r × ((f : ℕ) → f ∈ fs → P f (choiceIn fs r f))
 row-of p P h [] g = ([], tt, λ f q. absurd (List·Memᴰ·not-nil q))
 row-of p P h (f ∷ fs) g = go (g f (List·Memᴰ·head refl)) (row-of p P h fs (λ x q. g x (List·Memᴰ·tail q)))
@@ -155,7 +165,8 @@ row-of p P h (f ∷ fs) g = go (g f (List·Memᴰ·head refl)) (row-of p P h fs 
         at x false e (inr k) = r .2 x k
 
 -- Two rows whose functions have the same choices are the same
-same-row : (p : Problem) (fs : List ℕ) (r r′ : Row) → Distinct fs → ChoiceEach p fs r → ChoiceEach p fs r′ → ((f : ℕ) → f ∈ fs → choiceIn fs r f ≡ choiceIn fs r′ f) → r ≡ r′
+same-row : (p : Problem) (fs : List ℕ) (r r′ : Row) → Distinct fs → ChoiceEach p fs r → ChoiceEach p fs r′
+    → ((f : ℕ) → f ∈ fs → choiceIn fs r f ≡ choiceIn fs r′ f) → r ≡ r′
 same-row p [] [] [] d h g e = refl
 same-row p [] [] (c ∷ r) d h g e = absurd g
 same-row p [] (c ∷ r) r′ d h g e = absurd h
@@ -167,7 +178,8 @@ same-row p (f ∷ fs) (c ∷ r) (c′ ∷ r′) d h g e =
     let later : r ≡ r′ = same-row p fs r r′ (d .1) (h .1) (g .1) (λ x q. skip x q (e x (List·Memᴰ·tail q))) in
     ap₂ (λ (x : Marks) (y : Row). x ∷ y) here later
   where
-    skip : (x : ℕ) → x ∈ fs → choose (eqb x f) c (choiceIn fs r x) ≡ choose (eqb x f) c′ (choiceIn fs r′ x) → choiceIn fs r x ≡ choiceIn fs r′ x
+    skip : (x : ℕ) → x ∈ fs → choose (eqb x f) c (choiceIn fs r x) ≡ choose (eqb x f) c′ (choiceIn fs r′ x)
+        → choiceIn fs r x ≡ choiceIn fs r′ x
     skip x q k =
         by-test (eqb x f)
         (λ b. absurd (d .0 (subst (λ (y : ℕ). y ∈ fs) (eqb-eq x f b) q)))
@@ -180,7 +192,8 @@ functions-distinct p = keep-distinct (isFunction p) (upTo metavariableCount) (di
 -- The body of a function in a row
 row-body : (p : Problem) (r : Row) (f : ℕ) (b : Term) → punch (choiceIn (functions p) r f) (one (faceOf p f)) ≡ one b → rowBody p r f ≡ b
 unfolding rowBody
-row-body p r f b e = one-injective (punchTerm (choiceIn (functions p) r f) (faceOf p f)) b (punch-one (choiceIn (functions p) r f) (faceOf p f) ∙ e)
+row-body p r f b e = one-injective (punchTerm (choiceIn (functions p) r f) (faceOf p f)) b
+    (punch-one (choiceIn (functions p) r f) (faceOf p f) ∙ e)
 
 pub body-row : (p : Problem) (r : Row) (f : ℕ) → one (rowBody p r f) ≡ punch (choiceIn (functions p) r f) (one (faceOf p f))
 unfolding rowBody
@@ -210,7 +223,8 @@ row-exists p σ c s =
       λ f q. solution-bodies p σ s f (functions-applied p f q) ∙ ap body (sym (row-body p (r .0) f (b f) (r .2 f q .punched))),
     )
 
-pub row-only : (p : Problem) (σ : Filling) → Proper p → Solution p σ → (r r′ : Row) → r ∈ rows p → r′ ∈ rows p → HasBodies p r σ → HasBodies p r′ σ → r ≡ r′
+pub row-only : (p : Problem) (σ : Filling) → Proper p → Solution p σ → (r r′ : Row) → r ∈ rows p → r′ ∈ rows p → HasBodies p r σ
+    → HasBodies p r′ σ → r ≡ r′
 row-only p σ c s r r′ i j h g =
     same-row p (functions p) r r′ (functions-distinct p) (ch .choice) (ch′ .choice) same
   where
@@ -227,6 +241,9 @@ row-only p σ c s r r′ i j h g =
         let y : Choice (placesOf p f) (faceOf p f) (choiceIn (functions p) r′ f) = choice-in p (functions p) r′ (ch′ .choice) f q in
         let eb : body (rowBody p r f) ≡ body (rowBody p r′ f) = sym (h f q) ∙ g f q in
         let e : rowBody p r f ≡ rowBody p r′ f = cc in
-        punch-unique (choiceIn (functions p) r f) (choiceIn (functions p) r′ f) (one (faceOf p f)) (face-expression p c (theWalk p σ b (own-fitting p σ c s) .found) (theWalk p σ b (own-fitting p σ c s) .defined) f (functions-applied p f q)) (x .long) (y .long)
-        (choice-clear (placesOf p f) (faceOf p f) (choiceIn (functions p) r f) x) (choice-clear (placesOf p f) (faceOf p f) (choiceIn (functions p) r′ f) y)
+        punch-unique (choiceIn (functions p) r f) (choiceIn (functions p) r′ f) (one (faceOf p f))
+        (face-expression p c (theWalk p σ b (own-fitting p σ c s) .found) (theWalk p σ b (own-fitting p σ c s) .defined) f
+        (functions-applied p f q)) (x .long) (y .long)
+        (choice-clear (placesOf p f) (faceOf p f) (choiceIn (functions p) r f) x)
+        (choice-clear (placesOf p f) (faceOf p f) (choiceIn (functions p) r′ f) y)
         (sym (body-row p r f) ∙ ap (λ (t : Term). one t) e ∙ body-row p r′ f)

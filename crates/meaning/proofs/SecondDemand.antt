@@ -50,14 +50,19 @@ text-fits p r a e =
     omega arith
 
 -- EVERY WRITTEN TEXT READS BACK
-pub text-read-back : (p : Problem) (r : Row) → Accepted p → r ∈ rows p → solves p r ≡ true → readText (encodeText (textOf p r)) ≡ got (textOf p r)
+pub text-read-back : (p : Problem) (r : Row) → Accepted p → r ∈ rows p → solves p r ≡ true
+    → readText (encodeText (textOf p r)) ≡ got (textOf p r)
 text-read-back p r a i e = read-text (textOf p r) (text-readable p r a i e) (text-fits p r a e)
 
 -- ... AND PASSES, as the row's one solution
 pub text-passes : (p : Problem) (r : Row) → Accepted p → r ∈ rows p → solves p r ≡ true
     → (passes : Passes p (textOf p r)) × (passes .filling ≡ candidate p r)
 text-passes p r a i e = (
-  record { filling = candidate p r; says = text-says p r a e; solution = candidate-solution p r (accepted-proper p a) (rows-are p r .0 i) e },
+  record {
+    filling = candidate p r;
+    says = text-says p r a e;
+    solution = candidate-solution p r (accepted-proper p a) (rows-are p r .0 i) e;
+  },
   refl,
 )
 

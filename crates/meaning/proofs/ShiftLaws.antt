@@ -97,14 +97,16 @@ pub record Lowered (n k : ℕ) (l : Nameless) (c s v : Terms) : Type 0 where
 pub lowered : (n k : ℕ) (l : Nameless) (c s v : Terms) → lower n k (cons l c s) ≡ some v → Lowered n k l c s v
 lowered n k l c s v e = go (lowerLabel n k l) (lower n (inner l k) c) (lower n k s) refl refl refl
   where
-    go : (o : Option Nameless) (p q : Option Terms) → lowerLabel n k l ≡ o → lower n (inner l k) c ≡ p → lower n k s ≡ q → Lowered n k l c s v
+    go : (o : Option Nameless) (p q : Option Terms) → lowerLabel n k l ≡ o → lower n (inner l k) c ≡ p → lower n k s ≡ q
+        → Lowered n k l c s v
     go none p q a b d = never (cc)
     go (some l′) none q a b d = never (cc)
     go (some l′) (some c′) none a b d = never (cc)
     go (some l′) (some c′) (some s′) a b d =
         record { label = l′; children = c′; siblings = s′; isLabel = a; areChildren = b; areSiblings = d; whole = cc }
 
-lower-node : (n k : ℕ) (l l′ : Nameless) (c s c′ s′ : Terms) → lowerLabel n k l ≡ some l′ → lower n (inner l k) c ≡ some c′ → lower n k s ≡ some s′
+lower-node : (n k : ℕ) (l l′ : Nameless) (c s c′ s′ : Terms) → lowerLabel n k l ≡ some l′ → lower n (inner l k) c ≡ some c′
+    → lower n k s ≡ some s′
     → lower n k (cons l c s) ≡ some (cons l′ c′ s′)
 lower-node n k l l′ c s c′ s′ a b d = rw (a, b, d)
 
@@ -126,7 +128,8 @@ shift-lower n k (cons l c s) v e =
     rw (r .whole, pi, pl, pc, ps)
 
 -- One term
-pub lowered-term : (n : ℕ) (t a : Term) → lowerTerm n t ≡ some a → (lowerLabel n 0 (t .0) ≡ some (a .0)) × (lower n (inner (t .0) 0) (t .1) ≡ some (a .1))
+pub lowered-term : (n : ℕ) (t a : Term) → lowerTerm n t ≡ some a
+    → (lowerLabel n 0 (t .0) ≡ some (a .0)) × (lower n (inner (t .0) 0) (t .1) ≡ some (a .1))
 lowered-term n t a e = go (lowerLabel n 0 (t .0)) (lower n (inner (t .0) 0) (t .1)) refl refl
   where
     go : (o : Option Nameless) (q : Option Terms) → lowerLabel n 0 (t .0) ≡ o → lower n (inner (t .0) 0) (t .1) ≡ q
@@ -137,12 +140,14 @@ lowered-term n t a e = go (lowerLabel n 0 (t .0)) (lower n (inner (t .0) 0) (t .
         let p : _≡_ {A = Term} (l, c) a = cc in
         (x ∙ ap (λ (u : Term). some (u .0)) p, y ∙ ap (λ (u : Term). some (u .1)) p)
 
-term-lower : (n : ℕ) (t a : Term) → lowerLabel n 0 (t .0) ≡ some (a .0) → lower n (inner (t .0) 0) (t .1) ≡ some (a .1) → lowerTerm n t ≡ some a
+term-lower : (n : ℕ) (t a : Term) → lowerLabel n 0 (t .0) ≡ some (a .0) → lower n (inner (t .0) 0) (t .1) ≡ some (a .1)
+    → lowerTerm n t ≡ some a
 term-lower n t a x y = rw (x, y)
 
 pub lower-shift-term : (n : ℕ) (a : Term) → lowerTerm n (shiftTerm n a) ≡ some a
 lower-shift-term n a =
-    term-lower n (shiftTerm n a) a (lower-shift-label n 0 (a .0)) (rw (inner-with (raise n 0) 0 (a .0)) (lower-shift n (inner (a .0) 0) (a .1)))
+    term-lower n (shiftTerm n a) a (lower-shift-label n 0 (a .0))
+    (rw (inner-with (raise n 0) 0 (a .0)) (lower-shift n (inner (a .0) 0) (a .1)))
 
 pub pair-eq : {L : Type 0} {t u : Tree L} → t .0 ≡ u .0 → t .1 ≡ u .1 → t ≡ u
 pair-eq {L} p q = ap₂ (λ (x : L) (y : Forest L). (x, y)) p q

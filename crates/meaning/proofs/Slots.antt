@@ -82,17 +82,20 @@ slot-face k n p e xs z c q m =
 abbrev FacesExpression : Face → Type 0
 FacesExpression x = IsExpression (one (x .term))
 
-join-expressions : (x y : Option (List Face)) → When (λ xs. (z : Face) → z ∈ xs → FacesExpression z) x → When (λ xs. (z : Face) → z ∈ xs → FacesExpression z) y
+join-expressions : (x y : Option (List Face)) → When (λ xs. (z : Face) → z ∈ xs → FacesExpression z) x
+    → When (λ xs. (z : Face) → z ∈ xs → FacesExpression z) y
     → When (λ xs. (z : Face) → z ∈ xs → FacesExpression z) (join x y)
 join-expressions none y h g = tt
 join-expressions (some x) none h g = tt
 join-expressions (some x) (some y) h g = λ z m. ⊎-elim (h z) (g z) (List·Memᴰ·append-cases x m)
 
 meet-expressions : (k n : ℕ) (l : Nameless) (c : Terms) (t : Term) (below : Option (List Face)) → IsExpression (one t)
-    → When (λ xs. (z : Face) → z ∈ xs → FacesExpression z) below → When (λ xs. (z : Face) → z ∈ xs → FacesExpression z) (meet k n l c t below)
+    → When (λ xs. (z : Face) → z ∈ xs → FacesExpression z) below
+    → When (λ xs. (z : Face) → z ∈ xs → FacesExpression z) (meet k n l c t below)
 meet-expressions k n (own o) c t below x h = guard-when (λ xs. (z : Face) → z ∈ xs → FacesExpression z) (agrees o (t .0)) below h
 meet-expressions k n (slot y) c t below x h =
-    λ z m. ⊎-elim (λ (e : z ≡ record { under = k; what = y; children = c; node = n; term = t }). subst FacesExpression (sym e) x) (λ q. absurd (List·Memᴰ·not-nil q)) (List·Memᴰ·cases-cons m)
+    λ z m. ⊎-elim (λ (e : z ≡ record { under = k; what = y; children = c; node = n; term = t }). subst FacesExpression (sym e) x)
+    (λ q. absurd (List·Memᴰ·not-nil q)) (List·Memᴰ·cases-cons m)
 
 walk-expressions : (k n : ℕ) (p e : Terms) → IsExpression e → When (λ xs. (z : Face) → z ∈ xs → FacesExpression z) (walk k n p e)
 walk-expressions k n nil nil h = λ z m. absurd (List·Memᴰ·not-nil m)
@@ -103,7 +106,8 @@ walk-expressions k n (cons l c s) (cons l′ c′ s′) h =
     (meet-expressions k n l c (l′, c′) (walk (inner l k) (suc n) c c′) (h .0, h .1, tt) (walk-expressions (inner l k) (suc n) c c′ (h .1)))
     (walk-expressions k (suc n + size c′) s s′ (h .2))
 
-pub faces-expression : (k n : ℕ) (p e : Terms) (xs : List Face) → IsExpression e → walk k n p e ≡ some xs → (x : Face) → x ∈ xs → IsExpression (one (x .term))
+pub faces-expression : (k n : ℕ) (p e : Terms) (xs : List Face) → IsExpression e → walk k n p e ≡ some xs → (x : Face) → x ∈ xs
+    → IsExpression (one (x .term))
 faces-expression k n p e xs h q = subst (When (λ ys. (z : Face) → z ∈ ys → FacesExpression z)) q (walk-expressions k n p e h)
 
 -- Standings by slots
@@ -128,7 +132,8 @@ standing-slot u x m = each-mem standingAt x (slots u) (subst (λ (l : List Stand
 pub in-arguments : (f j : ℕ) (c : Terms) (x : Standing) → x ∈ inArguments f j c
     → (i : ℕ) × (i < trees c) × (x .1 ≡ argumentOf f (j + i)) × (x .0 ∈ plain (one (argument c i)))
 in-arguments f j nil x m = absurd (List·Memᴰ·not-nil m)
-in-arguments f j (cons l c s) x m = go (in-arguments f (suc j) s x) (List·Memᴰ·append-cases (map (λ (k : ℕ). (k, argumentOf f j)) (plain (one (l, c)))) m)
+in-arguments f j (cons l c s) x m =
+    go (in-arguments f (suc j) s x) (List·Memᴰ·append-cases (map (λ (k : ℕ). (k, argumentOf f j)) (plain (one (l, c)))) m)
   where
     here : (k : ℕ) × (k ∈ plain (one (l, c))) × (x ≡ (k, argumentOf f j))
         → (i : ℕ) × (i < suc (trees s)) × (x .1 ≡ argumentOf f (j + i)) × (x .0 ∈ plain (one (argument (cons l c s) i)))
@@ -158,7 +163,8 @@ arguments-in f j i m nil h q = absurd (omega arith)
 arguments-in f j zero m (cons l c s) h q =
     let e : j ≡ j + 0 = omega arith in
     Memᴰ·append-left (inArguments f (suc j) s)
-    (subst (λ (k : ℕ). _∈_ {A = Standing} (m, argumentOf f k) (map (λ (x : ℕ). (x, argumentOf f j)) (plain (one (l, c))))) e (mem-map {B = Standing} (λ (x : ℕ). (x, argumentOf f j)) q))
+    (subst (λ (k : ℕ). _∈_ {A = Standing} (m, argumentOf f k) (map (λ (x : ℕ). (x, argumentOf f j)) (plain (one (l, c))))) e
+    (mem-map {B = Standing} (λ (x : ℕ). (x, argumentOf f j)) q))
 arguments-in f j (suc i) m (cons l c s) h q =
     let e : suc j + i ≡ j + suc i = omega arith in
     Memᴰ·append-right (map (λ (x : ℕ). (x, argumentOf f j)) (plain (one (l, c))))
@@ -175,7 +181,8 @@ plain-slot (cons (own o) c s) h m q = go (plain-slot c (h .1) m) (plain-slot s (
     go f g (inr x) = let r = g x in (r .0, Memᴰ·append-right (slots c) (r .1))
 plain-slot (cons (slot (metavariable k)) c s) h m q = go (plain-slot s (h .2) m) (List·Memᴰ·cases-cons q)
   where
-    go : (m ∈ plain s → (d : Terms) × ((metavariable m, d) ∈ slots s)) → (m ≡ k) ⊎ (m ∈ plain s) → (d : Terms) × ((metavariable m, d) ∈ ((metavariable k, c) ∷ slots s))
+    go : (m ∈ plain s → (d : Terms) × ((metavariable m, d) ∈ slots s)) → (m ≡ k) ⊎ (m ∈ plain s)
+        → (d : Terms) × ((metavariable m, d) ∈ ((metavariable k, c) ∷ slots s))
     go f (inl e) = (c, List·Memᴰ·head (ap (λ (x : ℕ). (metavariable x, c)) e))
     go f (inr x) = let r = f x in (r .0, List·Memᴰ·tail (r .1))
 plain-slot (cons (slot (function f n)) c s) h m q = absurd (h .0)
@@ -184,7 +191,8 @@ plain-slot (cons (slot (hole i)) c s) h m q = absurd (h .0)
 pub slot-plain : (u : Terms) (m : ℕ) (d : Terms) → (metavariable m, d) ∈ slots u → m ∈ plain u
 slot-plain nil m d q = absurd (List·Memᴰ·not-nil q)
 slot-plain (cons (own o) c s) m d q =
-    ⊎-elim (λ x. Memᴰ·append-left (plain s) (slot-plain c m d x)) (λ x. Memᴰ·append-right (plain c) (slot-plain s m d x)) (List·Memᴰ·append-cases (slots c) q)
+    ⊎-elim (λ x. Memᴰ·append-left (plain s) (slot-plain c m d x)) (λ x. Memᴰ·append-right (plain c) (slot-plain s m d x))
+    (List·Memᴰ·append-cases (slots c) q)
 slot-plain (cons (slot (metavariable k)) c s) m d q =
     ⊎-elim (λ (e : metavariable m ≡ metavariable k). let w : m ≡ k = cc in List·Memᴰ·head w)
     (λ x. List·Memᴰ·tail (slot-plain s m d x)) (slot-cases q)
@@ -209,14 +217,16 @@ application-slot nil h f n q = absurd (List·Memᴰ·not-nil q)
 application-slot (cons (own o) c s) h f n q =
     go (application-slot c (h .1) f n) (application-slot s (h .2) f n) (List·Memᴰ·append-cases (applications c) q)
   where
-    go : ((f, n) ∈ applications c → (d : Terms) × ((function f n, d) ∈ slots c)) → ((f, n) ∈ applications s → (d : Terms) × ((function f n, d) ∈ slots s))
+    go : ((f, n) ∈ applications c → (d : Terms) × ((function f n, d) ∈ slots c))
+        → ((f, n) ∈ applications s → (d : Terms) × ((function f n, d) ∈ slots s))
         → ((f, n) ∈ applications c) ⊎ ((f, n) ∈ applications s) → (d : Terms) × ((function f n, d) ∈ (slots c ++ slots s))
     go x y (inl z) = let r = x z in (r .0, Memᴰ·append-left (slots s) (r .1))
     go x y (inr z) = let r = y z in (r .0, Memᴰ·append-right (slots c) (r .1))
 application-slot (cons (slot (metavariable m)) c s) h f n q = let r = application-slot s (h .2) f n q in (r .0, List·Memᴰ·tail (r .1))
 application-slot (cons (slot (function g a)) c s) h f n q = go (application-slot s (h .2) f n) (List·Memᴰ·cases-cons q)
   where
-    go : ((f, n) ∈ applications s → (d : Terms) × ((function f n, d) ∈ slots s)) → (_≡_ {A = ℕ × ℕ} (f, n) (g, a)) ⊎ ((f, n) ∈ (applications c ++ applications s))
+    go : ((f, n) ∈ applications s → (d : Terms) × ((function f n, d) ∈ slots s))
+        → (_≡_ {A = ℕ × ℕ} (f, n) (g, a)) ⊎ ((f, n) ∈ (applications c ++ applications s))
         → (d : Terms) × ((function f n, d) ∈ ((function g a, c) ∷ slots s))
     go x (inl e) = (c, List·Memᴰ·head (ap (λ (y : ℕ × ℕ). (function (y .0) (y .1), c)) e))
     go x (inr z) =
@@ -227,7 +237,8 @@ application-slot (cons (slot (hole i)) c s) h f n q = absurd (h .0)
 pub slot-application : (u : Terms) (f n : ℕ) (d : Terms) → (function f n, d) ∈ slots u → (f, n) ∈ applications u
 slot-application nil f n d q = absurd (List·Memᴰ·not-nil q)
 slot-application (cons (own o) c s) f n d q =
-    ⊎-elim (λ x. Memᴰ·append-left (applications s) (slot-application c f n d x)) (λ x. Memᴰ·append-right (applications c) (slot-application s f n d x))
+    ⊎-elim (λ x. Memᴰ·append-left (applications s) (slot-application c f n d x))
+    (λ x. Memᴰ·append-right (applications c) (slot-application s f n d x))
     (List·Memᴰ·append-cases (slots c) q)
 slot-application (cons (slot (metavariable m)) c s) f n d q =
     ⊎-elim (λ (e : function f n ≡ metavariable m). never (cc))
@@ -250,7 +261,8 @@ slot-applied u f n d q = mem-map (λ (y : ℕ × ℕ). y .0) (slot-application u
 
 pub pattern-slot : (u : Terms) → IsPattern u → (f n : ℕ) (c : Terms) → (function f n, c) ∈ slots u → (trees c ≡ n) × IsArgument c
 pattern-slot nil h f n d q = absurd (List·Memᴰ·not-nil q)
-pattern-slot (cons (own o) c s) h f n d q = ⊎-elim (pattern-slot c (h .1) f n d) (pattern-slot s (h .2) f n d) (List·Memᴰ·append-cases (slots c) q)
+pattern-slot (cons (own o) c s) h f n d q =
+    ⊎-elim (pattern-slot c (h .1) f n d) (pattern-slot s (h .2) f n d) (List·Memᴰ·append-cases (slots c) q)
 pattern-slot (cons (slot (metavariable m)) c s) h f n d q =
     ⊎-elim (λ (e : function f n ≡ metavariable m). never (cc))
     (pattern-slot s (h .2) f n d) (slot-cases q)
@@ -287,7 +299,8 @@ hole-slot n (cons (slot (hole j)) c s) h i e = go (hole-slot n s (h .2) i) (or-c
 pub slot-hole : (u : Terms) (i : ℕ) (d : Terms) → (hole i, d) ∈ slots u → hasHole i u ≡ true
 slot-hole nil i d q = absurd (List·Memᴰ·not-nil q)
 slot-hole (cons (own o) c s) i d q =
-    ⊎-elim (λ x. or-left (hasHole i c) (hasHole i s) (slot-hole c i d x)) (λ x. or-right (hasHole i c) (hasHole i s) (slot-hole s i d x)) (List·Memᴰ·append-cases (slots c) q)
+    ⊎-elim (λ x. or-left (hasHole i c) (hasHole i s) (slot-hole c i d x)) (λ x. or-right (hasHole i c) (hasHole i s) (slot-hole s i d x))
+    (List·Memᴰ·append-cases (slots c) q)
 slot-hole (cons (slot (metavariable m)) c s) i d q =
     ⊎-elim (λ (e : hole i ≡ metavariable m). never (cc))
     (λ x. or-right (hasHole i c) (hasHole i s) (slot-hole s i d x)) (slot-cases q)
@@ -295,14 +308,16 @@ slot-hole (cons (slot (function f n)) c s) i d q =
     ⊎-elim (λ (e : hole i ≡ function f n). never (cc))
     (λ x. or-right (hasHole i c) (hasHole i s) (slot-hole s i d x)) (slot-cases q)
 slot-hole (cons (slot (hole j)) c s) i d q =
-    ⊎-elim (λ (e : hole i ≡ hole j). let w : i ≡ j = cc in or-left (eqb i j) (hasHole i c || hasHole i s) (ap (λ (x : ℕ). eqb i x) (sym w) ∙ eqb-self i))
+    ⊎-elim (λ (e : hole i ≡ hole j). let w : i ≡ j = cc in
+    or-left (eqb i j) (hasHole i c || hasHole i s) (ap (λ (x : ℕ). eqb i x) (sym w) ∙ eqb-self i))
     (λ x. or-right (eqb i j) (hasHole i c || hasHole i s) (or-right (hasHole i c) (hasHole i s) (slot-hole s i d x))) (slot-cases q)
 
 -- The faces of a proper problem
 module _ (p : Problem) (c : Proper p) (xs : List Face) (defined : faces p ≡ some xs) where
   pub faced-slot : (z : Slot) (x : Face) → x ∈ xs → x .what ≡ z → (z, x .children) ∈ slots (patterns p)
   faced-slot z x q e =
-      subst (λ (y : Slot). _∈_ {A = Slot × Terms} (y, x .children) (slots (patterns p))) e (face-slot 0 0 (patterns p) (expressions p) xs x defined q)
+      subst (λ (y : Slot). _∈_ {A = Slot × Terms} (y, x .children) (slots (patterns p))) e
+      (face-slot 0 0 (patterns p) (expressions p) xs x defined q)
 
   pub faced-expression : (x : Face) → x ∈ xs → IsExpression (one (x .term))
   faced-expression = faces-expression 0 0 (patterns p) (expressions p) xs (c .expression) defined

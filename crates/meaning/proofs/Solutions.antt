@@ -37,13 +37,21 @@ use Rattle.meaning.proofs.RowBodies.{face-expression, choice-in, row-ex
 pub punch-body : (n : ℕ) (ms : Marks) (u : Terms) → IsExpression u → ((i : ℕ) → some i ∈ ms → i < n) → IsBody n (punch ms u)
 punch-body n ms nil h f = tt
 punch-body n ms (cons (slot z) c s) h f = absurd (h .0)
-punch-body n [] (cons (own o) c s) h f = (tt, punch-body n [] c (h .1) f, punch-body n (drop (size c) []) s (h .2) (λ i q. f i (drop-mem (some i) (size c) [] q)))
-punch-body n (none ∷ ms) (cons (own o) c s) h f =
-    (tt, punch-body n ms c (h .1) (λ i q. f i (List·Memᴰ·tail q)), punch-body n (drop (size c) ms) s (h .2) (λ i q. f i (List·Memᴰ·tail (drop-mem (some i) (size c) ms q))))
-punch-body n (some j ∷ ms) (cons (own o) c s) h f =
-    ((f j (List·Memᴰ·head refl), refl), tt, punch-body n (drop (size c) ms) s (h .2) (λ i q. f i (List·Memᴰ·tail (drop-mem (some i) (size c) ms q))))
+punch-body n [] (cons (own o) c s) h f =
+    (tt, punch-body n [] c (h .1) f, punch-body n (drop (size c) []) s (h .2) (λ i q. f i (drop-mem (some i) (size c) [] q)))
+punch-body n (none ∷ ms) (cons (own o) c s) h f = (
+  tt,
+  punch-body n ms c (h .1) (λ i q. f i (List·Memᴰ·tail q)),
+  punch-body n (drop (size c) ms) s (h .2) (λ i q. f i (List·Memᴰ·tail (drop-mem (some i) (size c) ms q))),
+)
+punch-body n (some j ∷ ms) (cons (own o) c s) h f = (
+  (f j (List·Memᴰ·head refl), refl),
+  tt,
+  punch-body n (drop (size c) ms) s (h .2) (λ i q. f i (List·Memᴰ·tail (drop-mem (some i) (size c) ms q))),
+)
 
-pub row-body-shape : (p : Problem) (r : Row) → Proper p → IsRow p r → (f : ℕ) → f ∈ applied (patterns p) → IsBody (placesOf p f) (one (rowBody p r f))
+pub row-body-shape : (p : Problem) (r : Row) → Proper p → IsRow p r → (f : ℕ) → f ∈ applied (patterns p)
+    → IsBody (placesOf p f) (one (rowBody p r f))
 row-body-shape p r c i f a =
     let xs = is-some (faces p) (i .agree) in
     let q : f ∈ functions p = applied-functions p c f a in
@@ -54,16 +62,19 @@ row-body-shape p r c i f a =
 
 -- What the test of a row says
 module _ (p : Problem) (r : Row) (passes : solves p r ≡ true) where
-  tested : T (sameTerms (filled (candidate p r) (patterns p)) (expressions p)) × T (every (λ m. isClosedEntry (candidate p r m)) (metavariables p))
+  tested : T (sameTerms (filled (candidate p r) (patterns p)) (expressions p))
+      × T (every (λ m. isClosedEntry (candidate p r m)) (metavariables p))
   unfolding solves
-  tested = and-T (sameTerms (filled (candidate p r) (patterns p)) (expressions p)) (every (λ m. isClosedEntry (candidate p r m)) (metavariables p)) (true-T passes)
+  tested = and-T (sameTerms (filled (candidate p r) (patterns p)) (expressions p))
+      (every (λ m. isClosedEntry (candidate p r m)) (metavariables p)) (true-T passes)
 
   pub passes-meets : filled (candidate p r) (patterns p) ≡ expressions p
   passes-meets = sameTerms-eq (filled (candidate p r) (patterns p)) (expressions p) (tested .0)
 
   pub passes-closed : (m : ℕ) → m ∈ metavariables p → isClosedEntry (candidate p r m) ≡ true
   passes-closed m q =
-      all-mem (λ k. isClosedEntry (candidate p r k) ≡ true) m (metavariables p) (every-all (λ k. isClosedEntry (candidate p r k)) (metavariables p) (tested .1)) q
+      all-mem (λ k. isClosedEntry (candidate p r k) ≡ true) m (metavariables p)
+      (every-all (λ k. isClosedEntry (candidate p r k)) (metavariables p) (tested .1)) q
 
   pub passes-fitting : Proper p → IsRow p r → Fitting p (candidate p r) (rowBody p r)
   passes-fitting c i = record { proper = c; meets = passes-meets; agree = candidate-function p r; shapes = row-body-shape p r c i }
@@ -72,7 +83,8 @@ pub passes-from : (p : Problem) (r : Row) → filled (candidate p r) (patterns p
     → ((m : ℕ) → m ∈ metavariables p → isClosedEntry (candidate p r m) ≡ true) → solves p r ≡ true
 unfolding solves
 passes-from p r meets closed =
-    T-true (T-and (sameTerms (filled (candidate p r) (patterns p)) (expressions p)) (every (λ m. isClosedEntry (candidate p r m)) (metavariables p))
+    T-true (T-and (sameTerms (filled (candidate p r) (patterns p)) (expressions p))
+    (every (λ m. isClosedEntry (candidate p r m)) (metavariables p))
     (subst (λ (u : Terms). T (sameTerms u (expressions p))) (sym meets) (sameTerms-refl (expressions p)))
     (all-every (λ m. isClosedEntry (candidate p r m)) (metavariables p)
     (mem-all (λ m. isClosedEntry (candidate p r m) ≡ true) (metavariables p) closed)))
@@ -96,7 +108,8 @@ candidate-solution p r c i e = record {
 
     bodies-closed : (f : ℕ) → f ∈ applied (patterns p) → ClosedTerm (rowBody p r f)
     bodies-closed f a =
-        test-closed 0 (one (rowBody p r f)) (true-T (ap isClosedEntry (sym (candidate-function p r f a)) ∙ passes-closed p r e f (applied-occurs p c f a)))
+        test-closed 0 (one (rowBody p r f))
+        (true-T (ap isClosedEntry (sym (candidate-function p r f a)) ∙ passes-closed p r e f (applied-occurs p c f a)))
 
     valued : (m : ℕ) → m ∈ plain (patterns p) → (lookup m (sources p r) ≡ none) ⊎ ((s : Source) × (lookup m (sources p r) ≡ some s))
         → (candidate p r m ≡ leftOpen) ⊎ ((t : Term) × (candidate p r m ≡ value t) × IsExpression (one t) × ClosedTerm t)
@@ -110,13 +123,15 @@ candidate-solution p r c i e = record {
           test-closed 0 (one (s .0 .term)) (true-T (ap isClosedEntry (sym v) ∙ passes-closed p r e m (plain-occurs p c m q))),
         )
 
-    opened : (m : ℕ) → candidate p r m ≡ leftOpen → (lookup m (sources p r) ≡ none) ⊎ ((s : Source) × (lookup m (sources p r) ≡ some s)) → Idle p (candidate p r) m
+    opened : (m : ℕ) → candidate p r m ≡ leftOpen → (lookup m (sources p r) ≡ none) ⊎ ((s : Source) × (lookup m (sources p r) ≡ some s))
+        → Idle p (candidate p r) m
     opened m q (inl n) = fitting-idle p r (candidate p r) fit m n
     opened m q (inr s) =
         let x = fitting-source p r (candidate p r) fit m (s .0) (s .1) in
         absurd (let v : candidate p r m ≡ value (s .0 .term) = ap (candidate p r) (sym (x .1)) ∙ x .0 .holds in never (cc))
 
-    idles : (m : ℕ) → m ∈ plain (patterns p) → Idle p (candidate p r) m → (lookup m (sources p r) ≡ none) ⊎ ((s : Source) × (lookup m (sources p r) ≡ some s)) → candidate p r m ≡ leftOpen
+    idles : (m : ℕ) → m ∈ plain (patterns p) → Idle p (candidate p r) m
+        → (lookup m (sources p r) ≡ none) ⊎ ((s : Source) × (lookup m (sources p r) ≡ some s)) → candidate p r m ≡ leftOpen
     idles m q idle (inl n) = candidate-plain p r m (unapplied m q) q ∙ ap given n
     idles m q idle (inr s) =
         let x = fitting-source p r (candidate p r) fit m (s .0) (s .1) in
@@ -126,11 +141,13 @@ candidate-solution p r c i e = record {
 -- THE MAIN THEOREMS
 
 -- UNIQUE: "that solution is then the only one, up to bound names"
-pub row-solution-unique : (p : Problem) (r : Row) (σ : Filling) → Accepted p → Solution p σ → HasBodies p r σ → (m : ℕ) → σ m ≡ candidate p r m
+pub row-solution-unique : (p : Problem) (r : Row) (σ : Filling) → Accepted p → Solution p σ → HasBodies p r σ → (m : ℕ)
+    → σ m ≡ candidate p r m
 row-solution-unique p r σ a s h = solution-candidate p r σ (accepted-proper p a) s h
 
 -- Two solutions with the same bodies are equal
-pub solutions-unique : (p : Problem) (σ τ : Filling) → Accepted p → Solution p σ → Solution p τ → ((f : ℕ) → f ∈ functions p → σ f ≡ τ f) → (m : ℕ) → σ m ≡ τ m
+pub solutions-unique : (p : Problem) (σ τ : Filling) → Accepted p → Solution p σ → Solution p τ → ((f : ℕ) → f ∈ functions p → σ f ≡ τ f)
+    → (m : ℕ) → σ m ≡ τ m
 solutions-unique p σ τ a s t h m =
     let r = row-exists p σ (accepted-proper p a) s in
     row-solution-unique p (r .0) σ a s (r .2) m ∙ sym (row-solution-unique p (r .0) τ a t (λ f q. sym (h f q) ∙ r .2 f q) m)
@@ -184,7 +201,8 @@ solves-is-right p r a i = (forth, back)
         passes-from p r (s .meets) (λ m q. solution-closed p (candidate p r) s m)
 
 -- THE FULL LIST holds solutions only, with their rows
-pub listed-solution : (p : Problem) (r : Row) (σ : Filling) → Accepted p → (r, σ) ∈ fullList p → (r ∈ rows p) × Solution p σ × HasBodies p r σ
+pub listed-solution : (p : Problem) (r : Row) (σ : Filling) → Accepted p → (r, σ) ∈ fullList p
+    → (r ∈ rows p) × Solution p σ × HasBodies p r σ
 unfolding fullList solutionRows
 listed-solution p r σ a q =
     let x = map-mem (λ (y : Row). (y, candidate p y)) (r, σ) (keep (solves p) (rows p)) q in
@@ -194,7 +212,8 @@ listed-solution p r σ a q =
     let c : Proper p = accepted-proper p a in (
       subst (λ (y : Row). y ∈ rows p) (sym er) (k .0),
       subst (Solution p) (sym eσ) (candidate-solution p (x .0) c (rows-are p (x .0) .0 (k .0)) (k .1)),
-      λ f m. ap (λ (τ : Filling). τ f) eσ ∙ candidate-function p (x .0) f (functions-applied p f m) ∙ ap (λ (y : Row). body (rowBody p y f)) (sym er),
+      λ f m. ap (λ (τ : Filling). τ f) eσ ∙ candidate-function p (x .0) f (functions-applied p f m)
+          ∙ ap (λ (y : Row). body (rowBody p y f)) (sym er),
     )
 
 -- ... every solution
@@ -204,8 +223,12 @@ solution-listed p σ a s =
     let o : OnlyRow p σ = solution-complete p σ a s in
     let r : Row = o .row in
     let e : σ ≡ candidate p r = fun-ext (row-solution-unique p r σ a s (o .hasBodies)) in
-    let i : r ∈ keep (solves p) (rows p) = mem-keep (solves p) r (rows p) (o .isRow) (solves-is-right p r a (o .isRow) .1 (σ, s, o .hasBodies)) in
-    (r, subst (λ (τ : Filling). _∈_ {A = Row × Filling} (r, τ) (map (λ (y : Row). (y, candidate p y)) (keep (solves p) (rows p)))) (sym e) (mem-map {B = Row × Filling} (λ (y : Row). (y, candidate p y)) i))
+    let i : r ∈ keep (solves p) (rows p) =
+    mem-keep (solves p) r (rows p) (o .isRow) (solves-is-right p r a (o .isRow) .1 (σ, s, o .hasBodies)) in (
+      r,
+      subst (λ (τ : Filling). _∈_ {A = Row × Filling} (r, τ) (map (λ (y : Row). (y, candidate p y)) (keep (solves p) (rows p)))) (sym e)
+          (mem-map {B = Row × Filling} (λ (y : Row). (y, candidate p y)) i),
+    )
 
 -- ... and none twice: no row twice, and two rows of the list have different solutions
 pub full-list-once : (p : Problem) → Distinct (solutionRows p)

@@ -74,7 +74,8 @@ pub lowest-is : (i : ℕ) (xs : List Face) (h : Face) → lowestHole i xs ≡ so
 lowest-is i [] h e = never (cc)
 lowest-is i (x ∷ xs) h e = go (isHole i (x .what)) refl (lowest-is i xs h) e
   where
-    go : (b : Bool) → isHole i (x .what) ≡ b → (lowestHole i xs ≡ some h → (h ∈ xs) × (h .what ≡ hole i)) → choose b (some x) (lowestHole i xs) ≡ some h
+    go : (b : Bool) → isHole i (x .what) ≡ b → (lowestHole i xs ≡ some h → (h ∈ xs) × (h .what ≡ hole i))
+        → choose b (some x) (lowestHole i xs) ≡ some h
         → (h ∈ (x ∷ xs)) × (h .what ≡ hole i)
     go true q ih r = let w : x ≡ h = cc in (List·Memᴰ·head (sym w), ap (λ (y : Face). y .what) (sym w) ∙ hole-is i (x .what) q)
     go false q ih r = let y = ih r in (List·Memᴰ·tail (y .0), y .1)
@@ -101,7 +102,8 @@ argument-of (cons l c s) zero h q = (h .0, h .1, tt)
 argument-of (cons l c s) (suc i) h q = argument-of s i (h .2) (omega arith)
 
 -- One application: its function has the body b, it has as many arguments as its label says, it is satisfied
-module _ (σ : Filling) (b : Term) (f n : ℕ) (x : Face) (given : σ f ≡ body b) (isFunction : x .what ≡ function f n) (shape : (trees (x .children) ≡ n) × IsArgument (x .children))
+module _ (σ : Filling) (b : Term) (f n : ℕ) (x : Face) (given : σ f ≡ body b) (isFunction : x .what ≡ function f n)
+    (shape : (trees (x .children) ≡ n) × IsArgument (x .children))
     (faced : IsExpression (one (x .term))) (sat : Satisfied (fillHandler σ) x) where
   abbrev pub arguments : ℕ → Term
   arguments = argument (fill (fillHandler σ) (x .under) (x .children))
@@ -117,7 +119,8 @@ module _ (σ : Filling) (b : Term) (f n : ℕ) (x : Face) (given : σ f ≡ body
   -- At a hole of place i, found in the walk of the body
   module _ (i : ℕ) (small : i < n) (h : Face) (isLowest : lowestHole i (orNone (walk 0 (x .node) (one b) (one (x .term)))) ≡ some h) where
     inWalk : (h ∈ bodyWalk .found) × (h .what ≡ hole i)
-    inWalk = lowest-is i (bodyWalk .found) h (subst (λ (o : Option (List Face)). lowestHole i (orNone o) ≡ some h) (bodyWalk .defined) isLowest)
+    inWalk = lowest-is i (bodyWalk .found) h
+        (subst (λ (o : Option (List Face)). lowestHole i (orNone o) ≡ some h) (bodyWalk .defined) isLowest)
 
     fewer : i < trees (x .children)
     fewer = subst (λ (m : ℕ). i < m) (sym (shape .0)) small
@@ -125,7 +128,8 @@ module _ (σ : Filling) (b : Term) (f n : ℕ) (x : Face) (given : σ f ≡ body
     lowered : lowerTerm (h .under) (h .term) ≡ some (arguments i)
     lowered =
         let e : shiftTerm (h .under) (arguments i) ≡ h .term =
-        subst (λ (z : Slot). plugHandler arguments (h .under) z (fill (plugHandler arguments) (h .under) (h .children)) ≡ h .term) (inWalk .1)
+        subst (λ (z : Slot). plugHandler arguments (h .under) z (fill (plugHandler arguments) (h .under) (h .children)) ≡ h .term)
+        (inWalk .1)
         (bodyWalk .satisfied h (inWalk .0)) in
         subst (λ (t : Term). lowerTerm (h .under) t ≡ some (arguments i)) e (lower-shift-term (h .under) (arguments i))
 
@@ -142,17 +146,20 @@ module _ (σ : Filling) (b : Term) (f n : ℕ) (x : Face) (given : σ f ≡ body
     -- The sources that the hole gives are the metavariables of the argument
     pub hole-sources : fromHole (x .under) (argument (x .children) i) (some h) ≡ each sourceOf (argumentWalk .found)
     hole-sources =
-        ap (λ (o : Option Term). each sourceOf (orNone (andThen o (λ u. walk (x .under) (h .node) (one (argument (x .children) i)) (one u))))) lowered
+        ap (λ (o : Option Term). each sourceOf
+        (orNone (andThen o (λ u. walk (x .under) (h .node) (one (argument (x .children) i)) (one u))))) lowered
         ∙ ap (λ (o : Option (List Face)). each sourceOf (orNone o)) (argumentWalk .defined)
 
     pub hole-expression : (y : Face) → y ∈ argumentWalk .found → IsExpression (one (y .term))
     hole-expression =
-        faces-expression (x .under) (h .node) (one (argument (x .children) i)) (one (arguments i)) (argumentWalk .found) expression (argumentWalk .defined)
+        faces-expression (x .under) (h .node) (one (argument (x .children) i)) (one (arguments i)) (argumentWalk .found) expression
+        (argumentWalk .defined)
 
     pub hole-values : (y : Face) → y ∈ argumentWalk .found → (m : ℕ) → y .what ≡ metavariable m → σ m ≡ value (y .term)
     hole-values y q m e =
         value-is m (σ m) (y .term) (hole-expression y q)
-        (subst (λ (z : Slot). fillHandler σ (y .under) z (fill (fillHandler σ) (y .under) (y .children)) ≡ y .term) e (argumentWalk .satisfied y q))
+        (subst (λ (z : Slot). fillHandler σ (y .under) z (fill (fillHandler σ) (y .under) (y .children)) ≡ y .term) e
+        (argumentWalk .satisfied y q))
 
     pub hole-there : hasHole i (one b) ≡ true
     hole-there =
@@ -161,10 +168,12 @@ module _ (σ : Filling) (b : Term) (f n : ℕ) (x : Face) (given : σ f ≡ body
         (face-slot 0 (x .node) (one b) (one (x .term)) (bodyWalk .found) h (bodyWalk .defined) (inWalk .0)))
 
     -- Each metavariable of the argument has a source there
-    pub hole-has : (m : ℕ) → m ∈ plain (one (argument (x .children) i)) → HasSource m (fromHole (x .under) (argument (x .children) i) (some h))
+    pub hole-has : (m : ℕ) → m ∈ plain (one (argument (x .children) i))
+        → HasSource m (fromHole (x .under) (argument (x .children) i) (some h))
     hole-has m q =
         let s = plain-slot (one (argument (x .children) i)) (argument-of (x .children) i (shape .1) fewer) m q in
-        let y = slot-face (x .under) (h .node) (one (argument (x .children) i)) (one (arguments i)) (argumentWalk .found) (metavariable m) (s .0) (argumentWalk .defined) (s .1) in
+        let y = slot-face (x .under) (h .node) (one (argument (x .children) i)) (one (arguments i)) (argumentWalk .found) (metavariable m)
+        (s .0) (argumentWalk .defined) (s .1) in
         subst (HasSource m) (sym hole-sources) (face-source (y .0) m (argumentWalk .found) (y .1) (y .2))
 
   abbrev lowest : ℕ → Option Face
@@ -202,11 +211,13 @@ module _ (σ : Filling) (b : Term) (f n : ℕ) (x : Face) (given : σ f ≡ body
             hasHoles = hole-there i small h e;
             stands = slot-plain (one (argument (x .children) i)) (s .number) (y .0 .children)
                 (subst (λ (k : Slot). _∈_ {A = Slot × Terms} (k, y .0 .children) (slots (one (argument (x .children) i)))) (z .0)
-                (face-slot (x .under) (h .node) (one (argument (x .children) i)) (one (arguments i)) (walk-there .found) (y .0) (walk-there .defined) (y .1)));
+                (face-slot (x .under) (h .node) (one (argument (x .children) i)) (one (arguments i)) (walk-there .found) (y .0)
+                (walk-there .defined) (y .1)));
           }
 
   -- A metavariable of an argument whose hole the body has is given a source
-  pub application-has : (places : ℕ) → IsBody places (one b) → (i m : ℕ) → i < n → hasHole i (one b) ≡ true → m ∈ plain (one (argument (x .children) i))
+  pub application-has : (places : ℕ) → IsBody places (one b) → (i m : ℕ) → i < n → hasHole i (one b) ≡ true
+      → m ∈ plain (one (argument (x .children) i))
       → HasSource m (each fromPlace (upTo n))
   application-has places isBody i m small there q =
       let hs = hole-slot places (one b) isBody i there in
@@ -214,5 +225,6 @@ module _ (σ : Filling) (b : Term) (f n : ℕ) (x : Face) (given : σ f ≡ body
       let lo = lowest-there i (bodyWalk .found) (hf .0) (hf .1) (hf .2) in
       let e : lowest i ≡ some (lo .0) = ap (λ (o : Option (List Face)). lowestHole i (orNone o)) (bodyWalk .defined) ∙ lo .1 in
       let src : HasSource m (fromPlace i) =
-      subst (λ (o : Option Face). HasSource m (fromHole (x .under) (argument (x .children) i) o)) (sym e) (hole-has i small (lo .0) e m q) in
+      subst (λ (o : Option Face). HasSource m (fromHole (x .under) (argument (x .children) i) o)) (sym e)
+      (hole-has i small (lo .0) e m q) in
       (src .0, mem-each fromPlace i (src .0) (upTo n) (mem-upTo n i small) (src .1), src .2)

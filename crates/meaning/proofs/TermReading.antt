@@ -23,11 +23,13 @@ use Rattle.meaning.proofs.ByteLaws.{field-bytes}
 use Rattle.meaning.proofs.NodeReading.{encode-graft, encode-one, encode-long, graft-long, some-trees, kindTag, head-field, Opened}
 use Rattle.meaning.proofs.NodeReading.{content-opened, kindOn, kind-on, contentOn, content-on, field-head, tag-byte, fixed-bytes}
 
-readable-graft : (levels : ℕ) (ctx : Context) (t : NamedTerm) (f : Forest Named) → Readable levels ctx (one t) → Readable levels ctx f → Readable levels ctx (graft t f)
+readable-graft : (levels : ℕ) (ctx : Context) (t : NamedTerm) (f : Forest Named) → Readable levels ctx (one t) → Readable levels ctx f
+    → Readable levels ctx (graft t f)
 readable-graft zero ctx t f a b = absurd a
 readable-graft (suc levels) ctx t f a b = (a .0, a .1, b)
 
-readable-split : (levels : ℕ) (ctx : Context) (t : NamedTerm) (f : Forest Named) → Readable levels ctx (graft t f) → Readable levels ctx (one t) × Readable levels ctx f
+readable-split : (levels : ℕ) (ctx : Context) (t : NamedTerm) (f : Forest Named) → Readable levels ctx (graft t f)
+    → Readable levels ctx (one t) × Readable levels ctx f
 readable-split zero ctx t f a = absurd a
 readable-split (suc levels) ctx t f a = ((a .0, a .1, tt), a .2)
 
@@ -46,7 +48,8 @@ nil-filled levels ctx s h = (sym (none-left s h), tt)
 
 module _ (levels : ℕ) (ctx : Context) (read : Reader) (law : Faithful levels ctx read) where
   -- One term, and the rest by the same law
-  graft-filled : (s : Bytes) (x : NamedTerm × Bytes) (f : Forest Named) → All Byte s → read s ≡ got x → Filled levels ctx (x .1) f → Filled levels ctx s (graft (x .0) f)
+  graft-filled : (s : Bytes) (x : NamedTerm × Bytes) (f : Forest Named) → All Byte s → read s ≡ got x → Filled levels ctx (x .1) f
+      → Filled levels ctx s (graft (x .0) f)
   graft-filled s x f b e r =
       let t = law s x b e in
       (encode-graft (x .0) f ∙ ap (λ (l : Bytes). encode (one (x .0)) ++ l) (r .0) ∙ t .0, readable-graft levels ctx (x .0) f (t .1) (r .1))
@@ -57,7 +60,8 @@ module _ (levels : ℕ) (ctx : Context) (read : Reader) (law : Faithful levels c
   left-fewer : (s : Bytes) (x : NamedTerm × Bytes) → All Byte s → read s ≡ got x → length (x .1) < length s
   left-fewer s x b e = omega (arith, simp length-append at (ap length (law s x b e .0)), encode-long (x .0))
 
-  exactly-filled : (n : ℕ) (s : Bytes) (f : Forest Named) → All Byte s → readExactly n read s ≡ got f → Filled levels ctx s f × (trees f ≡ n)
+  exactly-filled : (n : ℕ) (s : Bytes) (f : Forest Named) → All Byte s → readExactly n read s ≡ got f
+      → Filled levels ctx s f × (trees f ≡ n)
   unfolding readExactly
   exactly-filled zero s f b e =
       let r = when-got (eqb (length s) 0) 7 _ e in
@@ -67,14 +71,16 @@ module _ (levels : ℕ) (ctx : Context) (read : Reader) (law : Faithful levels c
       by-got (read s) _ e (λ x first e.
       by-got (readExactly n read (x .1)) _ e (λ g rest e.
       let ih = exactly-filled n (x .1) g (left-bytes s x b first) rest in
-      subst (λ (f : Forest Named). Filled levels ctx s f × (trees f ≡ suc n)) (got-is e) (graft-filled s x g b first (ih .0), ap suc (ih .1))))
+      subst (λ (f : Forest Named). Filled levels ctx s f × (trees f ≡ suc n)) (got-is e)
+      (graft-filled s x g b first (ih .0), ap suc (ih .1))))
 
   all-filled : (n : ℕ) (s : Bytes) (f : Forest Named) → All Byte s → length s ≤ n → readAll n read s ≡ got f → Filled levels ctx s f
   unfolding readAll
   all-filled zero s f b h e = subst (Filled levels ctx s) (got-is e) (nil-filled levels ctx s h)
   all-filled (suc n) s f b h e =
       by-choice (eqb (length s) 0) _ _ e
-      (λ t e. let z : length s ≡ 0 = eqb-true (length s) 0 t in subst (Filled levels ctx s) (got-is e) (nil-filled levels ctx s (omega arith)))
+      (λ t e. let z : length s ≡ 0 = eqb-true (length s) 0 t in
+      subst (Filled levels ctx s) (got-is e) (nil-filled levels ctx s (omega arith)))
       (λ _ e.
       by-got (read s) _ e (λ x first e.
       by-got (readAll n read (x .1)) _ e (λ g rest e.
@@ -86,10 +92,13 @@ module _ (levels : ℕ) (ctx : Context) (read : Reader) (law : Faithful levels c
 abbrev Made : ℕ → Context → ℕ → Bytes → NamedTerm → Type 0
 Made levels ctx tag c t = (encode (one t) ≡ field tag c) × Readable (suc levels) ctx (one t)
 
-node-made : (levels : ℕ) (ctx : Context) (tag : ℕ) (c : Bytes) (l : Named) (f : Forest Named) → tagOf l ≡ tag → fixedPart l ++ encode f ≡ c → NodeFits ctx l f → Readable levels (contextBelow l ctx) f → Made levels ctx tag c (l, f)
+node-made : (levels : ℕ) (ctx : Context) (tag : ℕ) (c : Bytes) (l : Named) (f : Forest Named) → tagOf l ≡ tag → fixedPart l ++ encode f ≡ c
+    → NodeFits ctx l f → Readable levels (contextBelow l ctx) f → Made levels ctx tag c (l, f)
 node-made levels ctx tag c l f t e fits below = (encode-one (l, f) ∙ ap₂ field t e, (fits, below, tt))
 
-content-made : (levels : ℕ) (ctx : Context) (read : Context → Reader) → ((below : Context) → Faithful levels below (read below)) → (tag : ℕ) (c : Bytes) (x : Content) (t : NamedTerm) → All Byte c → Opened ctx tag c x → readContent read ctx x ≡ got t → Made levels ctx tag c t
+content-made : (levels : ℕ) (ctx : Context) (read : Context → Reader) → ((below : Context) → Faithful levels below (read below))
+    → (tag : ℕ) (c : Bytes) (x : Content) (t : NamedTerm) → All Byte c → Opened ctx tag c x → readContent read ctx x ≡ got t
+    → Made levels ctx tag c t
 unfolding encode contextBelow
 content-made levels ctx read law tag c (leaf l) t b o e =
     subst (Made levels ctx tag c) (got-is e) (node-made levels ctx tag c l nil (o .0) (append-nil (fixedPart l) ∙ o .1) (o .2) tt)
@@ -105,7 +114,8 @@ content-made levels ctx read law tag c (many s) t b o e =
     let bytes : All Byte s = subst (All Byte) (sym (o .1)) b in
     let r = all-filled levels ctx (read ctx) (law ctx) (length s) s f bytes (omega arith) inner in
     let some : 0 < trees f = some-trees f (rw (r .0) (o .2)) in
-    subst (Made levels ctx tag c) (got-is e) (node-made levels ctx tag c (own (application (trees f))) f (o .0) (r .0 ∙ o .1) (refl, some) (r .1)))
+    subst (Made levels ctx tag c) (got-is e)
+    (node-made levels ctx tag c (own (application (trees f))) f (o .0) (r .0 ∙ o .1) (refl, some) (r .1)))
 
 term-faithful : (levels : ℕ) (ctx : Context) → Faithful levels ctx (readTerm levels ctx)
 unfolding readTerm
@@ -142,10 +152,16 @@ module _ (levels : ℕ) (ctx : Context) (read : Reader) (law : Complete levels c
   all-complete zero (cons l c s) r h = absurd (omega (arith, graft-long (l, c) s))
   all-complete (suc n) (cons l c s) r h =
       let long = graft-long (l, c) s in
-      rw (ne-eqb (length (encode (cons l c s))) 0 (λ e. omega arith), first-complete (l, c) s r, all-complete n s (readable-split levels ctx (l, c) s r .1) (omega arith))
+      rw (
+        ne-eqb (length (encode (cons l c s))) 0 (λ e. omega arith),
+        first-complete (l, c) s r,
+        all-complete n s (readable-split levels ctx (l, c) s r .1) (omega arith),
+      )
 
 -- Its inner fields are its children
-node-complete : (levels : ℕ) (ctx : Context) (read : Context → Reader) → ((below : Context) → Complete levels below (read below)) → (l : Named) (c : Forest Named) → NodeFits ctx l c → Readable levels (contextBelow l ctx) c → readContent read ctx (contentOn l c) ≡ got (l, c)
+node-complete : (levels : ℕ) (ctx : Context) (read : Context → Reader) → ((below : Context) → Complete levels below (read below))
+    → (l : Named) (c : Forest Named) → NodeFits ctx l c → Readable levels (contextBelow l ctx) c
+    → readContent read ctx (contentOn l c) ≡ got (l, c)
 unfolding contextBelow
 node-complete levels ctx read law (own (symbol n)) c fits r = rw (fits .1)
 node-complete levels ctx read law (own (variable x)) c fits r = rw (fits .1)
@@ -186,26 +202,33 @@ forest-bytes (suc levels) ctx (cons l c s) r h =
     (forest-bytes (suc levels) ctx s (r .2) (omega arith))
 
 -- The main theorems. A term that is read, with the bytes left after it, is readable and encodes to exactly the bytes read
-pub term-read-encodes : (levels : ℕ) (ctx : Context) (s : Bytes) (t : NamedTerm) (later : Bytes) → All Byte s → readTerm levels ctx s ≡ got (t, later) → encode (one t) ++ later ≡ s
+pub term-read-encodes : (levels : ℕ) (ctx : Context) (s : Bytes) (t : NamedTerm) (later : Bytes) → All Byte s
+    → readTerm levels ctx s ≡ got (t, later) → encode (one t) ++ later ≡ s
 term-read-encodes levels ctx s t later b e = term-faithful levels ctx s (t, later) b e .0
 
-pub term-read-readable : (levels : ℕ) (ctx : Context) (s : Bytes) (t : NamedTerm) (later : Bytes) → All Byte s → readTerm levels ctx s ≡ got (t, later) → Readable levels ctx (one t)
+pub term-read-readable : (levels : ℕ) (ctx : Context) (s : Bytes) (t : NamedTerm) (later : Bytes) → All Byte s
+    → readTerm levels ctx s ≡ got (t, later) → Readable levels ctx (one t)
 term-read-readable levels ctx s t later b e = term-faithful levels ctx s (t, later) b e .1
 
 -- A readable term is read back from its encoding, whatever bytes follow
-pub term-encode-read : (levels : ℕ) (ctx : Context) (t : NamedTerm) (later : Bytes) → Readable levels ctx (one t) → readTerm levels ctx (encode (one t) ++ later) ≡ got (t, later)
+pub term-encode-read : (levels : ℕ) (ctx : Context) (t : NamedTerm) (later : Bytes) → Readable levels ctx (one t)
+    → readTerm levels ctx (encode (one t) ++ later) ≡ got (t, later)
 term-encode-read levels ctx t later r = term-complete levels ctx t later r
 
 -- Its encoding consists of bytes, where two bytes can say its length
-pub term-bytes : (levels : ℕ) (ctx : Context) (t : NamedTerm) → Readable levels ctx (one t) → length (encode (one t)) < 65536 → All Byte (encode (one t))
+pub term-bytes : (levels : ℕ) (ctx : Context) (t : NamedTerm) → Readable levels ctx (one t) → length (encode (one t)) < 65536
+    → All Byte (encode (one t))
 term-bytes levels ctx t r h = forest-bytes levels ctx (one t) r h
 
 -- The same where nothing is left: for the term that ends a content
-pub term-read-whole : (levels : ℕ) (ctx : Context) (s : Bytes) (t : NamedTerm) (later : Bytes) → All Byte s → readTerm levels ctx s ≡ got (t, later) → eqb (length later) 0 ≡ true → encode (one t) ≡ s
+pub term-read-whole : (levels : ℕ) (ctx : Context) (s : Bytes) (t : NamedTerm) (later : Bytes) → All Byte s
+    → readTerm levels ctx s ≡ got (t, later) → eqb (length later) 0 ≡ true → encode (one t) ≡ s
 term-read-whole levels ctx s t later b e h =
     let none : length later ≡ 0 = eqb-true (length later) 0 h in
-    let alone : encode (one t) ++ later ≡ encode (one t) = ap (λ (l : Bytes). encode (one t) ++ l) (none-left later (omega arith)) ∙ append-nil (encode (one t)) in
+    let alone : encode (one t) ++ later ≡ encode (one t) =
+    ap (λ (l : Bytes). encode (one t) ++ l) (none-left later (omega arith)) ∙ append-nil (encode (one t)) in
     sym alone ∙ term-read-encodes levels ctx s t later b e
 
-pub term-encode-whole : (levels : ℕ) (ctx : Context) (t : NamedTerm) → Readable levels ctx (one t) → readTerm levels ctx (encode (one t)) ≡ got (t, [])
+pub term-encode-whole : (levels : ℕ) (ctx : Context) (t : NamedTerm) → Readable levels ctx (one t)
+    → readTerm levels ctx (encode (one t)) ≡ got (t, [])
 term-encode-whole levels ctx t r = ap (readTerm levels ctx) (sym (append-nil (encode (one t)))) ∙ term-encode-read levels ctx t [] r

@@ -49,7 +49,8 @@ small-number : (p : Problem) (m : ℕ) → m ∈ metavariables p → m < metavar
 unfolding metavariables
 small-number p m h = upTo-mem metavariableCount m (keep-mem (λ k. isFunction p k || isPlain p k) m (upTo metavariableCount) h .0)
 
-pub by-kind : (p : Problem) {A : Type 0} (m : ℕ) → m ∈ metavariables p → (m ∈ applied (patterns p) → A) → ((m ∈ applied (patterns p) → ⊥) → m ∈ plain (patterns p) → A) → A
+pub by-kind : (p : Problem) {A : Type 0} (m : ℕ) → m ∈ metavariables p → (m ∈ applied (patterns p) → A)
+    → ((m ∈ applied (patterns p) → ⊥) → m ∈ plain (patterns p) → A) → A
 unfolding metavariables
 by-kind p m h asFunction asOther =
     by-test (isFunction p m) (λ e. asFunction (isIn-mem m (applied (patterns p)) e))
@@ -99,7 +100,8 @@ module _ (p : Problem) (r : Row) (ok : Accepted p) (e : solves p r ≡ true) whe
       → (n : ℕ) × (entryOf p r m ≡ body (punchTerm (choiceIn (functions p) r m) (termAt p n))) × Copied p n (faceOf p m)
   unfolding entryOf
   written-body m a =
-      let w : Walked (fillHandler (candidate p r)) 0 0 (patterns p) (expressions p) = walked (fillHandler (candidate p r)) 0 0 (patterns p) (expressions p) (passes-meets p r e) in
+      let w : Walked (fillHandler (candidate p r)) 0 0 (patterns p) (expressions p) =
+      walked (fillHandler (candidate p r)) 0 0 (patterns p) (expressions p) (passes-meets p r e) in
       let y = function-face p proper (w .found) (w .defined) m a in
       let c : Copied p (y .0 .node) (y .0 .term) = copied p (y .0 .node) (y .0 .term) (face-node p (w .found) (w .defined) (y .0) (y .2)) in
       let faced : faceOf p m ≡ y .0 .term = ap (λ (o : Option Face). faceTerm o m) (y .1) in (
@@ -109,7 +111,8 @@ module _ (p : Problem) (r : Row) (ok : Accepted p) (e : solves p r ≡ true) whe
         subst (Copied p (y .0 .node)) (sym faced) c,
       )
 
-  body-copied : (m n : ℕ) (c : Copied p n (faceOf p m)) → rowBody p r m ≡ namelessTerm (c .scope) (punchTerm (choiceIn (functions p) r m) (termAt p n))
+  body-copied : (m n : ℕ) (c : Copied p n (faceOf p m))
+      → rowBody p r m ≡ namelessTerm (c .scope) (punchTerm (choiceIn (functions p) r m) (termAt p n))
   unfolding rowBody
   body-copied m n c =
       ap (punchTerm (choiceIn (functions p) r m)) (c .means) ∙ punch-names (choiceIn (functions p) r m) (c .scope) (termAt p n)
@@ -120,7 +123,8 @@ module _ (p : Problem) (r : Row) (ok : Accepted p) (e : solves p r ≡ true) whe
       let c : Copied p (w .0) (faceOf p m) = w .2 in
       let v : NamedTerm = punchTerm (choiceIn (functions p) r m) (termAt p (w .0)) in
       let same : rowBody p r m ≡ namelessTerm (c .scope) v = body-copied m (w .0) c in
-      let d : ClosedTerm (rowBody p r m) = test-closed 0 (one (rowBody p r m)) (closed-entry m (body (rowBody p r m)) h (candidate-function p r m a)) in
+      let d : ClosedTerm (rowBody p r m) =
+      test-closed 0 (one (rowBody p r m)) (closed-entry m (body (rowBody p r m)) h (candidate-function p r m a)) in
       ap meant (w .1) ∙ ap body (sym (scope-drop (c .scope) v (subst ClosedTerm same d)) ∙ sym same) ∙ sym (candidate-function p r m a)
 
   -- Another metavariable's entry is the term at its source
@@ -128,13 +132,16 @@ module _ (p : Problem) (r : Row) (ok : Accepted p) (e : solves p r ≡ true) whe
   unfolding entryOf
   written-value m a = choose-false (writtenBody p r m) (writtenValue p (lookup m (sources p r))) (not-isIn m (applied (patterns p)) a)
 
-  value-copied : (m : ℕ) (s : Source) → m ∈ metavariables p → (m ∈ applied (patterns p) → ⊥) → m ∈ plain (patterns p) → lookup m (sources p r) ≡ some s
+  value-copied : (m : ℕ) (s : Source) → m ∈ metavariables p → (m ∈ applied (patterns p) → ⊥) → m ∈ plain (patterns p)
+      → lookup m (sources p r) ≡ some s
       → ClosedTerm (s .term) × Copied p (s .node) (s .term)
   value-copied m s h a b q =
-      let d : ClosedTerm (s .term) = test-closed 0 (one (s .term)) (closed-entry m (value (s .term)) h (candidate-plain p r m a b ∙ ap given q)) in
+      let d : ClosedTerm (s .term) =
+      test-closed 0 (one (s .term)) (closed-entry m (value (s .term)) h (candidate-plain p r m a b ∙ ap given q)) in
       (d, copied p (s .node) (s .term) (source-node p r s (lookup-is m (sources p r) s q .0) d))
 
-  entry-value : (m : ℕ) → m ∈ metavariables p → (m ∈ applied (patterns p) → ⊥) → m ∈ plain (patterns p) → meant (entryOf p r m) ≡ candidate p r m
+  entry-value : (m : ℕ) → m ∈ metavariables p → (m ∈ applied (patterns p) → ⊥) → m ∈ plain (patterns p)
+      → meant (entryOf p r m) ≡ candidate p r m
   entry-value m h a b = ap meant (written-value m a) ∙ go (lookup m (sources p r)) refl ∙ sym (candidate-plain p r m a b)
     where
       go : (o : Option Source) → lookup m (sources p r) ≡ o → meant (writtenValue p o) ≡ given o
@@ -164,7 +171,8 @@ said-in says (k ∷ ms) m h = go (eqb m k) refl (said-in says ms m) (List·Mem�
 said-out : (says : ℕ → Entry NamedTerm) (ms : List ℕ) (m : ℕ) → (m ∈ ms → ⊥) → said (itemsOf says ms) m ≡ absent
 said-out says [] m h = refl
 said-out says (k ∷ ms) m h =
-    choose-false (meant (says k)) (said (itemsOf says ms) m) (eqb-other m k (λ w. h (List·Memᴰ·head w))) ∙ said-out says ms m (λ w. h (List·Memᴰ·tail w))
+    choose-false (meant (says k)) (said (itemsOf says ms) m) (eqb-other m k (λ w. h (List·Memᴰ·head w)))
+    ∙ said-out says ms m (λ w. h (List·Memᴰ·tail w))
 
 numbers-of : (says : ℕ → Entry NamedTerm) (ms : List ℕ) → map (λ (i : Item). i .0) (itemsOf says ms) ≡ ms
 numbers-of says [] = refl
@@ -186,7 +194,8 @@ expressions-readable p ok =
 one-level-more : (levels : ℕ) (ctx : Context) (u : Forest Named) → Readable levels ctx u → Readable (suc levels) ctx u
 one-level-more levels ctx nil h = tt
 one-level-more zero ctx (cons l c s) h = absurd h
-one-level-more (suc levels) ctx (cons l c s) h = (h .0, one-level-more levels (contextBelow l ctx) c (h .1), one-level-more (suc levels) ctx s (h .2))
+one-level-more (suc levels) ctx (cons l c s) h =
+    (h .0, one-level-more levels (contextBelow l ctx) c (h .1), one-level-more (suc levels) ctx s (h .2))
 
 -- Below a node of an expression there are expressions
 same-context : (l : Named) (c : Forest Named) → NodeFits inExpression l c → contextBelow l inExpression ≡ inExpression
@@ -196,7 +205,8 @@ same-context (slot (metavariable m)) c h = absurd (h .0)
 same-context (slot (function f n)) c h = absurd (h .0)
 same-context (slot (hole i)) c h = absurd (h .0)
 
-readable-node : {n : ℕ} {u : Forest Named} {t : NamedTerm} (levels : ℕ) → Stands n u t → Readable levels inExpression u → Readable levels inExpression (one t)
+readable-node : {n : ℕ} {u : Forest Named} {t : NamedTerm} (levels : ℕ) → Stands n u t → Readable levels inExpression u
+    → Readable levels inExpression (one t)
 readable-node zero here h = absurd h
 readable-node zero (below g) h = absurd h
 readable-node zero (beside g d) h = absurd h
@@ -216,7 +226,8 @@ punch-trees (some i ∷ ms) (cons l c s) = ap suc (punch-trees (drop (size c) ms
 punch-nil : (ms : Marks) (u : Forest Named) → u ≡ nil → punch ms u ≡ nil
 punch-nil ms u e = ap (punch ms) e
 
-punched-fits : (l : Named) (ms : Marks) (c : Forest Named) → NodeFits inExpression l c → NodeFits inBody l (punch ms c) × (contextBelow l inBody ≡ inBody)
+punched-fits : (l : Named) (ms : Marks) (c : Forest Named) → NodeFits inExpression l c
+    → NodeFits inBody l (punch ms c) × (contextBelow l inBody ≡ inBody)
 unfolding contextBelow
 punched-fits (own (symbol n)) ms c h = ((h .0, punch-nil ms c (h .1)), refl)
 punched-fits (own (variable x)) ms c h = ((h .0, punch-nil ms c (h .1)), refl)
@@ -233,7 +244,8 @@ punched-readable n tagged levels sc ms nil h b = tt
 punched-readable n tagged zero sc ms (cons l c s) h b = absurd h
 punched-readable n tagged (suc levels) sc ms (cons l c s) h b =
     go (mark ms) b
-    (punched-readable n tagged levels (enter l sc) (rest ms) c (subst (λ (x : Context). Readable levels x c) (same-context l c (h .0)) (h .1)))
+    (punched-readable n tagged levels (enter l sc) (rest ms) c
+    (subst (λ (x : Context). Readable levels x c) (same-context l c (h .0)) (h .1)))
     (punched-readable n tagged (suc levels) sc (drop (size c) (rest ms)) s (h .2))
   where
     go : (m : Mark) → IsBody n (nameless sc (punchNode m l (punch (rest ms) c) (punch (drop (size c) (rest ms)) s)))
@@ -263,7 +275,8 @@ text-says p r ok e =
     elsewhere m q =
         let h : (m ∈ metavariables p → ⊥) = λ w. true≢false (sym (mem-isIn m (metavariables p) w) ∙ q) in
         let c : Proper p = accepted-proper p ok in
-        candidate-other p r m (λ a. h (applied-occurs p c m a)) (λ a. h (plain-occurs p c m a)) ∙ sym (said-out (entryOf p r) (metavariables p) m h)
+        candidate-other p r m (λ a. h (applied-occurs p c m a)) (λ a. h (plain-occurs p c m a))
+        ∙ sym (said-out (entryOf p r) (metavariables p) m h)
 
 -- THE TEXT CAN BE READ
 pub text-readable : (p : Problem) (r : Row) → Accepted p → r ∈ rows p → solves p r ≡ true → All ReadableItem (textOf p r)
@@ -279,14 +292,17 @@ text-readable p r ok inRows e = go (metavariables p) (λ m h. (small-number p m 
         let c : Copied p (w .0) (faceOf p m) = w .2 in
         let ms : Marks = choiceIn (functions p) r m in
         let v : NamedTerm = termAt p (w .0) in
-        let shape : IsBody (placesOf p m) (one (rowBody p r m)) = passes-fitting p r e (accepted-proper p ok) (rows-are p r .0 inRows) .shapes m a in
+        let shape : IsBody (placesOf p m) (one (rowBody p r m)) =
+        passes-fitting p r e (accepted-proper p ok) (rows-are p r .0 inRows) .shapes m a in
         let same : one (rowBody p r m) ≡ nameless (c .scope) (punch ms (one v)) =
         ap (λ (t : Term). one t) (body-copied p r ok e m (w .0) c) ∙ ap (nameless (c .scope)) (punch-one ms v) in
         let x : Readable maxDepth inBody (punch ms (one v)) =
-        punched-readable (placesOf p m) (λ i. hole-tagged p (ok .within) m i a) maxDepth (c .scope) ms (one v) (at (w .0) (faceOf p m) c) (subst (IsBody (placesOf p m)) same shape) in
+        punched-readable (placesOf p m) (λ i. hole-tagged p (ok .within) m i a) maxDepth (c .scope) ms (one v) (at (w .0) (faceOf p m) c)
+        (subst (IsBody (placesOf p m)) same shape) in
         subst ReadableEntry (sym (w .1)) (subst (Readable maxDepth inBody) (sym (punch-one ms v)) x)
 
-    valueEntry : (m : ℕ) → m ∈ metavariables p → (m ∈ applied (patterns p) → ⊥) → m ∈ plain (patterns p) → (o : Option Source) → lookup m (sources p r) ≡ o
+    valueEntry : (m : ℕ) → m ∈ metavariables p → (m ∈ applied (patterns p) → ⊥) → m ∈ plain (patterns p) → (o : Option Source)
+        → lookup m (sources p r) ≡ o
         → ReadableEntry (writtenValue p o)
     valueEntry m h a b none q = tt
     valueEntry m h a b (some s) q = at (s .node) (s .term) (value-copied p r ok e m s h a b q .1)

@@ -1,5 +1,6 @@
 -- "A text is at most the input's length + 4 × the number of metavariables."
--- Each entry has 4 bytes besides its term's. The term's bytes are charged to a face of the problem: a value to the face of its metavariable,
+-- Each entry has 4 bytes besides its term's. The term's bytes are charged to a face of the problem: a value to the face of its
+-- metavariable,
 -- or to that of the application from whose hole it comes; a body to its function's first application.
 --   holeWeight  the bytes at a hole that a body's walk found
 --   charges     all that can be charged to a face
@@ -85,7 +86,8 @@ hole-most k t (some h) = go (lowerTerm (h .under) (h .term)) refl
     go (some u) e = at u e (walk k (h .node) (one t) (one u)) refl
 
 -- A punched expression has only holes for slots, and each has 3 bytes
-punched-slots : (ms : Marks) (u : Terms) → IsExpression u → (z : Slot) (c : Terms) → (z, c) ∈ slots (punch ms u) → weight (one (slot z, c)) ≡ 3
+punched-slots : (ms : Marks) (u : Terms) → IsExpression u → (z : Slot) (c : Terms) → (z, c) ∈ slots (punch ms u)
+    → weight (one (slot z, c)) ≡ 3
 punched-slots ms nil h z c q = absurd (List·Memᴰ·not-nil q)
 punched-slots ms (cons (slot y) d s) h z c q = absurd (h .0)
 punched-slots [] (cons (own o) d s) h z c q =
@@ -113,7 +115,8 @@ lowest-most : (n : ℕ) (ys : List Face) → total (λ i. holeWeight (lowestHole
 lowest-most n ys =
     let a : total (λ i. holeWeight (lowestHole i ys)) (upTo n) ≤ total (λ i. 3 + beyondLowest ys i) (upTo n) =
     total-most (λ i. holeWeight (lowestHole i ys)) (λ i. 3 + beyondLowest ys i) (upTo n) (λ i m. omega arith) in
-    let b : total (λ i. 3 + beyondLowest ys i) (upTo n) ≡ total (λ i. 3) (upTo n) + total (beyondLowest ys) (upTo n) = total-add (λ i. 3) (beyondLowest ys) (upTo n) in
+    let b : total (λ i. 3 + beyondLowest ys i) (upTo n) ≡ total (λ i. 3) (upTo n) + total (beyondLowest ys) (upTo n) =
+    total-add (λ i. 3) (beyondLowest ys) (upTo n) in
     let c : total (λ i. 3) (upTo n) ≡ 3 * length (upTo n) = total-same 3 (upTo n) in
     let d : length (upTo n) ≡ n = length-upTo n in
     let e : total (beyondLowest ys) (upTo n) ≤ total amount (map beyond ys) =
@@ -127,18 +130,23 @@ lowest-most n ys =
         let l = lowest-is i ys h e in
         inr (subst (λ (k : ℕ). (k, faced h - 3) ∈ map beyond ys) (ap holeNumber (l .1)) (mem-map beyond (l .0)))
 
-application-most : (places n k : ℕ) (b t : Term) (a : ℕ → Term) (ys : List Face) → walk 0 n (one b) (one t) ≡ some ys → ((y : Face) → y ∈ ys → slotted y ≡ 3)
+application-most : (places n k : ℕ) (b t : Term) (a : ℕ → Term) (ys : List Face) → walk 0 n (one b) (one t) ≡ some ys
+    → ((y : Face) → y ∈ ys → slotted y ≡ 3)
     → weight (one b) + total given-weight (each (λ i. fromHole k (a i) (lowestHole i ys)) (upTo places)) ≤ weight (one t) + 3 * places
 application-most places n k b t a ys q three =
     let w = walk-weight 0 n (one b) (one t) ys q in
-    let s : total slotted ys ≤ total (λ y. 3) ys = total-most slotted (λ y. 3) ys (λ y m. let e : slotted y ≡ 3 = three y m in omega arith) in
+    let s : total slotted ys ≤ total (λ y. 3) ys =
+    total-most slotted (λ y. 3) ys (λ y m. let e : slotted y ≡ 3 = three y m in omega arith) in
     let f : total (λ y. 3 + (faced y - 3)) ys ≤ total faced ys =
     total-most (λ y. 3 + (faced y - 3)) faced ys (λ y m. let e : 3 * 1 ≤ faced y = trees-weight (one (y .term)) in omega arith) in
-    let g : total (λ y. 3 + (faced y - 3)) ys ≡ total (λ y. 3) ys + total (λ y. faced y - 3) ys = total-add (λ y. 3) (λ y. faced y - 3) ys in
+    let g : total (λ y. 3 + (faced y - 3)) ys ≡ total (λ y. 3) ys + total (λ y. faced y - 3) ys =
+    total-add (λ y. 3) (λ y. faced y - 3) ys in
     let l = lowest-most places ys in
-    let i : total given-weight (each (λ j. fromHole k (a j) (lowestHole j ys)) (upTo places)) ≡ total (λ j. total given-weight (fromHole k (a j) (lowestHole j ys))) (upTo places) =
+    let i : total given-weight (each (λ j. fromHole k (a j) (lowestHole j ys)) (upTo places))
+    ≡ total (λ j. total given-weight (fromHole k (a j) (lowestHole j ys))) (upTo places) =
     total-each given-weight (λ j. fromHole k (a j) (lowestHole j ys)) (upTo places) in
-    let j : total (λ j. total given-weight (fromHole k (a j) (lowestHole j ys))) (upTo places) ≤ total (λ j. holeWeight (lowestHole j ys)) (upTo places) =
+    let j : total (λ j. total given-weight (fromHole k (a j) (lowestHole j ys))) (upTo places) ≤ total (λ j. holeWeight (lowestHole j ys))
+    (upTo places) =
     total-most (λ j. total given-weight (fromHole k (a j) (lowestHole j ys))) (λ j. holeWeight (lowestHole j ys)) (upTo places)
     (λ j m. hole-most k (a j) (lowestHole j ys)) in
     omega arith
@@ -168,7 +176,8 @@ application-charged b x (hole i) s q = absurd (List·Memᴰ·not-nil q)
 source-charged : (b : ℕ → Term) (xs : List Face) (s : Source) → s ∈ sourcesIn b xs → sourceCharge s ∈ each (charges b) xs
 source-charged b xs s q =
     ⊎-elim
-    (λ m. let y = each-mem sourceOf s xs m in mem-each (charges b) (y .0) (sourceCharge s) xs (y .1) (face-charged b (y .0) (y .0 .what) s (y .2)))
+    (λ m. let y = each-mem sourceOf s xs m in
+    mem-each (charges b) (y .0) (sourceCharge s) xs (y .1) (face-charged b (y .0) (y .0 .what) s (y .2)))
     (λ m. let y = each-mem (λ x. fromApplication b x (x .what)) s xs m in
     mem-each (charges b) (y .0) (sourceCharge s) xs (y .1) (application-charged b (y .0) (y .0 .what) s (y .2)))
     (List·Memᴰ·append-cases (each sourceOf xs) q)
@@ -196,27 +205,35 @@ module _ (p : Problem) (r : Row) (ok : Accepted p) (e : solves p r ≡ true) whe
       punched-slots ms (one (faceOf p f)) (face-expression p proper (theFaces .found) (theFaces .defined) f a) z c
       (subst (λ (u : Terms). _∈_ {A = Slot × Terms} (z, c) (slots u)) (body-row p r f) q)
 
-  function-most : (x : Face) → x ∈ theFaces .found → (f n : ℕ) → x .what ≡ function f n → total amount (chargesAt bodies x (function f n)) ≤ faced x + slotted x
+  function-most : (x : Face) → x ∈ theFaces .found → (f n : ℕ) → x .what ≡ function f n
+      → total amount (chargesAt bodies x (function f n)) ≤ faced x + slotted x
   function-most x m f n h =
       let there : _∈_ {A = Slot × Terms} (function f n, x .children) (slots (patterns p)) =
-      subst (λ (z : Slot). _∈_ {A = Slot × Terms} (z, x .children) (slots (patterns p))) h (face-slot 0 0 (patterns p) (expressions p) (theFaces .found) x (theFaces .defined) m) in
+      subst (λ (z : Slot). _∈_ {A = Slot × Terms} (z, x .children) (slots (patterns p))) h
+      (face-slot 0 0 (patterns p) (expressions p) (theFaces .found) x (theFaces .defined) m) in
       let shape = pattern-slot (patterns p) (proper .pattern) f n (x .children) there in
       let a : f ∈ applied (patterns p) = slot-applied (patterns p) f n (x .children) there in
-      let ex : IsExpression (one (x .term)) = faces-expression 0 0 (patterns p) (expressions p) (theFaces .found) (proper .expression) (theFaces .defined) x m in
+      let ex : IsExpression (one (x .term)) =
+      faces-expression 0 0 (patterns p) (expressions p) (theFaces .found) (proper .expression) (theFaces .defined) x m in
       let sat : Satisfied (fillHandler (candidate p r)) x = theFaces .satisfied x m in
       let args : ℕ → Term = arguments (candidate p r) (bodies f) f n x (candidate-function p r f a) h shape ex sat in
       let w : Walked (plugHandler args) 0 (x .node) (one (bodies f)) (one (x .term)) =
       walked (plugHandler args) 0 (x .node) (one (bodies f)) (one (x .term))
       (ap (λ (t : Term). one t) (plugged (candidate p r) (bodies f) f n x (candidate-function p r f a) h shape ex sat)) in
       let q = application-most n (x .node) (x .under) (bodies f) (x .term) (argument (x .children)) (w .found) (w .defined)
-      (λ y i. body-slots f a (y .what) (y .children) (face-slot 0 (x .node) (one (bodies f)) (one (x .term)) (w .found) y (w .defined) i)) in
-      let same : fromApplication bodies x (function f n) ≡ each (λ i. fromHole (x .under) (argument (x .children) i) (lowestHole i (w .found))) (upTo n) =
-      ap (λ (o : Option (List Face)). each (λ i. fromHole (x .under) (argument (x .children) i) (lowestHole i (orNone o))) (upTo n)) (w .defined) in
-      let s : total amount (map sourceCharge (fromApplication bodies x (function f n))) ≡ total given-weight (each (λ i. fromHole (x .under) (argument (x .children) i) (lowestHole i (w .found))) (upTo n)) =
+      (λ y i. body-slots f a (y .what) (y .children)
+      (face-slot 0 (x .node) (one (bodies f)) (one (x .term)) (w .found) y (w .defined) i)) in
+      let same : fromApplication bodies x (function f n)
+      ≡ each (λ i. fromHole (x .under) (argument (x .children) i) (lowestHole i (w .found))) (upTo n) =
+      ap (λ (o : Option (List Face)). each (λ i. fromHole (x .under) (argument (x .children) i) (lowestHole i (orNone o))) (upTo n))
+      (w .defined) in
+      let s : total amount (map sourceCharge (fromApplication bodies x (function f n)))
+      ≡ total given-weight (each (λ i. fromHole (x .under) (argument (x .children) i) (lowestHole i (w .found))) (upTo n)) =
       total-map amount sourceCharge (fromApplication bodies x (function f n)) ∙ ap (total given-weight) same in
       let c : 3 * trees (x .children) ≤ weight (x .children) = trees-weight (x .children) in
       let t : trees (x .children) ≡ n = shape .0 in
-      let l : labelWeight {X = Variable} {B = Unit {0}} (slot (x .what)) ≡ 4 = ap (λ (z : Slot). labelWeight {X = Variable} {B = Unit {0}} (slot z)) h in
+      let l : labelWeight {X = Variable} {B = Unit {0}} (slot (x .what))
+      ≡ 4 = ap (λ (z : Slot). labelWeight {X = Variable} {B = Unit {0}} (slot z)) h in
       omega arith
 
   face-most : (x : Face) → x ∈ theFaces .found → total amount (charges bodies x) ≤ faced x + slotted x
@@ -241,7 +258,8 @@ module _ (p : Problem) (r : Row) (ok : Accepted p) (e : solves p r ≡ true) whe
       → (entryWeight (candidate p r m) ≡ 0) ⊎ ((m, entryWeight (candidate p r m)) ∈ each (charges bodies) (theFaces .found))
   entry-charged m h = by-kind p m h asFunction asOther
     where
-      asFunction : m ∈ applied (patterns p) → (entryWeight (candidate p r m) ≡ 0) ⊎ ((m, entryWeight (candidate p r m)) ∈ each (charges bodies) (theFaces .found))
+      asFunction : m ∈ applied (patterns p)
+          → (entryWeight (candidate p r m) ≡ 0) ⊎ ((m, entryWeight (candidate p r m)) ∈ each (charges bodies) (theFaces .found))
       asFunction a =
           let x : FaceOf p (theFaces .found) m = face-of p proper (theFaces .found) (theFaces .defined) m a in
           let i : (m, weight (one (bodies m))) ∈ charges bodies (x .face) =
@@ -249,22 +267,27 @@ module _ (p : Problem) (r : Row) (ok : Accepted p) (e : solves p r ≡ true) whe
           inr (subst (λ (y : Entry Term). (m, entryWeight y) ∈ each (charges bodies) (theFaces .found)) (sym (candidate-function p r m a))
           (mem-each (charges bodies) (x .face) (m, weight (one (bodies m))) (theFaces .found) (x .among) i))
 
-      found : (o : Option Source) → lookup m (sources p r) ≡ o → (entryWeight (given o) ≡ 0) ⊎ ((m, entryWeight (given o)) ∈ each (charges bodies) (theFaces .found))
+      found : (o : Option Source) → lookup m (sources p r) ≡ o
+          → (entryWeight (given o) ≡ 0) ⊎ ((m, entryWeight (given o)) ∈ each (charges bodies) (theFaces .found))
       found none q = inl refl
       found (some s) q =
           let l = lookup-is m (sources p r) s q in
-          let i : s ∈ sourcesIn bodies (theFaces .found) = subst (λ (o : Option (List Face)). s ∈ sourcesIn bodies (orNone o)) (theFaces .defined) (l .0) in
-          inr (subst (λ (k : ℕ). (k, given-weight s) ∈ each (charges bodies) (theFaces .found)) (l .1) (source-charged bodies (theFaces .found) s i))
+          let i : s ∈ sourcesIn bodies (theFaces .found) =
+          subst (λ (o : Option (List Face)). s ∈ sourcesIn bodies (orNone o)) (theFaces .defined) (l .0) in
+          inr (subst (λ (k : ℕ). (k, given-weight s) ∈ each (charges bodies) (theFaces .found)) (l .1)
+          (source-charged bodies (theFaces .found) s i))
 
       asOther : (m ∈ applied (patterns p) → ⊥) → m ∈ plain (patterns p)
           → (entryWeight (candidate p r m) ≡ 0) ⊎ ((m, entryWeight (candidate p r m)) ∈ each (charges bodies) (theFaces .found))
       asOther a b =
-          subst (λ (y : Entry Term). (entryWeight y ≡ 0) ⊎ ((m, entryWeight y) ∈ each (charges bodies) (theFaces .found))) (sym (candidate-plain p r m a b))
+          subst (λ (y : Entry Term). (entryWeight y ≡ 0) ⊎ ((m, entryWeight y) ∈ each (charges bodies) (theFaces .found)))
+          (sym (candidate-plain p r m a b))
           (found (lookup m (sources p r)) refl)
 
   entries-most : total (λ m. entryWeight (candidate p r m)) (metavariables p) ≤ weight (patterns p) + weight (expressions p)
   entries-most =
-      let a = charged-once (λ m. entryWeight (candidate p r m)) (metavariables p) (each (charges bodies) (theFaces .found)) (metavariables-once p) entry-charged in
+      let a = charged-once (λ m. entryWeight (candidate p r m)) (metavariables p) (each (charges bodies) (theFaces .found))
+      (metavariables-once p) entry-charged in
       let b = charges-most in
       omega arith
 
@@ -290,11 +313,14 @@ unfolding encodeText textOf
 text-length p r ok e =
     let a : length (encodeText (textOf p r)) ≡ total (λ (i : Item). length (encodeEntry (i .0) (i .1))) (textOf p r) =
     length-each (λ (i : Item). encodeEntry (i .0) (i .1)) (textOf p r) in
-    let b : total (λ (i : Item). length (encodeEntry (i .0) (i .1))) (textOf p r) ≡ total (λ m. length (encodeEntry m (entryOf p r m))) (metavariables p) =
+    let b : total (λ (i : Item). length (encodeEntry (i .0) (i .1))) (textOf p r)
+    ≡ total (λ m. length (encodeEntry m (entryOf p r m))) (metavariables p) =
     total-map (λ (i : Item). length (encodeEntry (i .0) (i .1))) (λ m. (m, entryOf p r m)) (metavariables p) in
-    let c : total (λ m. length (encodeEntry m (entryOf p r m))) (metavariables p) ≤ total (λ m. 4 + entryWeight (candidate p r m)) (metavariables p) =
+    let c : total (λ m. length (encodeEntry m (entryOf p r m))) (metavariables p) ≤ total (λ m. 4 + entryWeight (candidate p r m))
+    (metavariables p) =
     total-most (λ m. length (encodeEntry m (entryOf p r m))) (λ m. 4 + entryWeight (candidate p r m)) (metavariables p) entry in
-    let d : total (λ m. 4 + entryWeight (candidate p r m)) (metavariables p) ≡ total (λ m. 4) (metavariables p) + total (λ m. entryWeight (candidate p r m)) (metavariables p) =
+    let d : total (λ m. 4 + entryWeight (candidate p r m)) (metavariables p)
+    ≡ total (λ m. 4) (metavariables p) + total (λ m. entryWeight (candidate p r m)) (metavariables p) =
     total-add (λ m. 4) (λ m. entryWeight (candidate p r m)) (metavariables p) in
     let f : total (λ m. 4) (metavariables p) ≡ 4 * length (metavariables p) = total-same 4 (metavariables p) in
     let g = entries-most p r ok e in

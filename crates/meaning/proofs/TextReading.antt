@@ -28,7 +28,10 @@ abbrev ItemOf : ℕ → Bytes → Item → Type 0
 ItemOf tag c i = (encodeEntry (i .0) (i .1) ≡ field tag c) × ReadableItem i
 
 -- A number before a term, for tags 8 and 9: `says` is what the text says with the term
-numbered-faithful : (ctx : Context) (says : NamedTerm → Entry NamedTerm) (tag : ℕ) → ((m : ℕ) (t : NamedTerm) → encodeEntry m (says t) ≡ field tag (m ∷ encode (one t))) → ((t : NamedTerm) → Readable maxDepth ctx (one t) → ReadableEntry (says t)) → (c : Bytes) (i : Item) → All Byte c → readNumbered ctx says c ≡ got i → ItemOf tag c i
+numbered-faithful : (ctx : Context) (says : NamedTerm → Entry NamedTerm) (tag : ℕ)
+    → ((m : ℕ) (t : NamedTerm) → encodeEntry m (says t) ≡ field tag (m ∷ encode (one t)))
+    → ((t : NamedTerm) → Readable maxDepth ctx (one t) → ReadableEntry (says t)) → (c : Bytes) (i : Item) → All Byte c
+    → readNumbered ctx says c ≡ got i → ItemOf tag c i
 unfolding readNumbered
 numbered-faithful ctx says tag encoded readable c i b e =
     let some = when-got (ltb 0 (length c)) 20 _ e in
@@ -37,12 +40,14 @@ numbered-faithful ctx says tag encoded readable c i b e =
     let bytes : All Byte (drop 1 c) = subst (All Byte) (sym front) b .1 in
     by-got (readTerm maxDepth ctx (drop 1 c)) _ (number .1) (λ x read e.
     let end = when-got (eqb (length (x .1)) 0) 20 _ e in
-    let whole : getD c 0 0 ∷ encode (one (x .0)) ≡ c = ap (λ (l : Bytes). getD c 0 0 ∷ l) (term-read-whole maxDepth ctx (drop 1 c) (x .0) (x .1) bytes read (end .0)) ∙ front in
+    let whole : getD c 0 0 ∷ encode (one (x .0)) ≡ c =
+    ap (λ (l : Bytes). getD c 0 0 ∷ l) (term-read-whole maxDepth ctx (drop 1 c) (x .0) (x .1) bytes read (end .0)) ∙ front in
     let says-term = readable (x .0) (term-read-readable maxDepth ctx (drop 1 c) (x .0) (x .1) bytes read) in
     subst (ItemOf tag c) (got-is (end .1))
     (encoded (getD c 0 0) (x .0) ∙ ap (field tag) whole, (ltb-true (getD c 0 0) metavariableCount (number .0), says-term)))
 
-numbered-complete : (ctx : Context) (says : NamedTerm → Entry NamedTerm) (m : ℕ) (t : NamedTerm) → m < metavariableCount → Readable maxDepth ctx (one t) → readNumbered ctx says (m ∷ encode (one t)) ≡ got (m, says t)
+numbered-complete : (ctx : Context) (says : NamedTerm → Entry NamedTerm) (m : ℕ) (t : NamedTerm) → m < metavariableCount
+    → Readable maxDepth ctx (one t) → readNumbered ctx says (m ∷ encode (one t)) ≡ got (m, says t)
 unfolding readNumbered
 numbered-complete ctx says m t h r =
     rw (lt-ltb 0 (length (m ∷ encode (one t))) (omega arith), lt-ltb m metavariableCount h, term-encode-whole maxDepth ctx t r)
@@ -63,8 +68,10 @@ open-complete m h = rw (lt-ltb m metavariableCount h)
 item-faithful : (p : Parts) (i : Item) → All Byte (p .content) → readItem p ≡ got i → ItemOf (p .tag) (p .content) i
 unfolding readItem
 item-faithful p i b e =
-    let at : (tag : ℕ) → eqb (p .tag) tag ≡ true → ItemOf tag (p .content) i → ItemOf (p .tag) (p .content) i = λ tag t o. rw (eqb-true (p .tag) tag t) o in
-    by-choice (eqb (p .tag) 8) _ _ e (λ t e. at 8 t (numbered-faithful inExpression value 8 (λ m t. refl) (λ t r. r) (p .content) i b e)) (λ _ e.
+    let at : (tag : ℕ) → eqb (p .tag) tag ≡ true → ItemOf tag (p .content) i → ItemOf (p .tag) (p .content) i =
+    λ tag t o. rw (eqb-true (p .tag) tag t) o in
+    by-choice (eqb (p .tag) 8) _ _ e (λ t e. at 8 t (numbered-faithful inExpression value 8 (λ m t. refl) (λ t r. r) (p .content) i b e))
+    (λ _ e.
     by-choice (eqb (p .tag) 9) _ _ e (λ t e. at 9 t (numbered-faithful inBody body 9 (λ m t. refl) (λ t r. r) (p .content) i b e)) (λ _ e.
     let only = when-got (eqb (p .tag) 11) 20 _ e in
     at 11 (only .0) (open-faithful (p .content) i (only .1))))
@@ -88,7 +95,8 @@ item-field m leftOpen r = refl
 item-field m (value t) r = refl
 item-field m (body t) r = refl
 
-item-complete : (m : ℕ) (x : Entry NamedTerm) (later : Bytes) → ReadableItem (m, x) → readItem (record { tag = itemTag x; content = itemContent m x; later = later }) ≡ got (m, x)
+item-complete : (m : ℕ) (x : Entry NamedTerm) (later : Bytes) → ReadableItem (m, x)
+    → readItem (record { tag = itemTag x; content = itemContent m x; later = later }) ≡ got (m, x)
 unfolding readItem
 item-complete m absent later r = absurd (r .1)
 item-complete m leftOpen later r = open-complete m (r .0)
@@ -135,19 +143,27 @@ items-faithful (suc n) s is b h e =
     let ih = items-faithful n (p .later) js (field-later (p .tag) (p .content) (p .later) s whole b) fewer rest in
     subst (Whole s) (got-is e) (more-items i js ∙ ap₂ _++_ (o .0) (ih .0) ∙ whole, (o .1, ih .1))))))
 
-item-first : (i : Item) (is : List Item) → ReadableItem i → encodeText (i ∷ is) ≡ field (itemTag (i .1)) (itemContent (i .0) (i .1)) ++ encodeText is
+item-first : (i : Item) (is : List Item) → ReadableItem i
+    → encodeText (i ∷ is) ≡ field (itemTag (i .1)) (itemContent (i .0) (i .1)) ++ encodeText is
 item-first i is r = more-items i is ∙ ap (λ (l : Bytes). l ++ encodeText is) (item-field (i .0) (i .1) (r .1))
 
 items-complete : (n : ℕ) (is : List Item) → All ReadableItem is → length (encodeText is) ≤ n → readItems n (encodeText is) ≡ got is
 unfolding readItems
 items-complete zero [] r h = refl
 items-complete (suc n) [] r h = rw no-items
-items-complete zero (i ∷ is) r h = absurd (omega (arith, later-fewer (itemTag (i .1)) (itemContent (i .0) (i .1)) (encodeText is) _ (sym (item-first i is (r .0)))))
+items-complete zero (i ∷ is) r h =
+    absurd (omega (arith, later-fewer (itemTag (i .1)) (itemContent (i .0) (i .1)) (encodeText is) _ (sym (item-first i is (r .0)))))
 items-complete (suc n) (i ∷ is) r h =
     let tag : ℕ = itemTag (i .1) in
     let content : Bytes = itemContent (i .0) (i .1) in
     let fewer = later-fewer tag content (encodeText is) (encodeText (i ∷ is)) (sym (item-first i is (r .0))) in
-    rw (item-first i is (r .0), field-some tag content (encodeText is), field-parts tag content (encodeText is), item-complete (i .0) (i .1) (encodeText is) (r .0), items-complete n is (r .1) (omega arith))
+    rw (
+      item-first i is (r .0),
+      field-some tag content (encodeText is),
+      field-parts tag content (encodeText is),
+      item-complete (i .0) (i .1) (encodeText is) (r .0),
+      items-complete n is (r .1) (omega arith),
+    )
 
 items-bytes : (is : List Item) → All ReadableItem is → length (encodeText is) < 65536 → All Byte (encodeText is)
 unfolding encodeText

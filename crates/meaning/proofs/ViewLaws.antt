@@ -185,7 +185,8 @@ nameless-closed sc (cons l c s) = (label l, below l (λ r. nameless-closed r c),
     label (own (binder b x)) = tt
     label (slot z) = tt
 
-    below : (l : Named) → ((r : List ℕ) → Closed (length r) (nameless r c)) → Closed (inner (namelessLabel sc l) (length sc)) (nameless (enter l sc) c)
+    below : (l : Named) → ((r : List ℕ) → Closed (length r) (nameless r c))
+        → Closed (inner (namelessLabel sc l) (length sc)) (nameless (enter l sc) c)
     below (own (symbol n)) ih = ih sc
     below (own (variable x)) ih = ih sc
     below (own (application n)) ih = ih sc
@@ -238,7 +239,8 @@ closed-equal who who′ t u h e =
     equal-closed who who′ t u h (view-inside who′ 0 (one u) .1 (subst AllInside e (view-inside who 0 (one t) .0 h))) .0 e
 
 -- So whole terms are equal as the bytes have them when they are equal as terms of any surroundings
-pub equal-whole : {W : Type 0} (who who′ : ℕ → W) (t u : NamedTerm) → EqualWhole t u ↔ Equal who who′ (namelessTerm [] t) (namelessTerm [] u)
+pub equal-whole : {W : Type 0} (who who′ : ℕ → W) (t u : NamedTerm)
+    → EqualWhole t u ↔ Equal who who′ (namelessTerm [] t) (namelessTerm [] u)
 equal-whole who who′ t u =
     let r = equal-closed who who′ (namelessTerm [] t) (namelessTerm [] u) (nameless-closed [] (one t)) (nameless-closed [] (one u)) in
     (r .1, r .0)
@@ -250,7 +252,8 @@ pub equal-in-scope : {W : Type 0} (who : ℕ → W) (sc : List ℕ) (t u : Named
 equal-in-scope who sc t u apart =
     let told : ToldAlike (length sc) who who = λ i j a b. (apart i j a b, λ e. ap who e) in
     let r =
-    equal-alike (length sc) who who told (namelessTerm sc t) (namelessTerm sc u) (nameless-closed sc (one t)) (nameless-closed sc (one u)) in
+    equal-alike (length sc) who who told (namelessTerm sc t) (namelessTerm sc u) (nameless-closed sc (one t))
+    (nameless-closed sc (one u)) in
     let q = scoped-is-alpha sc t u in
     (λ e. q .0 (r .0 e), λ a. r .1 (q .1 a))
 

@@ -75,7 +75,8 @@ trees-weight (cons l c s) = let a = label-most l in let r = trees-weight s in om
     label-most (slot (hole i)) = omega arith
 
 -- Labels of the same kind weigh the same
-relabel-weight : {E X B Y D : Type 0} (into : Label X B → E → E) (f : E → Label X B → Label Y D) → ((e : E) (l : Label X B) → labelWeight (f e l) ≡ labelWeight l)
+relabel-weight : {E X B Y D : Type 0} (into : Label X B → E → E) (f : E → Label X B → Label Y D)
+    → ((e : E) (l : Label X B) → labelWeight (f e l) ≡ labelWeight l)
     → (e : E) (u : Forest (Label X B)) → weight (relabel into f e u) ≡ weight u
 relabel-weight into f h e nil = refl
 relabel-weight into f h e (cons l c s) =
@@ -97,7 +98,8 @@ nameless-weight sc u = relabel-weight enter namelessLabel same sc u
     same sc (slot (hole i)) = refl
 
 pub lower-weight : (n : ℕ) (t u : Term) → lowerTerm n t ≡ some u → weight (one u) ≡ weight (one t)
-lower-weight n t u e = sym (relabel-weight inner (shiftLabel n) same 0 (one u)) ∙ ap (λ (x : Term). weight (one x)) (shift-lower-term n t u e)
+lower-weight n t u e = sym (relabel-weight inner (shiftLabel n) same 0 (one u))
+    ∙ ap (λ (x : Term). weight (one x)) (shift-lower-term n t u e)
   where
     same : (k : ℕ) (l : Nameless) → labelWeight (shiftLabel n k l) ≡ labelWeight l
     same k (own (symbol m)) = refl
@@ -115,13 +117,16 @@ faced x = weight (one (x .term))
 abbrev pub slotted : Face → ℕ
 slotted x = weight (one (slot (x .what), x .children))
 
-agrees-weight : (o : Own Variable (Unit {0})) (l : Nameless) → T (agrees o l) → labelWeight {X = Variable} {B = Unit {0}} (own o) ≡ labelWeight l
+agrees-weight : (o : Own Variable (Unit {0})) (l : Nameless) → T (agrees o l)
+    → labelWeight {X = Variable} {B = Unit {0}} (own o) ≡ labelWeight l
 agrees-weight o l t = ap (λ (x : Nameless). labelWeight x) (agrees-eq o l t)
 
 -- Outside its slots the pattern is the expression outside what they face
 pub walk-weight : (k n : ℕ) (p e : Terms) (xs : List Face) → walk k n p e ≡ some xs
     → (weight p + total faced xs ≡ weight e + total slotted xs) × (total slotted xs ≤ weight p)
-walk-weight k n nil nil xs q = let d : [] ≡ xs = cc in subst (λ (ys : List Face). (0 + total faced ys ≡ 0 + total slotted ys) × (total slotted ys ≤ 0)) d (refl, omega arith)
+walk-weight k n nil nil xs q =
+    let d : [] ≡ xs = cc in subst (λ (ys : List Face). (0 + total faced ys ≡ 0 + total slotted ys) × (total slotted ys ≤ 0)) d
+    (refl, omega arith)
 walk-weight k n nil (cons l c s) xs q = never (cc)
 walk-weight k n (cons l c s) nil xs q = never (cc)
 walk-weight k n (cons (own o) c s) (cons l′ c′ s′) xs q =
@@ -131,12 +136,14 @@ walk-weight k n (cons (own o) c s) (cons l′ c′ s′) xs q =
     let y = walk-weight k (suc n + size c′) s s′ (w .later) (w .areLater) in
     let f = total-append faced (w .inside) (w .later) in
     let g = total-append slotted (w .inside) (w .later) in
-    subst (λ (ys : List Face). (weight (cons (own o) c s) + total faced ys ≡ weight (cons l′ c′ s′) + total slotted ys) × (total slotted ys ≤ weight (cons (own o) c s)))
+    subst (λ (ys : List Face). (weight (cons (own o) c s) + total faced ys ≡ weight (cons l′ c′ s′) + total slotted ys)
+    × (total slotted ys ≤ weight (cons (own o) c s)))
     (sym (w .whole)) (omega arith, omega arith)
 walk-weight k n (cons (slot z) c s) (cons l′ c′ s′) xs q =
     let w : WalkedSlot k n z c s (l′, c′) s′ xs = walked-slot k n z c s (l′, c′) s′ xs q in
     let y = walk-weight k (suc n + size c′) s s′ (w .later) (w .areLater) in
-    subst (λ (ys : List Face). (weight (cons (slot z) c s) + total faced ys ≡ weight (cons l′ c′ s′) + total slotted ys) × (total slotted ys ≤ weight (cons (slot z) c s)))
+    subst (λ (ys : List Face). (weight (cons (slot z) c s) + total faced ys ≡ weight (cons l′ c′ s′) + total slotted ys)
+    × (total slotted ys ≤ weight (cons (slot z) c s)))
     (sym (w .whole)) (omega arith, omega arith)
 
 -- The bytes of a problem

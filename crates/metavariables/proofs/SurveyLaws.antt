@@ -31,7 +31,8 @@ module _ (s m : ℕ) where
   pub added-in : m < 32 → Added s m (bitOr s ((1 * 2 ^ m) % 2 ^ 32))
   unfolding Added
   added-in h k l =
-      ap (λ (n : ℕ). has (bitOr s n) k) (one-shifted m h) ∙ has-or s (2 ^ m) k ∙ ap (λ (b : Bool). has s k || b) (has-one k m) ∙ or-comm (has s k) (eqb k m)
+      ap (λ (n : ℕ). has (bitOr s n) k) (one-shifted m h) ∙ has-or s (2 ^ m) k ∙ ap (λ (b : Bool). has s k || b) (has-one k m)
+      ∙ or-comm (has s k) (eqb k m)
 
   pub added-out : 32 ≤ m → Added s m s
   unfolding Added metavariableCount

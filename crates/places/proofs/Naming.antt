@@ -55,11 +55,23 @@ module _ (p : Problem) (a : Accepted p) (ds : List ℕ) (agree : Bool) (told : a
   -- A row of the tables names a row of the problem
   pub row-named : IsRowOf v agree ds → (r : Row) × (r ∈ rows p) × (v .masks ≡ masksOf r) × Names p (valueOf v) (at r)
   row-named h =
-      let (r, m, e) = row-masks p ds a (sym told ∙ h .agrees) (tabled (h .agrees)) (v .masks) .0 (h .member) in
-      (r, m, e, record { isPlace = rows-are p r .0 m; isValue = same-value v (placeValue (at r)) (e ∙ ap (λ (w : PlaceValue). w .masks) (sym (row-value r))) (h .here ∙ ap (λ (w : PlaceValue). w .isPast) (sym (row-value r))) })
+      let (r, m, e) = row-masks p ds a (sym told ∙ h .agrees) (tabled (h .agrees)) (v .masks) .0 (h .member) in (
+        r,
+        m,
+        e,
+        record {
+          isPlace = rows-are p r .0 m;
+          isValue = same-value v (placeValue (at r)) (e ∙ ap (λ (w : PlaceValue). w .masks) (sym (row-value r)))
+              (h .here ∙ ap (λ (w : PlaceValue). w .isPast) (sym (row-value r)));
+        },
+      )
 
   pub past-named : AtPast v → Names p (valueOf v) past
-  past-named h = record { isPlace = tt; isValue = same-value v (placeValue past) (h .masks ∙ ap (λ (w : PlaceValue). w .masks) (sym past-value)) (h .past ∙ ap (λ (w : PlaceValue). w .isPast) (sym past-value)) }
+  past-named h = record {
+    isPlace = tt;
+    isValue = same-value v (placeValue past) (h .masks ∙ ap (λ (w : PlaceValue). w .masks) (sym past-value))
+        (h .past ∙ ap (λ (w : PlaceValue). w .isPast) (sym past-value));
+  }
 
   -- ... and nothing else does
   named-row : (r : Row) → Names p (valueOf v) (at r) → IsRowOf v agree ds
@@ -70,7 +82,8 @@ module _ (p : Problem) (a : Accepted p) (ds : List ℕ) (agree : Bool) (told : a
       record {
         here = ap (λ (w : PlaceValue). w .isPast) whole;
         agrees = t;
-        member = row-masks p ds a shapes (tabled t) (v .masks) .1 (r, rows-are p r .1 (n .isPlace), ap (λ (w : PlaceValue). w .masks) whole);
+        member = row-masks p ds a shapes (tabled t) (v .masks) .1
+            (r, rows-are p r .1 (n .isPlace), ap (λ (w : PlaceValue). w .masks) whole);
       }
 
   named-past : Names p (valueOf v) past → AtPast v
@@ -95,7 +108,8 @@ module _ (p : Problem) (a : Accepted p) (ds : List ℕ) (agree : Bool) (told : a
 
 -- The answers of `start`
 module _ (s ps es fs ds : List ℕ) (prepared : Prepared) (h : Prepares (accept s) ps es fs ds prepared) where
-  pub starts-refused : (n : ℕ) (r : Started) → prepared .verdict ≡ verdicts.Refused n → r .answer ≡ starts.Refused n → Starts (startCall s) r
+  pub starts-refused : (n : ℕ) (r : Started) → prepared .verdict ≡ verdicts.Refused n → r .answer ≡ starts.Refused n
+      → Starts (startCall s) r
   unfolding startCall Starts
   starts-refused n r e q = rw (prepared-refused (accept s) ps es fs ds prepared n h e) q
 

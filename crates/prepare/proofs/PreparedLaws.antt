@@ -39,7 +39,8 @@ use Rattle.prepare.specs.Prepared.{NoFaces, NodesOf, Laid, Ground, Table
 use Rattle.prepare.specs.declared.Prepared.{Prepared}
 
 -- The two answers of `nodes_of`
-pub nodes-looked-up : (agree : Bool) (ps fs : List ℕ) (functions : ℕ) (r : Firsts) → agree ≡ true → Listed ps fs functions r → NodesOf agree ps fs functions r
+pub nodes-looked-up : (agree : Bool) (ps fs : List ℕ) (functions : ℕ) (r : Firsts) → agree ≡ true → Listed ps fs functions r
+    → NodesOf agree ps fs functions r
 unfolding NodesOf
 nodes-looked-up true ps fs functions r e h = h
 nodes-looked-up false ps fs functions r e h = absurd (true≢false (sym e))
@@ -63,7 +64,8 @@ module _ (p : Problem) (ps es fs : List ℕ) (a : Standing) (laid : Laid p ps es
     -- The nodes are those of the functions' faces
     pub nodes-mean : FirstsAt p found (functions p) (listed firsts)
     nodes-mean =
-        first-faces-mean p (laid .accepted) (take (a .faces) fs) found shapes (laid .recorded found shapes) (a .occurring) (laid .survey) firsts
+        first-faces-mean p (laid .accepted) (take (a .faces) fs) found shapes (laid .recorded found shapes) (a .occurring)
+        (laid .survey) firsts
         (subst (λ (t : List ℕ). Listed t (take (a .faces) fs) (a .occurring .functions) firsts) (laid .patterns) nodes)
 
     faces-there : Faces (take (a .expressions) es) (firsts .nodes) (firsts .count)
@@ -76,7 +78,8 @@ module _ (p : Problem) (ps es fs : List ℕ) (a : Standing) (laid : Laid p ps es
     pub tables-mean : (ds : List ℕ) → TablesFrom (take (a .expressions) es) (firsts .nodes) (firsts .count) ds → classes.Tabled p ds
     unfolding maxFunctions
     tables-mean ds t =
-        problem-tabled p (laid .accepted) found shapes (firsts .nodes) (firsts .count) (nodes .fits .count) (nodes .fits .array) nodes-mean ds
+        problem-tabled p (laid .accepted) found shapes (firsts .nodes) (firsts .count) (nodes .fits .count)
+        (nodes .fits .array) nodes-mean ds
         (subst (λ (l : List ℕ). TablesFrom l (firsts .nodes) (firsts .count) ds) (laid .expressions) t)
 
   -- What `class_tables` requires
@@ -162,7 +165,8 @@ module _ (s ps ps′ es es′ fs′ : List ℕ) (bytes : All (λ b. b < 256) s) 
           (a, stands-laid p a e (subst (Stands p ps ps′ es es′ fs′) same (h .2)), t)
 
 -- What the answer tells a caller
-pub prepared-refused : (x : Answer Problem) (ps es fs ds : List ℕ) (r : Prepared) (n : ℕ) → Prepares x ps es fs ds r → r .verdict ≡ verdicts.Refused n
+pub prepared-refused : (x : Answer Problem) (ps es fs ds : List ℕ) (r : Prepared) (n : ℕ) → Prepares x ps es fs ds r
+    → r .verdict ≡ verdicts.Refused n
     → x ≡ refused n
 unfolding Prepares
 prepared-refused (refused m) ps es fs ds r n h e = let z : m ≡ n = cc in ap refused z

@@ -98,7 +98,8 @@ record Seen (reply : HostReply) (v : code.Place) (place : PlaceValue) (answer : 
   leaves : valueOf v ≡ left place reply
 
 module _ (p : Problem) (n : ℕ) (place : PlaceValue) where
-  seen : {from : List Row} {answer : Reply Row (Place Row)} (x : Answer) (row : MaskRow) (v : code.Place) → Keeps (solves p) n from answer → Clean v
+  seen : {from : List Row} {answer : Reply Row (Place Row)} (x : Answer) (row : MaskRow) (v : code.Place) → Keeps (solves p) n from answer
+      → Clean v
       → maskReply x row v ≡ replyTo masksOf answer → Seen (replyWith x row (valueOf v)) v place answer
   seen (answers.Refused k) row v (finds skipped r later a t l) c e = never (cc)
   seen (answers.Refused k) row v (ends from a l) c e = never (cc)
@@ -157,7 +158,8 @@ module _ (s : Bytes) (ps es fs ds : List ℕ) (a : Standing) (firsts : Firsts) (
       }
 
   -- What `seek` requires
-  pub ready-seekable : (fixed : Fixed) (v : code.Place) (scratch : List ℕ) → fixed .functions ≡ a .occurring .functions → fixed .firsts ≡ firsts
+  pub ready-seekable : (fixed : Fixed) (v : code.Place) (scratch : List ℕ) → fixed .functions ≡ a .occurring .functions
+      → fixed .firsts ≡ firsts
       → placeOf (maskRows ds) ≡ at (fixed .first) → IsRowOf v (a .agree) ds → length ps ≤ length scratch
       → Seekable ps′ es′ fs′ ds fixed (v .masks) scratch
   ready-seekable fixed v scratch f g first h room =
@@ -178,12 +180,14 @@ module _ (s : Bytes) (ps es fs ds : List ℕ) (a : Standing) (firsts : Firsts) (
     answers-nowhere f g h =
         refuses-answers s place n 16 r h
         (noSuchPlace p (ready .answer) above
-        (nothing-named p (ready .laid .accepted) ds (a .agree) (ready .laid .agree) (ready-tables (accept s) ps es fs ds a firsts ready) place f g))
+        (nothing-named p (ready .laid .accepted) ds (a .agree) (ready .laid .agree)
+        (ready-tables (accept s) ps es fs ds a firsts ready) place f g))
 
     -- Past the last there is nothing to find
     pub answers-past : AtPast place → Ended r → Answers s place n r
     answers-past h d =
-        let named = past-named p (ready .laid .accepted) ds (a .agree) (ready .laid .agree) (ready-tables (accept s) ps es fs ds a firsts ready) in
+        let named = past-named p (ready .laid .accepted) ds (a .agree) (ready .laid .agree)
+        (ready-tables (accept s) ps es fs ds a firsts ready) in
         let w : valueOf (r .place) ≡ placeValue past = named (r .place) (d .place) .isValue in
         let e : hostReply r ≡ replyValue (end past) =
         ap (λ (x : Answer). replyWith x (r .row) (valueOf (r .place))) (d .answer) ∙ ap {B = HostReply} end w in
@@ -254,13 +258,15 @@ pub prepared-callable : (s ps es fs ds scratch : List ℕ) (r : Prepared) (a : S
 prepared-callable s ps es fs ds scratch r a h e l =
     record { bytes = s; ready = prepared-accepted (accept s) ps es fs ds r a h e; room = l }
 
-pub search-refused : (s ps es fs ds : List ℕ) (place : code.Place) (n number : ℕ) (p : Prepared) (r : Searched) → Prepares (accept s) ps es fs ds p
+pub search-refused : (s ps es fs ds : List ℕ) (place : code.Place) (n number : ℕ) (p : Prepared) (r : Searched)
+    → Prepares (accept s) ps es fs ds p
     → p .verdict ≡ verdicts.Refused number → Refuses number place r → Answers s place n r
 search-refused s ps es fs ds place n number p r h e q =
     answers-refused s place n number r (prepared-refused (accept s) ps es fs ds p number h e) q
 
 pub search-accepted : (s ps es fs ds : List ℕ) (place : code.Place) (n : ℕ) (p : Prepared) (a : Standing) (r : Searched)
-    → Prepares (accept s) ps es fs ds p → p .verdict ≡ verdicts.Accepted a → Placed ps es fs ds a (p .firsts) place n r → Answers s place n r
+    → Prepares (accept s) ps es fs ds p → p .verdict ≡ verdicts.Accepted a → Placed ps es fs ds a (p .firsts) place n r
+    → Answers s place n r
 unfolding Placed
 search-accepted s ps es fs ds place n p a r h e q = q s (prepared-accepted (accept s) ps es fs ds p a h e)
 

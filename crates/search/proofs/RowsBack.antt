@@ -49,12 +49,14 @@ module _ {A B : Type 0} (f : A → B) where
       pub keeps : Keeps solves n xs answer
       pub same : reply ≡ replyTo answer
 
-    pub keeps-back : {n : ℕ} {ys : List B} {reply : Reply B (Place B)} (xs : List A) → Alike xs → map f xs ≡ ys → Keeps test n ys reply → Back n xs reply
+    pub keeps-back : {n : ℕ} {ys : List B} {reply : Reply B (Place B)} (xs : List A) → Alike xs → map f xs ≡ ys → Keeps test n ys reply
+        → Back n xs reply
     keeps-back {n} xs h e (finds skipped r later a t l) =
         let (front, b, rest, p, q, s, u) = split-map xs skipped r later e in
         let here : test (f b) ≡ true = ap test (sym s) ∙ t in
         let whole : Alike front = λ x m. h x (subst (λ (l : List A). x ∈ l) (sym p) (Memᴰ·append-left (b ∷ rest) m)) in
-        let is : solves b ≡ true = sym (h b (subst (λ (l : List A). b ∈ l) (sym p) (Memᴰ·append-right front (List·Memᴰ·head refl)))) ∙ here in
+        let is : solves b ≡ true =
+        sym (h b (subst (λ (l : List A). b ∈ l) (sym p) (Memᴰ·append-right front (List·Memᴰ·head refl)))) ∙ here in
         let long : length skipped ≡ length front = ap length q ∙ length-map front f in
         record {
           answer = found b (placeOf rest);

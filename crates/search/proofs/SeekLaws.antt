@@ -34,7 +34,8 @@ module _ (ps es fs ds : List ℕ) (fixed : Fixed) (row : MaskRow) (scratch : Lis
   seekable-ready =
       let laid = ground .laid in
       let (r, m, e) = row-masks (ground .problem) ds (laid .accepted) (ap isSome (laid .agree)) (ground .tabled) row .0 (h .isRow) in
-      laid-ready (ground .problem) ps es fs (fixed .functions) (fixed .firsts) laid row (record { choices = r; isRow = m; masks = e }) scratch
+      laid-ready (ground .problem) ps es fs (fixed .functions) (fixed .firsts) laid row
+      (record { choices = r; isRow = m; masks = e }) scratch
       (ground .room)
 
   -- What `next_row` requires
@@ -49,7 +50,8 @@ past-place : (v : code.Place) → AtPast v → maskPlace v ≡ past
 past-place v h = ap (λ (b : Bool). choose b past (at (v .masks))) (h .past)
 
 -- The place after a row
-later-place : (t : Turn) (row : MaskRow) (r : Searched) (ds : List ℕ) (before later : List MaskRow) → Steps ds row (t .more) (t .next) → Passed row t r
+later-place : (t : Turn) (row : MaskRow) (r : Searched) (ds : List ℕ) (before later : List MaskRow) → Steps ds row (t .more) (t .next)
+    → Passed row t r
     → maskRows ds ≡ before ++ (row ∷ later) → maskPlace (r .place) ≡ placeOf later
 unfolding Steps
 later-place t row r ds before later s p e = go (t .more) refl
@@ -68,7 +70,8 @@ module _ (ps es fs ds : List ℕ) (fixed : Fixed) (row : MaskRow) where
       → Keeps test n (row ∷ later) (maskReply (r .answer) (r .row) (r .place))
 
   -- A Found
-  keeps-found : (n : ℕ) (t : Turn) (r : Searched) → 0 < n → Turned ps es fs ds fixed row t → t .solves ≡ true → Passed row t r → KeepsFrom n r
+  keeps-found : (n : ℕ) (t : Turn) (r : Searched) → 0 < n → Turned ps es fs ds fixed row t → t .solves ≡ true → Passed row t r
+      → KeepsFrom n r
   keeps-found n t r l h s p before later e =
       let reply : maskReply (r .answer) (r .row) (r .place) ≡ found row (placeOf later) =
       rw (p .answer, p .here, later-place t row r ds before later (h .steps) p e) in
@@ -83,20 +86,23 @@ module _ (ps es fs ds : List ℕ) (fixed : Fixed) (row : MaskRow) where
       clean false m q = p .last m .masks
 
   -- An End: no row follows
-  no-later : (t : Turn) (before later : List MaskRow) → Steps ds row (t .more) (t .next) → t .more ≡ false → maskRows ds ≡ before ++ (row ∷ later)
+  no-later : (t : Turn) (before later : List MaskRow) → Steps ds row (t .more) (t .next) → t .more ≡ false
+      → maskRows ds ≡ before ++ (row ∷ later)
       → later ≡ []
   unfolding Steps
   no-later t before [] s m e = refl
   no-later t before (x ∷ xs) s m e = never (let z = s before (x ∷ xs) e .ends m in cc)
 
-  pub seeks-ended : (n : ℕ) (t : Turn) (r : Searched) → 0 < n → Turned ps es fs ds fixed row t → t .solves ≡ false → t .more ≡ false → Ended r
+  pub seeks-ended : (n : ℕ) (t : Turn) (r : Searched) → 0 < n → Turned ps es fs ds fixed row t → t .solves ≡ false → t .more ≡ false
+      → Ended r
       → Seeks ps es fs ds fixed row n r
   seeks-ended n t r l h s m d = record {
     keeps = λ before later e.
         let none = no-later t before later (h .steps) m e in
         let reply : maskReply (r .answer) (r .row) (r .place) ≡ end past = rw (d .answer, past-place (r .place) (d .place)) in
         subst (Keeps test n (row ∷ later)) (sym reply)
-        (subst (λ (l : List MaskRow). Keeps test n (row ∷ l) (end past)) (sym none) (ends (row ∷ []) (sym (h .solves) ∙ s, tt) (omega arith)));
+        (subst (λ (l : List MaskRow). Keeps test n (row ∷ l) (end past)) (sym none)
+        (ends (row ∷ []) (sym (h .solves) ∙ s, tt) (omega arith)));
     clean = λ q. d .place .masks;
   }
 
@@ -153,7 +159,8 @@ module _ (ps es fs ds : List ℕ) (fixed : Fixed) (row : MaskRow) where
       }
 
 -- The answers of `found_at`
-pub passed-more : (row : MaskRow) (t : Turn) (r : Searched) → t .more ≡ true → r .answer ≡ answers.Found → r .row ≡ row → AtRow (t .next) (r .place)
+pub passed-more : (row : MaskRow) (t : Turn) (r : Searched) → t .more ≡ true → r .answer ≡ answers.Found → r .row ≡ row
+    → AtRow (t .next) (r .place)
     → Passed row t r
 passed-more row t r e a h p = record { answer = a; here = h; more = λ q. p; last = λ q. absurd (true≢false (sym e ∙ q)) }
 

@@ -1,4 +1,5 @@
--- What demands on the table mean: they agree exactly when `demands` says so, and the nodes kept are those of the first of each metavariable.
+-- What demands on the table mean: they agree exactly when `demands` says so, and the nodes kept are those of the first of each
+-- metavariable.
 --   MovedAt  what stands at a node is a term moved under more binders, which it does not use
 --   Says     a demand on the table is a source
 --   Firsts   the nodes kept are those of the first of each metavariable, and the terms there are closed

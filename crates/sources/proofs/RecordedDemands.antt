@@ -1,5 +1,6 @@
 -- The demands that recorded faces make are the sources of these faces.
---   P, E, D     what the faces are recorded by: the term at a node of the patterns and of the expressions, and the binders above a pattern's node
+--   P, E, D     what the faces are recorded by: the term at a node of the patterns and of the expressions, and the binders above a
+-- pattern's node
 --   MovedFace   what a face faces stands at its node, under more binders
 use mathlib.Core.Path.{_≡_, refl, ap, ap₂, sym, subst}
 use mathlib.Core.List.{List, [], _∷_, _++_}

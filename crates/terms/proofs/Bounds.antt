@@ -120,7 +120,8 @@ content-in metavariableKind c x h =
     (λ b e. refused-got e)
 content-in (functionKind n) c x h =
     by-choice (eqb (length c) 0) (refused 6) _ h (λ b e. refused-got e)
-    (λ b e. by-choice (ltb (getD c 0 0) metavariableCount) _ (refused 10) e (λ b2 e2. rw (← got-is e2) (omega (arith, length-drop 1 c))) (λ b2 e2. refused-got e2))
+    (λ b e. by-choice (ltb (getD c 0 0) metavariableCount) _ (refused 10) e (λ b2 e2. rw (← got-is e2) (omega (arith, length-drop 1 c)))
+    (λ b2 e2. refused-got e2))
 content-in (holeKind i) c x h = by-choice (eqb (length c) 0) _ (refused 6) h (λ b e. rw (← got-is e) tt) (λ b e. refused-got e)
 
 content-room : (read : Context → Reader) → ((ctx : Context) → Fine (read ctx)) → (ctx : Context) (k : ℕ) (x : Content) (t : NamedTerm)

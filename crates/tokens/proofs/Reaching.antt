@@ -120,9 +120,12 @@ module _ (p : ℕ → Variable → Bool) (d r : ℕ) (told : Told p d r) where
       other-reaches (length sc) n room small 3 m (omega arith) (λ z. omega arith)
   label-reaches ctx k sc n deep room small (own (binder b x)) c f =
       other-reaches (length sc) n room small 4 (b + 65536 * x) (omega arith) (λ z. omega arith)
-  label-reaches ctx k sc n deep room small (slot (metavariable m)) c f = other-reaches (length sc) n room small 5 m (omega arith) (λ z. omega arith)
-  label-reaches ctx k sc n deep room small (slot (function g a)) c f = other-reaches (length sc) n room small 6 g (omega arith) (λ z. omega arith)
-  label-reaches ctx k sc n deep room small (slot (hole i)) c f = other-reaches (length sc) n room small 10 i (omega arith) (λ z. omega arith)
+  label-reaches ctx k sc n deep room small (slot (metavariable m)) c f =
+      other-reaches (length sc) n room small 5 m (omega arith) (λ z. omega arith)
+  label-reaches ctx k sc n deep room small (slot (function g a)) c f =
+      other-reaches (length sc) n room small 6 g (omega arith) (λ z. omega arith)
+  label-reaches ctx k sc n deep room small (slot (hole i)) c f =
+      other-reaches (length sc) n room small 10 i (omega arith) (λ z. omega arith)
 
   pub tokens-reach : (k levels : ℕ) (ctx : Context) (sc : List ℕ) (u : Forest Named) → length sc ≡ k + r → Readable levels ctx u
       → length sc + levels ≤ 256
@@ -197,7 +200,8 @@ lower-term n t =
     ∙ ap₂ _&&_ (lower-label n 0 (t .0)) (lower-all n (inner (t .0) 0) (t .1) ∙ sym (and-true _))
 
 -- One token, seen from a root at depth r: it reaches out of it where its variable is bound by none of the k binders below the root
-pub closed-token : (r k : ℕ) (ctx : Context) (sc : List ℕ) (n : ℕ) → length sc ≡ k + r → length sc < 256 → n < 65536 → (l : Named) (c : Forest Named)
+pub closed-token : (r k : ℕ) (ctx : Context) (sc : List ℕ) (n : ℕ) → length sc ≡ k + r → length sc < 256 → n < 65536
+    → (l : Named) (c : Forest Named)
     → NodeFits ctx l c → reaches 0 r (tokenOf (tagOf l) (length sc) n (payloadOf sc l)) ≡ not (isClosedLabel k (namelessLabel sc l))
 closed-token r k ctx sc n deep room small l c f =
     label-reaches isClosedVariable 0 r (told-closed r) ctx k sc n deep room small l c f ∙ sym (ap not (closed-label k (namelessLabel sc l)))

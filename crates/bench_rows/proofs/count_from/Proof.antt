@@ -39,7 +39,8 @@ loop-again c =
     let more : step .result .more ≡ true = not-false (step .result .more) (c .before .if1 .left) in (
       omega arith,
       step-in ds (c .before .before .before .before .before .loop .reached) (step .result .row)
-          (subst (λ (m : Bool). Steps ds (c .before .before .before .before .before .loop .reached) m (step .result .row)) more (step .ensures))
+          (subst (λ (m : Bool). Steps ds (c .before .before .before .before .before .loop .reached) m (step .result .row)) more
+          (step .ensures))
           (c .before .before .before .before .before .loop .inv .1),
     )
 

@@ -1,4 +1,5 @@
--- `faces_demanded` meets its contract. The loop's invariant: the faces that are left lead, from what is kept, where all of them lead from the
+-- `faces_demanded` meets its contract. The loop's invariant: the faces that are left lead, from what is kept, where all of them lead from
+-- the
 -- start, and what is lent has kept its length. The measure is the number of faces left.
 use mathlib.Core.Path.{_≡_, refl, _∙_}
 use Prim.Native.Nat.{_-_}
@@ -67,7 +68,8 @@ loop-again c =
     let n = c .before .before .before .before .before .face-demanded in (
       n .kept .1 .1 .1 .1 .1 .1 .1 .0 ∙ l .inv .0,
       going-on (a .ps .now) (a .es .now) (a .functions) (a .nodes) (a .row) (a .faces .now) _
-          (l .k) (l .kept .nodes) (l .inv .1) (c .before .before .before .before .before .before .before .before .loop-test .taken) (n .result)
+          (l .k) (l .kept .nodes) (l .inv .1) (c .before .before .before .before .before .before .before .before .loop-test .taken)
+          (n .result)
           (n .ensures) (c .before .if1 .left),
     )
 

@@ -30,7 +30,8 @@ returns c =
     let s = a .before .before .before .before in
     walked-disagree (s .args .ps .now) (s .args .es .now) (s .args .out .now) (s .args .span) (s .pre)
     (a .loop .out) (a .loop .i) (a .loop .j) (a .loop .n) (a .loop .inv)
-    (left-out (s .args .ps .now) (s .args .es .now) (s .args .span) (s .pre .inside) (a .loop .i) (a .loop .j) (c .before .loop-test .taken) (c .if1 .taken))
+    (left-out (s .args .ps .now) (s .args .es .now) (s .args .span) (s .pre .inside) (a .loop .i) (a .loop .j) (c .before .loop-test .taken)
+    (c .if1 .taken))
 
 mul-x : tie.Need-mul-x Inv-loop μ-loop
 mul-x c = search needs
@@ -106,8 +107,10 @@ returns-2 c =
     let s = a .before .before .before .before in
     walked-disagree (s .args .ps .now) (s .args .es .now) (s .args .out .now) (s .args .span) (s .pre)
     (a .loop .out) (a .loop .i) (a .loop .j) (a .loop .n) (a .loop .inv)
-    (left-differs (s .args .ps .now) (s .args .es .now) (s .args .span) (s .pre .inside) (a .loop .i) (a .loop .j) (c .before .before .before .before .before .before .before .loop-test .taken) (omega arith)
-    (sym (c .before .before .before .is-slot .ensures) ∙ c .before .before .if2 .left) (sym (c .before .same-node .ensures) ∙ not-true _ (c .if3 .taken)))
+    (left-differs (s .args .ps .now) (s .args .es .now) (s .args .span) (s .pre .inside) (a .loop .i) (a .loop .j)
+    (c .before .before .before .before .before .before .before .loop-test .taken) (omega arith)
+    (sym (c .before .before .before .is-slot .ensures) ∙ c .before .before .if2 .left)
+    (sym (c .before .same-node .ensures) ∙ not-true _ (c .if3 .taken)))
 
 add-i-2 : tie.Need-add-i-2 Inv-loop μ-loop
 add-i-2 c = search needs
@@ -125,7 +128,8 @@ loop-again-2 c =
     walking-same (s .args .ps .now) (s .args .es .now) (s .args .out .now) (s .args .span) (s .pre)
     (a .loop .out) (a .loop .i) (a .loop .j) (a .loop .n) (a .loop .inv)
     (c .before .before .before .before .before .before .before .loop-test .taken) (omega arith)
-    (sym (c .before .before .before .is-slot .ensures) ∙ c .before .before .if2 .left) (sym (c .before .same-node .ensures) ∙ not-false _ (c .if3 .left))
+    (sym (c .before .before .before .is-slot .ensures) ∙ c .before .before .if2 .left)
+    (sym (c .before .same-node .ensures) ∙ not-false _ (c .if3 .left))
 
 same-length-3 : tie.Need-same-length-3 Inv-loop μ-loop
 same-length-3 c = search needs

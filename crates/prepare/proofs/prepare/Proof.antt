@@ -51,8 +51,10 @@ with-tables-requires : tie.Need-with-tables-requires
 unfolding Accepted
 with-tables-requires c κs =
     let v = c .before .before .before .before .before in
-    let a = v .before .before .before .before .before .before .before .before in
-    (accepts-ground (s a) _ _ _ _ _ (bytes a) (v .verdict2 .given .0 .0) (subst (Accepted a) (v .verdict2 .given .1) (accepted a)), start a .pre .1)
+    let a = v .before .before .before .before .before .before .before .before in (
+      accepts-ground (s a) _ _ _ _ _ (bytes a) (v .verdict2 .given .0 .0) (subst (Accepted a) (v .verdict2 .given .1) (accepted a)),
+      start a .pre .1,
+    )
 
 same-length : tie.Need-same-length
 same-length c = search needs

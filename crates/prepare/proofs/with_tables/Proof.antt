@@ -36,7 +36,10 @@ same-length c = search needs
 returns : tie.Need-returns
 returns c = record {
   verdict = refl;
-  tabled = record { nodes = c .before .before .before .before .before .before .nodes-of .ensures; tables = c .before .before .class-tables .ensures };
+  tabled = record {
+    nodes = c .before .before .before .before .before .before .nodes-of .ensures;
+    tables = c .before .before .class-tables .ensures;
+  };
 }
 
 pub with-tables-spec : {M : Type 1} → statement M

@@ -19,7 +19,8 @@ returns : tie.Need-returns
 returns c =
     let v = c .before .before .survey in
     let a = c .before .before .before .before .before .before .args in
-    checked-both (a .ps .now) (v .result) (v .ensures) (a .es .now) (a .out .now) (a .out .now) (sym (c .before .both-ways .ensures) ∙ c .if1 .taken)
+    checked-both (a .ps .now) (v .result) (v .ensures) (a .es .now) (a .out .now) (a .out .now)
+    (sym (c .before .both-ways .ensures) ∙ c .if1 .taken)
 
 function-count-requires : tie.Need-function-count-requires
 function-count-requires c κs = search needs
@@ -28,7 +29,9 @@ returns-2 : tie.Need-returns-2
 returns-2 c =
     let v = c .before .before .before .before .survey in
     let a = c .before .before .before .before .before .before .before .before .args in
-    checked-many (a .ps .now) (v .result) (v .ensures) (a .es .now) (a .out .now) (a .out .now) (sym (c .before .before .before .both-ways .ensures) ∙ c .before .before .if1 .left) (omega (arith, c .before .function-count .ensures, c .if2 .taken))
+    checked-many (a .ps .now) (v .result) (v .ensures) (a .es .now) (a .out .now) (a .out .now)
+    (sym (c .before .before .before .both-ways .ensures) ∙ c .before .before .if1 .left)
+    (omega (arith, c .before .function-count .ensures, c .if2 .taken))
 
 walk-requires : tie.Need-walk-requires
 walk-requires c κs = search needs
@@ -43,14 +46,16 @@ slice-reshare-prefix-over-limit : tie.Need-slice-reshare-prefix-over-limit
 slice-reshare-prefix-over-limit c =
     let a = c .before .before .before .before .before .before .before .before .before .before .before .before .before .before .before .args in
     let w = c .before .before .before .before .before .walk in
-    found (flatWalk (a .ps .now) (a .es .now)) (a .out .now) (w .last .1 .1 .0) (w .result) (w .ensures) (c .before .n .given .0 .0) (c .before .n .given .1) .room
+    found (flatWalk (a .ps .now) (a .es .now)) (a .out .now) (w .last .1 .1 .0) (w .result) (w .ensures) (c .before .n .given .0 .0)
+    (c .before .n .given .1) .room
 
 slice-aggregate-over-limit : tie.Need-slice-aggregate-over-limit
 slice-aggregate-over-limit c =
     let a = c .before .before .before .before .before .before .before .before .before .before .before .before .before .before .before .before .args in
     let w = c .before .before .before .before .before .before .walk in
     sym (length-take-le (c .before .before .n .given .0 .0) (w .last .1 .1 .0)
-    (found (flatWalk (a .ps .now) (a .es .now)) (a .out .now) (w .last .1 .1 .0) (w .result) (w .ensures) (c .before .before .n .given .0 .0) (c .before .before .n .given .1) .room))
+    (found (flatWalk (a .ps .now) (a .es .now)) (a .out .now) (w .last .1 .1 .0) (w .result) (w .ensures)
+    (c .before .before .n .given .0 .0) (c .before .before .n .given .1) .room))
 
 over-limit-requires : tie.Need-over-limit-requires
 over-limit-requires c κs = search needs
@@ -63,7 +68,14 @@ returns-3 c =
     let v = c .before .before .before .before .before .before .before .before .before .before .survey in
     let a = c .before .before .before .before .before .before .before .before .before .before .before .before .before .before .args in
     let w = c .before .before .before .before .walk in
-    checked-none (a .ps .now) (v .result) (v .ensures) (a .es .now) (a .out .now) (w .last .1 .1 .0) (sym (c .before .before .before .before .before .before .before .before .before .both-ways .ensures) ∙ c .before .before .before .before .before .before .before .before .if1 .left) (omega (arith, c .before .before .before .before .before .before .before .function-count .ensures, c .before .before .before .before .before .before .if2 .left)) (w .result) (w .ensures) (c .enum-told .given .1)
+    checked-none (a .ps .now) (v .result) (v .ensures) (a .es .now) (a .out .now) (w .last .1 .1 .0)
+    (sym (c .before .before .before .before .before .before .before .before .before .both-ways .ensures)
+    ∙ c .before .before .before .before .before .before .before .before .if1 .left)
+    (omega (
+      arith,
+      c .before .before .before .before .before .before .before .function-count .ensures,
+      c .before .before .before .before .before .before .if2 .left,
+    )) (w .result) (w .ensures) (c .enum-told .given .1)
 
 same-length-2 : tie.Need-same-length-2
 same-length-2 c = search needs
@@ -73,7 +85,15 @@ returns-4 c =
     let v = c .before .before .before .before .before .before .before .before .before .before .before .before .before .before .survey in
     let a = c .before .before .before .before .before .before .before .before .before .before .before .before .before .before .before .before .before .before .args in
     let w = c .before .before .before .before .before .before .before .before .walk in
-    checked-large (a .ps .now) (v .result) (v .ensures) (a .es .now) (a .out .now) (w .last .1 .1 .0) (sym (c .before .before .before .before .before .before .before .before .before .before .before .before .before .both-ways .ensures) ∙ c .before .before .before .before .before .before .before .before .before .before .before .before .if1 .left) (omega (arith, c .before .before .before .before .before .before .before .before .before .before .before .function-count .ensures, c .before .before .before .before .before .before .before .before .before .before .if2 .left)) (w .result) (w .ensures) (c .before .before .before .before .n .given .0 .0) (c .before .before .before .before .n .given .1)
+    checked-large (a .ps .now) (v .result) (v .ensures) (a .es .now) (a .out .now) (w .last .1 .1 .0)
+    (sym (c .before .before .before .before .before .before .before .before .before .before .before .before .before .both-ways .ensures)
+    ∙ c .before .before .before .before .before .before .before .before .before .before .before .before .if1 .left)
+    (omega (
+      arith,
+      c .before .before .before .before .before .before .before .before .before .before .before .function-count .ensures,
+      c .before .before .before .before .before .before .before .before .before .before .if2 .left,
+    )) (w .result) (w .ensures)
+    (c .before .before .before .before .n .given .0 .0) (c .before .before .before .before .n .given .1)
     (c .before .over-limit .result) (c .before .over-limit .ensures) (c .if3 .taken)
 
 same-length-3 : tie.Need-same-length-3
@@ -84,7 +104,15 @@ returns-5 c =
     let v = c .before .before .before .before .before .before .before .before .before .before .before .before .before .before .survey in
     let a = c .before .before .before .before .before .before .before .before .before .before .before .before .before .before .before .before .before .before .args in
     let w = c .before .before .before .before .before .before .before .before .walk in
-    checked-faces (a .ps .now) (v .result) (v .ensures) (a .es .now) (a .out .now) (w .last .1 .1 .0) (sym (c .before .before .before .before .before .before .before .before .before .before .before .before .before .both-ways .ensures) ∙ c .before .before .before .before .before .before .before .before .before .before .before .before .if1 .left) (omega (arith, c .before .before .before .before .before .before .before .before .before .before .before .function-count .ensures, c .before .before .before .before .before .before .before .before .before .before .if2 .left)) (w .result) (w .ensures) (c .before .before .before .before .n .given .0 .0) (c .before .before .before .before .n .given .1)
+    checked-faces (a .ps .now) (v .result) (v .ensures) (a .es .now) (a .out .now) (w .last .1 .1 .0)
+    (sym (c .before .before .before .before .before .before .before .before .before .before .before .before .before .both-ways .ensures)
+    ∙ c .before .before .before .before .before .before .before .before .before .before .before .before .if1 .left)
+    (omega (
+      arith,
+      c .before .before .before .before .before .before .before .before .before .before .before .function-count .ensures,
+      c .before .before .before .before .before .before .before .before .before .before .if2 .left,
+    )) (w .result) (w .ensures)
+    (c .before .before .before .before .n .given .0 .0) (c .before .before .before .before .n .given .1)
     (c .before .over-limit .result) (c .before .over-limit .ensures) (c .if3 .left)
 
 pub check-spec : {M : Type 1} → statement M

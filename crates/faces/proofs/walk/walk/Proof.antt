@@ -19,7 +19,8 @@ returns : tie.Need-returns
 returns c =
     let a = c .before .before .before .before .before .before .before .args in
     let w = c .before .before .walk-at in
-    subst (λ (o : Option (List ℕ)). Walked o (a .out .now) (w .last .1 .1 .1 .0) (w .result)) (whole-walk (a .ps .now) (a .es .now)) (w .ensures)
+    subst (λ (o : Option (List ℕ)). Walked o (a .out .now) (w .last .1 .1 .1 .0) (w .result)) (whole-walk (a .ps .now) (a .es .now))
+    (w .ensures)
 
 pub walk-spec : {M : Type 1} → statement M
 walk-spec = tie.close (tie.spec walk-at-requires same-length returns)

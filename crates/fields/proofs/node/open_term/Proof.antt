@@ -48,13 +48,17 @@ returns-3 : tie.Need-returns-3
 returns-3 c =
     open-broken _ _ _
     (rw (c .before .before .before .before .before .before .before .kind .given .1) at
-    (c .before .before .before .before .before .before .before .before .before .head-of .ensures)) (c .before .before .before .before .before .if1 .left) (rw (c .before .r2 .given .1) at (c .before .before .before .content-of .ensures))
+    (c .before .before .before .before .before .before .before .before .before .head-of .ensures))
+    (c .before .before .before .before .before .if1 .left)
+    (rw (c .before .r2 .given .1) at (c .before .before .before .content-of .ensures))
 
 returns-4 : tie.Need-returns-4
 returns-4 c =
     open-node _ _ _ _
     (rw (c .before .before .before .before .before .before .before .kind .given .1) at
-    (c .before .before .before .before .before .before .before .before .before .head-of .ensures)) (c .before .before .before .before .before .if1 .left) (rw (c .before .node .given .1) at (c .before .before .before .content-of .ensures))
+    (c .before .before .before .before .before .before .before .before .before .head-of .ensures))
+    (c .before .before .before .before .before .if1 .left)
+    (rw (c .before .node .given .1) at (c .before .before .before .content-of .ensures))
 
 pub open-term-spec : {M : Type 1} → statement M
 open-term-spec =

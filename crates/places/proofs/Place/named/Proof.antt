@@ -26,7 +26,8 @@ is-row-requires c κs = search needs
 
 returns-4 : tie.Need-returns-4
 returns-4 c =
-    tells-row _ _ _ (c .before .before .before .if1 .left) (not-false _ (c .before .before .if3 .left)) (c .before .is-row .ensures .0 (c .if4 .taken))
+    tells-row _ _ _ (c .before .before .before .if1 .left) (not-false _ (c .before .before .if3 .left))
+    (c .before .is-row .ensures .0 (c .if4 .taken))
 
 returns-5 : tie.Need-returns-5
 returns-5 c =

@@ -38,7 +38,8 @@ slice-aggregate-first c = search needs
 first-requires : tie.Need-first-requires
 first-requires c κs =
     let v = c .before .before in
-    starts-open _ _ _ _ _ _ (v .before .before .before .before .before .before .prepare .ensures) (v .verdict2 .given .0 .0) (v .verdict2 .given .1)
+    starts-open _ _ _ _ _ _ (v .before .before .before .before .before .before .prepare .ensures) (v .verdict2 .given .0 .0)
+    (v .verdict2 .given .1)
 
 returns : tie.Need-returns
 returns c =
@@ -48,7 +49,8 @@ returns c =
 returns-2 : tie.Need-returns-2
 returns-2 c =
     let v = c .before .before .before in
-    starts-begins _ _ _ _ _ _ (v .before .before .before .before .before .before .prepare .ensures) (v .verdict2 .given .0 .0) (v .verdict2 .given .1) _ refl
+    starts-begins _ _ _ _ _ _ (v .before .before .before .before .before .before .prepare .ensures) (v .verdict2 .given .0 .0)
+    (v .verdict2 .given .1) _ refl
     (c .first .ensures)
 
 pub start-spec : {M : Type 1} → statement M

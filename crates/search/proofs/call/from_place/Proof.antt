@@ -32,17 +32,21 @@ enum-told-3 c = search needs
 
 from-row-requires : tie.Need-from-row-requires
 from-row-requires c κs =
-    let told = c .before in
-    (c .before .before .before .before .before .before .before .before .before .before .pre, tells-is-row _ _ _ (subst (Tells _ _ _) (told .enum-told3 .given .1) (c .before .before .before .named .ensures)))
+    let told = c .before in (
+      c .before .before .before .before .before .before .before .before .before .before .pre,
+      tells-is-row _ _ _ (subst (Tells _ _ _) (told .enum-told3 .given .1) (c .before .before .before .named .ensures)),
+    )
 
 returns-2 : tie.Need-returns-2
 returns-2 c =
-    placed-nowhere _ _ _ _ _ _ _ _ _ (c .before .before .before .before .if1 .left) (subst (Tells _ _ _) (c .before .enum-told .given .1) (c .before .before .before .named .ensures))
+    placed-nowhere _ _ _ _ _ _ _ _ _ (c .before .before .before .before .if1 .left)
+    (subst (Tells _ _ _) (c .before .enum-told .given .1) (c .before .before .before .named .ensures))
     (c .refused2 .ensures)
 
 returns-3 : tie.Need-returns-3
 returns-3 c =
-    placed-past _ _ _ _ _ _ _ _ _ (c .before .before .before .before .if1 .left) (subst (Tells _ _ _) (c .before .enum-told2 .given .1) (c .before .before .before .named .ensures))
+    placed-past _ _ _ _ _ _ _ _ _ (c .before .before .before .before .if1 .left)
+    (subst (Tells _ _ _) (c .before .enum-told2 .given .1) (c .before .before .before .named .ensures))
     (c .ended .ensures)
 
 same-length : tie.Need-same-length
@@ -50,7 +54,9 @@ same-length c = search needs
 
 returns-4 : tie.Need-returns-4
 returns-4 c =
-    placed-row _ _ _ _ _ _ _ _ _ (c .before .before .before .before .before .before .before .if1 .left) (subst (Tells _ _ _) (c .before .before .before .before .enum-told3 .given .1) (c .before .before .before .before .before .before .named .ensures))
+    placed-row _ _ _ _ _ _ _ _ _ (c .before .before .before .before .before .before .before .if1 .left)
+    (subst (Tells _ _ _) (c .before .before .before .before .enum-told3 .given .1)
+    (c .before .before .before .before .before .before .named .ensures))
     (c .before .before .from-row .ensures)
 
 pub from-place-spec : {M : Type 1} → statement M

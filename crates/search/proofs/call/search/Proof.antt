@@ -53,10 +53,12 @@ from-place-requires c κs =
     prepared-callable _ _ _ _ _ _ _ _ (prepared .prepare .ensures) (v .verdict2 .given .1) (search needs)
 
 returns : tie.Need-returns
-returns c = search-refused _ _ _ _ _ _ _ _ _ _ (c .before .before .before .before .before .before .before .before .before .prepare .ensures) (c .before .before .verdict .given .1) (c .refused .ensures)
+returns c = search-refused _ _ _ _ _ _ _ _ _ _ (c .before .before .before .before .before .before .before .before .before .prepare .ensures)
+    (c .before .before .verdict .given .1) (c .refused .ensures)
 
 returns-2 : tie.Need-returns-2
-returns-2 c = search-accepted _ _ _ _ _ _ _ _ _ _ (c .before .before .before .before .before .before .before .before .before .before .before .before .before .before .before .prepare .ensures) (c .before .before .before .before .before .before .before .before .verdict2 .given .1) (c .before .from-place .ensures)
+returns-2 c = search-accepted _ _ _ _ _ _ _ _ _ _
+    (c .before .before .before .before .before .before .before .before .before .before .before .before .before .before .before .prepare .ensures) (c .before .before .before .before .before .before .before .before .verdict2 .given .1) (c .before .from-place .ensures)
 
 pub search-spec : {M : Type 1} → statement M
 search-spec =

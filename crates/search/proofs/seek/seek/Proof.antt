@@ -1,4 +1,5 @@
--- `seek` meets its contract. The loop's invariant: what is promised from the row at hand on, with the allowance left, is what is promised of
+-- `seek` meets its contract. The loop's invariant: what is promised from the row at hand on, with the allowance left, is what is promised
+-- of
 -- the whole.
 use mathlib.Core.Path.{_≡_, refl, _∙_}
 use lib.ListN.{length}
@@ -36,7 +37,8 @@ returns : tie.Need-returns Inv-loop μ-loop
 returns c =
     let look = c .before .before .before .before in
     let loop = look .before .before .before .loop in
-    loop .inv .2 _ (seeks-found _ _ _ _ _ _ _ (look .look-at .result) _ (omega arith) (look .look-at .ensures) (c .before .if1 .taken) (c .found-at .ensures))
+    loop .inv .2 _ (seeks-found _ _ _ _ _ _ _ (look .look-at .result) _ (omega arith) (look .look-at .ensures) (c .before .if1 .taken)
+    (c .found-at .ensures))
 
 ended-requires : tie.Need-ended-requires Inv-loop μ-loop
 ended-requires c κs = search needs
@@ -66,7 +68,8 @@ loop-again c =
     let long : length (look .look-at .last .1 .1 .1 .1 .1 .1 .0) ≡ length (loop .scratch) = search needs in (
       seekable-next _ _ _ _ _ _ _ _ (look .look-at .result) (loop .inv .0) (look .look-at .ensures) more long,
       long ∙ loop .inv .1,
-      λ r h. loop .inv .2 r (seeks-on _ _ _ _ _ _ _ _ (look .look-at .result) r (omega arith) (look .look-at .ensures) (c .before .before .before .if1 .left) more h),
+      λ r h. loop .inv .2 r (seeks-on _ _ _ _ _ _ _ _ (look .look-at .result) r (omega arith) (look .look-at .ensures)
+          (c .before .before .before .if1 .left) more h),
     )
 
 pause-at-requires : tie.Need-pause-at-requires Inv-loop μ-loop

@@ -1,5 +1,6 @@
 -- `read_term` and `read_fields`, which call each other, meet their contracts. The measure is the length of the bytes: an inner list is
--- shorter than its term, and a list calls for a term of the same bytes. First the facts at a place of the code, then an answer for each need.
+-- shorter than its term, and a list calls for a term of the same bytes. First the facts at a place of the code, then an answer for each
+-- need.
 use mathlib.Core.Path.{_≡_, sym, _∙_}
 use native.Mathlib.Omega.{arith}
 use lib.ListN.{length}

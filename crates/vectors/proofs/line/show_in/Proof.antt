@@ -15,7 +15,8 @@ digits-fit c = c .before .byte-count .ensures (c .if1 .left)
 bytes-fit : (c : tie.After-show-input-arg2)
     → length
     (take (c .before .before .before .before .before .before .before .before .byte-count .result)
-    (c .before .before .before .before .before .decode .last .1 .1 .0)) ≡ c .before .before .before .before .before .before .before .before .byte-count .result
+    (c .before .before .before .before .before .decode .last .1 .1 .0))
+    ≡ c .before .before .before .before .before .before .before .before .byte-count .result
 bytes-fit c =
     length-take-le (c .before .before .before .before .before .before .before .before .byte-count .result)
     (c .before .before .before .before .before .decode .last .1 .1 .0)
