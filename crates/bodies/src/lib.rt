@@ -17,7 +17,7 @@ ghost use Rattle.bodies.specs.BodyClosed.{bodyClosedAt};
 ghost use Rattle.bodies.specs.Suits.{holeFits, suitsAt, Nested};
 
 // Whether node i of the face becomes a hole. Only this and `lowest` look into a mask.
-fn marked(mask: u64, i: usize) -> bool
+pub fn marked(mask: u64, i: usize) -> bool
     ensures { λ r. ⌜ r ≡ marked mask i ⌝ }
 {
     masks::has(mask, i)

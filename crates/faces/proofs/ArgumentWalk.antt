@@ -173,7 +173,7 @@ module _ (p : Problem) (w : WithinLimits p) (i f n : ℕ) (cs : Terms)
         (below .is ∙ sym (only cs (sym (ap trees (below .is)) ∙ same-count ∙ below .single)))
         (lowered-walk (below .scope) (across .scope) under (sym across-depth ∙ deeper ∙ ap (λ (m : ℕ). under + m) (below .depth))
         (below .named) (across .named) u (ap (lowerTerm under) (sym (across .term)) ∙ lowers)
-        (below .levels) (across .levels) (across .context) (below .readable) (below .room) (below .single) (across .held)
+        (below .levels) (across .levels) inArgument (across .context) (below .readable) (below .room) (below .single) (across .held)
         (λ m. nodeAt m (patterns p)) (λ m. nodeAt (m - j) (one u)) (λ m. depthIn (at (patternTokens p) m)) k (suc i) j
         (across .stands .after)
         (subst (Looks (λ m. nodeAt m (patterns p)) (suc i)) (sym (below .is))

@@ -15,7 +15,7 @@ use Rattle.meaning.specs.Scope.{enter, namelessLabel}
 use Rattle.meaning.specs.Face.{Face, faces}
 use Rattle.meaning.specs.Read.{inPattern, inExpression}
 use Rattle.meaning.specs.Readable.{WithinLimits}
-use Rattle.meaning.proofs.Proper.{patterns-readable, expressions-readable, readable-pattern}
+use Rattle.meaning.proofs.Proper.{patterns-readable, expressions-readable}
 use Rattle.meaning.proofs.ShiftLaws.{relabel-size}
 use Rattle.meaning.proofs.ViewLaws.{nameless-closed}
 use Rattle.tokens.specs.Token.{depthIn, patternTokens, expressionTokens}
@@ -64,7 +64,6 @@ module _ (p : Problem) (w : WithinLimits p) where
       subst (λ (o : Option (List ℕ)). Means p o (faces p)) (sym table-walk)
       (seen-both (λ i. nodeAt i (patterns p)) (λ j. nodeAt j (expressions p)) (λ i. depthIn (at (patternTokens p) i)) [] 0 0 0 0
       (patterns p) (expressions p)
-      (readable-pattern maxDepth [] (namedPatterns p) (patterns-readable p w))
       (nameless-closed [] (namedPatterns p)) (nameless-closed [] (namedExpressions p)) (at0 (patterns p)) (at0 (expressions p))
       pattern-deep
       (omega (arith, nodes-few p w, relabel-size enter namelessLabel [] (namedPatterns p))))

@@ -15,10 +15,9 @@ use Rattle.meaning.specs.Shift.{raise, shiftLabel, shift, shiftTerm, closedVari
 use Rattle.meaning.specs.Lower.{lowerTerm}
 use Rattle.meaning.specs.Equal.{outside, see}
 use Rattle.meaning.specs.Face.{walk}
-use Rattle.meaning.specs.Read.{Context, inArgument}
+use Rattle.meaning.specs.Read.{Context}
 use Rattle.meaning.specs.Readable.{Readable}
 use Rattle.meaning.proofs.Lowered.{relabel-twice, see-low, see-high}
-use Rattle.meaning.proofs.Proper.{argument-pattern, readable-argument}
 use Rattle.meaning.proofs.ShiftLaws.{raise-low, raise-high, inner-with, shift-lower-term}
 use Rattle.meaning.proofs.ViewLaws.{inner-plus, nameless-closed}
 use Rattle.tokens.specs.Token.{tokens}
@@ -84,16 +83,16 @@ lowered-within n d t a e h =
 -- THE THEOREM: the argument's tokens against those of what the hole holds. k is the number of binders that the walk counts from
 module _ (root root′ : List ℕ) (n : ℕ) (deeper : length root′ ≡ n + length root) (c : Forest Named) (v : NamedTerm) (u : Term)
     (lowers : lowerTerm n (namelessTerm root′ v) ≡ some u) where
-  pub lowered-walk : (levels levels′ : ℕ) (ctx : Context) → Readable levels inArgument c → Room levels root c → trees c ≡ 1
-      → Held levels′ ctx root′ v
+  pub lowered-walk : (levels levels′ : ℕ) (ctx ctx′ : Context) → Readable levels ctx c → Room levels root c → trees c ≡ 1
+      → Held levels′ ctx′ root′ v
       → (p e : ℕ → Option Term) (d : ℕ → ℕ) (k i j : ℕ) (es : List ℕ) → Looks p i (nameless root c) → Looks e j (one u)
       → Deep d i k (nameless root c)
       → i + size (nameless root c) ≤ 65536
       → Both (RecordedBy p e d) (lockstep atSlots (length root) (length root′) 0 i j (tokens root c) (tokens root′ (one v) ++ es))
       (walk k j (nameless root c) (one u))
-  lowered-walk levels levels′ ctx r m single held p e d k i j es lp le dp few =
+  lowered-walk levels levels′ ctx ctx′ r m single held p e d k i j es lp le dp few =
       subst (λ (o : Option (List ℕ)). Both (RecordedBy p e d) o (walk k j (nameless root c) (one u))) (sym same)
-      (seen-both p e d root k 0 i j (nameless root c) (one u) (argument-pattern (nameless root c) (readable-argument levels root c r))
+      (seen-both p e d root k 0 i j (nameless root c) (one u)
       (subst (λ (a : ℕ). Closed a (nameless root c)) (sym (zero-add (length root))) (nameless-closed root c))
       (lowered-within n (length root) (namelessTerm root′ v) u lowers
       (subst (λ (a : ℕ). Closed a (one (namelessTerm root′ v))) deeper (nameless-closed root′ (one v)))) lp le dp few)
@@ -104,7 +103,7 @@ module _ (root root′ : List ℕ) (n : ℕ) (deeper : length root′ ≡ n + le
       same : lockstep atSlots (length root) (length root′) 0 i j (tokens root c) (tokens root′ (one v) ++ es)
           ≡ seenWalk seenSlots i j (viewFrom root 0 (nameless root c)) (viewFrom root 0 (one u))
       same =
-          flat-trees atSlots seenSlots root root′ (tells-slots root) i j levels levels′ inArgument ctx c (one v) es r
+          flat-trees atSlots seenSlots root root′ (tells-slots root) i j levels levels′ ctx ctx′ c (one v) es r
           (held .readable) m room single
           ∙ ap (seenWalk seenSlots i j (viewFrom root 0 (nameless root c)))
           (lowered-seen root root′ n deeper (namelessTerm root′ v) u lowers)

@@ -21,7 +21,6 @@ use Rattle.meaning.specs.Face.{Face, agrees, meet, walk}
 use Rattle.meaning.specs.Field.{tagOf}
 use Rattle.meaning.proofs.Lists.{T-true, true-T, never, by-test, choose-true, choose-false}
 use Rattle.meaning.proofs.Alike.{variable-eq, variable-refl, own-eq, own-refl}
-use Rattle.meaning.proofs.Proper.{patternLabel, IsPattern}
 use Rattle.meaning.proofs.ShiftLaws.{relabel-size}
 use Rattle.meaning.proofs.ViewLaws.{ToldAlike, label-injective, inner-plus}
 use Rattle.tokens.specs.Key.{levelFrom}
@@ -31,12 +30,10 @@ use Rattle.lockstep.specs.Walk.{faceCode, patternNode, expressionNode, s
 use Rattle.lockstep.specs.Recorded.{RecordedBy, Both}
 use Rattle.lockstep.proofs.WalkTrees.{SeenStop, Tells, seenMeet, seenWalk}
 
--- A metavariable or a function application, by its label
+-- What a filling replaces, by its label
 abbrev slotLabel : {X B : Type 0} → Label X B → Bool
 slotLabel (own o) = false
-slotLabel (slot (metavariable m)) = true
-slotLabel (slot (function f n)) = true
-slotLabel (slot (hole i)) = false
+slotLabel (slot z) = true
 
 abbrev pub seenSlots : SeenStop
 seenSlots i l = slotLabel l
@@ -175,39 +172,37 @@ module _ (p e : ℕ → Option Term) (d : ℕ → ℕ) where
         (record { slots = ap p q ∙ lp; under = ap d q ∙ dp; node = r; term = le }, tt)
 
     -- One node of each forest; a and x are the walks of the children, which are alike where the labels are the same
-    meet-both : (n k i j : ℕ) (l l′ : Nameless) (c c′ : Terms) → patternLabel l c → closedLabel (k + length root) l
+    meet-both : (n k i j : ℕ) (l l′ : Nameless) (c c′ : Terms) → closedLabel (k + length root) l
         → closedLabel (k + length root) l′
         → i < 65536 → d i ≡ n → p i ≡ some (l, c) → e j ≡ some (l′, c′) → (a : Option (List ℕ)) (x : Option (List Face))
         → (l ≡ l′ → Both (RecordedBy p e d) a x)
         → Both (RecordedBy p e d) (seenMeet seenSlots i j (seenLabel root k l) (seenLabel root k l′) a) (meet n j l c (l′, c′) x)
-    meet-both n k i j (own o) l′ c c′ q h h′ few dp lp le a x ih =
+    meet-both n k i j (own o) l′ c c′ h h′ few dp lp le a x ih =
         subst (λ (w : Option (List ℕ)). Both (RecordedBy p e d) w (guard (agrees o l′) x)) (sym (choose-false _ _ (own-goes root k o)))
         (guard-both (RecordedBy p e d) (eqb (code (seenLabel root k (own o))) (code (seenLabel root k l′))) (agrees o l′) a x
         (code-agrees root k o h l′ h′) (λ t. ih (agree-label o l′ t)))
-    meet-both n k i j (slot (metavariable m)) l′ c c′ q h h′ few dp lp le a x ih = face-both n i j (metavariable m) c (l′, c′) few dp lp le
-    meet-both n k i j (slot (function f b)) l′ c c′ q h h′ few dp lp le a x ih = face-both n i j (function f b) c (l′, c′) few dp lp le
-    meet-both n k i j (slot (hole b)) l′ c c′ q h h′ few dp lp le a x ih = absurd q
+    meet-both n k i j (slot z) l′ c c′ h h′ few dp lp le a x ih = face-both n i j z c (l′, c′) few dp lp le
 
     -- THE THEOREM
-    pub seen-both : (n k i j : ℕ) (u v : Terms) → IsPattern u → Closed (k + length root) u → Closed (k + length root) v → Looks p i u
+    pub seen-both : (n k i j : ℕ) (u v : Terms) → Closed (k + length root) u → Closed (k + length root) v → Looks p i u
         → Looks e j v
         → Deep d i n u → i + size u ≤ 65536
         → Both (RecordedBy p e d) (seenWalk seenSlots i j (viewFrom root k u) (viewFrom root k v)) (walk n j u v)
-    seen-both n k i j nil nil q h h′ lp le dp few = tt
-    seen-both n k i j nil (cons l c s) q h h′ lp le dp few = tt
-    seen-both n k i j (cons l c s) nil q h h′ lp le dp few = tt
-    seen-both n k i j (cons l c s) (cons l′ c′ s′) q h h′ lp le dp few =
+    seen-both n k i j nil nil h h′ lp le dp few = tt
+    seen-both n k i j nil (cons l c s) h h′ lp le dp few = tt
+    seen-both n k i j (cons l c s) nil h h′ lp le dp few = tt
+    seen-both n k i j (cons l c s) (cons l′ c′ s′) h h′ lp le dp few =
         join-both (seenMeet seenSlots i j (seenLabel root k l) (seenLabel root k l′) below)
         (seenWalk seenSlots (suc i + size (viewFrom root (inner l k) c)) (suc j + size (viewFrom root (inner l′ k) c′))
         (viewFrom root k s) (viewFrom root k s′))
         (meet n j l c (l′, c′) (walk (inner l n) (suc j) c c′)) (walk n (suc j + size c′) s s′)
-        (meet-both n k i j l l′ c c′ (q .0) (h .0) (h′ .0) (omega arith) (dp .0) (look-here p i l c s lp)
+        (meet-both n k i j l l′ c c′ (h .0) (h′ .0) (omega arith) (dp .0) (look-here p i l c s lp)
         (look-here e j l′ c′ s′ le) below (walk (inner l n) (suc j) c c′)
-        (λ z. children z (seen-both (inner l n) (inner l k) (suc i) (suc j) c c′ (q .1)
+        (λ z. children z (seen-both (inner l n) (inner l k) (suc i) (suc j) c c′
         (subst (λ (m : ℕ). Closed m c) (inner-plus (length root) k l) (h .1))
         (subst (λ (m : ℕ). Closed m c′) (ap (λ (m : Nameless). inner m (k + length root)) (sym z) ∙ inner-plus (length root) k l) (h′ .1))
         (look-below p i l c s lp) (look-below e j l′ c′ s′ le) (dp .1) (omega arith))))
-        (later (seen-both n k (suc i + size c) (suc j + size c′) s s′ (q .2) (h .2) (h′ .2)
+        (later (seen-both n k (suc i + size c) (suc j + size c′) s s′ (h .2) (h′ .2)
         (look-later p i l c s lp) (look-later e j l′ c′ s′ le) (dp .2) (omega arith)))
       where
         below : Option (List ℕ)

@@ -9,8 +9,7 @@ use native.Mathlib.Omega.{arith}
 use native.Mathlib.Numerals.{add-one}
 use lib.ListN.{length, take, drop, set, length-set, take-append-drop, drop-of-length-le}
 use lib.Seq.{drop-cons, drop-drop, drop-set-lt, getD-take, take-suc-set, length-take-le}
-use lib.Dec.{eqb}
-use borrow.Author.Tests.{eq-eqb, ne-eqb}
+use lib.Dec.{eqb, ltb}
 use Rattle.meaning.specs.Basics.{join}
 use Rattle.meaning.proofs.Lists.{never}
 use Rattle.slices.proofs.Slices.{drop-take}
@@ -24,14 +23,9 @@ use Rattle.lockstep.proofs.WalkLaws.{join-assoc, join-nothing, lockstep
 use Rattle.lockstep.proofs.WalkLaws.{lockstep-face, lockstep-skip}
 
 -- What the code computes of one token
-module _ (x g : ℕ) (is : g ≡ tagIn x) where
-  pub slot-five : g ≡ 5 → eqb g 5 ≡ isSlot x
-  unfolding isSlot
-  slot-five e = rw (← is, eq-eqb g 5 e)
-
-  pub slot-six : (g ≡ 5 → ⊥) → eqb g 6 ≡ isSlot x
-  unfolding isSlot
-  slot-six n = rw (← is, ne-eqb g 5 n)
+pub slot-tag : (x g : ℕ) → g ≡ tagIn x → ltb 4 g ≡ isSlot x
+unfolding isSlot
+slot-tag x g is = ap (ltb 4) is
 
 -- The walk of what is left
 unfoldable pub left : List ℕ → List ℕ → Span → ℕ → ℕ → Option (List ℕ)

@@ -4,13 +4,13 @@
 --   d, e       the binder depths from which the keys of the two tables are seen
 --   lockstep   both tables from the front. A node at which the walk stops is passed with all nodes below it (`skip` counts those that
 --              are left), and so is the subterm that it faces; any other two nodes have to have the same key. none where they disagree
---   slot       a token of tag 5 or 6: a metavariable or a function application
+--   slot       a token of a tag above 4: a metavariable, a function application or, in a body, a hole
 use Prim.Native.Nat.{ℕ, zero, suc, _+_, _*_, _-_, _/_, _%_}
-use mathlib.Core.Bool.{Bool, _||_}
+use mathlib.Core.Bool.{Bool}
 use mathlib.Core.List.{List, [], _∷_}
 use mathlib.Core.Option.{Option, none, some}
 use lib.ListN.{drop}
-use lib.Dec.{eqb}
+use lib.Dec.{eqb, ltb}
 use Rattle.meaning.specs.Basics.{choose, join, guard}
 use Rattle.tokens.specs.Token.{tagIn, sizeIn}
 use Rattle.tokens.specs.Key.{keyOf}
@@ -39,7 +39,7 @@ lockstep stop d e zero i j (x ∷ ps) (y ∷ es) =
 
 -- "until a metavariable or function application is met; that faces the subexpression there"
 abbrev pub slotTag : ℕ → Bool
-slotTag g = eqb g 5 || eqb g 6
+slotTag g = ltb 4 g
 
 unfoldable pub isSlot : ℕ → Bool
 isSlot x = slotTag (tagIn x)

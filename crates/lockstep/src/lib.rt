@@ -23,12 +23,11 @@ pub struct Span {
     pub e: u64,
 }
 
-// Whether a token is a metavariable or a function application.
+// Whether a token is a metavariable, a function application or a hole: the tags of an expression's nodes come before theirs.
 fn is_slot(x: u64) -> bool
     ensures { λ r. ⌜ r ≡ isSlot x ⌝ }
 {
-    let kind = tag(x);
-    kind == 5 || kind == 6
+    4 < tag(x)
 }
 
 // Records each face as pattern node + 65536 * expression node, in order. A slot is passed with all its nodes, and so is what it

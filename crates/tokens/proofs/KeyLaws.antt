@@ -24,7 +24,7 @@ use Rattle.meaning.specs.Readable.{Readable}
 use Rattle.meaning.proofs.Lists.{T-true, true-T}
 use Rattle.meaning.proofs.ShiftLaws.{test-closed, closed-test}
 use Rattle.tokens.specs.Token.{tokenOf, depthIn, sizeIn, payloadOf, tokens}
-use Rattle.tokens.specs.Key.{keys, levelFrom, at, part, keysAt, sameAt, Inside, anyReaches, usesAt, closedAt, Held, Stands}
+use Rattle.tokens.specs.Key.{keys, levelFrom, at, part, keysAt, sameAcross, sameAt, Inside, anyReaches, usesAt, closedAt, Held, Stands}
 use Rattle.tokens.proofs.same.Laws.{sameList-true, same-sameList}
 use Rattle.tokens.proofs.TokenParts.{depth-token, size-token, tokens-length, tag-room}
 use Rattle.tokens.proofs.Codes.{codes, Ranked, codes-injective, keys-codes, readable-ranked}
@@ -129,14 +129,20 @@ module _ (levels : ℕ) (ctx : Context) (table : List ℕ) (a : ℕ) (sc : List 
       let n = no-some (lowerTerm (length sc - d) (namelessTerm sc t)) in
       (λ q. n .0 (sym e ∙ q), λ q. e ∙ n .1 q)
 
--- What `same` answers
+-- What `same_across` answers, and `same`
+pub across-means : (levels levels′ : ℕ) (ctx ctx′ : Context) (table table′ : List ℕ) (a b : ℕ) (sc sc′ : List ℕ) (t u : NamedTerm)
+    → Held levels ctx sc t
+    → Held levels′ ctx′ sc′ u → Stands table a sc t → Stands table′ b sc′ u
+    → (sameAcross table a table′ b ≡ true) ↔ Equal (levelFrom sc) (levelFrom sc′) (namelessTerm sc t) (namelessTerm sc′ u)
+unfolding sameAcross
+across-means levels levels′ ctx ctx′ table table′ a b sc sc′ t u h h′ s s′ =
+    let p = stands-keys levels ctx table a sc t h s in
+    let q = stands-keys levels′ ctx′ table′ b sc′ u h′ s′ in
+    let e = keys-equal levels levels′ ctx ctx′ sc sc′ t u h h′ in
+    (λ r. e .0 (sym p ∙ sameList-true _ _ r ∙ q), λ r. same-sameList _ _ (p ∙ e .1 r ∙ sym q))
+
 pub same-means : (levels levels′ : ℕ) (ctx ctx′ : Context) (table : List ℕ) (a b : ℕ) (sc sc′ : List ℕ) (t u : NamedTerm)
     → Held levels ctx sc t
     → Held levels′ ctx′ sc′ u → Stands table a sc t → Stands table b sc′ u
     → (sameAt table a b ≡ true) ↔ Equal (levelFrom sc) (levelFrom sc′) (namelessTerm sc t) (namelessTerm sc′ u)
-unfolding sameAt
-same-means levels levels′ ctx ctx′ table a b sc sc′ t u h h′ s s′ =
-    let p = stands-keys levels ctx table a sc t h s in
-    let q = stands-keys levels′ ctx′ table b sc′ u h′ s′ in
-    let e = keys-equal levels levels′ ctx ctx′ sc sc′ t u h h′ in
-    (λ r. e .0 (sym p ∙ sameList-true _ _ r ∙ q), λ r. same-sameList _ _ (p ∙ e .1 r ∙ sym q))
+same-means levels levels′ ctx ctx′ table a b = across-means levels levels′ ctx ctx′ table table a b

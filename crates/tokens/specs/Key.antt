@@ -66,8 +66,12 @@ sameList [] (y ∷ ys) = false
 sameList (x ∷ xs) [] = false
 sameList (x ∷ xs) (y ∷ ys) = eqb x y && sameList xs ys
 
-unfoldable pub sameAt : List ℕ → ℕ → ℕ → Bool
-sameAt t a b = sameList (keysAt t a) (keysAt t b)
+-- Subterms of two tables, and of one
+unfoldable pub sameAcross : List ℕ → ℕ → List ℕ → ℕ → Bool
+sameAcross t a u b = sameList (keysAt t a) (keysAt u b)
+
+abbrev pub sameAt : List ℕ → ℕ → ℕ → Bool
+sameAt t a b = sameAcross t a t b
 
 -- A node's subterm lies in the table
 pub record Inside (t : List ℕ) (a : ℕ) : Type 0 where

@@ -7,7 +7,7 @@ ghost use mathlib.Core.Path.{_≡_};
 ghost use Prim.Native.Nat.{_+_, _-_, _*_, _<_, _≤_, min};
 ghost use lib.ListN.{length};
 ghost use lib.Dec.{eqb};
-ghost use Rattle.tokens.specs.Key.{keyOfVariable, keyOfPayload, keyOf, keys, nodes, sameList, sameAt, Inside, reaches, anyReaches};
+ghost use Rattle.tokens.specs.Key.{keyOfVariable, keyOfPayload, keyOf, keys, nodes, sameList, sameAcross, sameAt, Inside, reaches, anyReaches};
 ghost use Rattle.tokens.specs.Key.{usesAt, closedAt};
 
 // A bound variable's de Bruijn index. No term's table has a level past the depth; should one, the answer is 0.
@@ -64,13 +64,13 @@ pub fn same_node(d: u64, x: u64, e: u64, y: u64) -> bool
 }
 
 // Whether n nodes in a row agree; the loop ends at the first pair that does not.
-fn same_run(t: &[u64], a: usize, b: usize, d: u64, e: u64, n: usize) -> bool
-    requires { ⌜ a + n ≤ length (now t) ⌝ ∗ ⌜ b + n ≤ length (now t) ⌝ }
-    ensures { λ r. ⌜ r ≡ sameList (keys d (nodes (now (t .entry)) a n)) (keys e (nodes (now (t .entry)) b n)) ⌝ }
+fn same_run(t: &[u64], a: usize, d: u64, u: &[u64], b: usize, e: u64, n: usize) -> bool
+    requires { ⌜ a + n ≤ length (now t) ⌝ ∗ ⌜ b + n ≤ length (now u) ⌝ }
+    ensures { λ r. ⌜ r ≡ sameList (keys d (nodes (now (t .entry)) a n)) (keys e (nodes (now (u .entry)) b n)) ⌝ }
 {
     let mut k = 0;
     while k < n {
-        if !same_node(d, t[a + k], e, t[b + k]) {
+        if !same_node(d, t[a + k], e, u[b + k]) {
             return false;
         }
         k += 1;
@@ -87,21 +87,29 @@ fn least(m: u64, n: u64) -> u64
     n
 }
 
-// Whether the subterms at nodes a and b are equal up to bound names. A binder outside them counts by its level, which is the same
-// binder for both only where it lies above both nodes: so the answer is right where each outer binder that they use does. The sizes
-// come last: two terms that differ do so in a pair that both have.
+// Whether the subterms at node a of one table and at node b of another are equal up to bound names. A binder outside them counts by its
+// level, which is the same binder for both only where it lies above both nodes: so the answer is right where each outer binder that they
+// use does. The sizes come last: two terms that differ do so in a pair that both have.
+pub fn same_across(t: &[u64], a: usize, u: &[u64], b: usize) -> bool
+    requires { ⌜ Inside (now t) a ⌝ ∗ ⌜ Inside (now u) b ⌝ }
+    ensures { λ r. ⌜ r ≡ sameAcross (now (t .entry)) a (now (u .entry)) b ⌝ }
+{
+    let x = t[a];
+    let y = u[b];
+    let m = size(x);
+    let n = size(y);
+    if !same_run(t, a, depth(x), u, b, depth(y), least(m, n) as usize) {
+        return false;
+    }
+    m == n
+}
+
+// The same within one table.
 pub fn same(t: &[u64], a: usize, b: usize) -> bool
     requires { ⌜ Inside (now t) a ⌝ ∗ ⌜ Inside (now t) b ⌝ }
     ensures { λ r. ⌜ r ≡ sameAt (now (t .entry)) a b ⌝ }
 {
-    let x = t[a];
-    let y = t[b];
-    let m = size(x);
-    let n = size(y);
-    if !same_run(t, a, b, depth(x), depth(y), least(m, n) as usize) {
-        return false;
-    }
-    m == n
+    same_across(t, a, t, b)
 }
 
 // Whether a token is a variable with a level above d and at most r: bound outside a root at depth r, inside one at depth d.

@@ -1,5 +1,5 @@
--- `is_slot` meets its contract: the tag is 5, or it is not and whether it is 6 decides.
-use Rattle.lockstep.proofs.SpanLaws.{slot-five, slot-six}
+-- `is_slot` meets its contract: whether the tag is above 4.
+use Rattle.lockstep.proofs.SpanLaws.{slot-tag}
 use borrow.Author.Needs.{needs}
 use Rattle.lockstep.proofs.is_slot.Statement.{statement}
 use Rattle.lockstep.proofs.is_slot.Tie as tie
@@ -8,10 +8,7 @@ tag-requires : tie.Need-tag-requires
 tag-requires c κs = search needs
 
 returns : tie.Need-returns
-returns c = slot-five (c .before .before .args .x) (c .before .tag .result) (c .before .tag .ensures) (c .if1 .taken)
-
-returns-2 : tie.Need-returns-2
-returns-2 c = slot-six (c .before .before .args .x) (c .before .tag .result) (c .before .tag .ensures) (c .if1 .left)
+returns c = slot-tag (c .before .args .x) (c .tag .result) (c .tag .ensures)
 
 pub is-slot-spec : {M : Type 1} → statement M
-is-slot-spec = tie.close (tie.spec tag-requires returns returns-2)
+is-slot-spec = tie.close (tie.spec tag-requires returns)

@@ -12,7 +12,7 @@ use lib.Dec.{eqb, ltb, leb}
 use borrow.Author.Tests.{eq-eqb, ne-eqb, lt-ltb, le-ltb, eqb-true, eqb-false, not-true, not-false}
 use Rattle.meaning.proofs.Lists.{choose-true, choose-false, T-true, true-T, not-T, and-T, by-test}
 use Rattle.tokens.specs.Token.{tagIn, depthIn, sizeIn, payloadIn}
-use Rattle.tokens.specs.Key.{upperHalf, lowerHalf, keyOfVariable, keyOfPayload, keyOf, keys, at, nodes, keysAt, sameList, sameAt}
+use Rattle.tokens.specs.Key.{upperHalf, lowerHalf, keyOfVariable, keyOfPayload, keyOf, keys, at, nodes, keysAt, sameList, sameAcross}
 use Rattle.tokens.specs.Key.{Inside, reaches, anyReaches, usesAt}
 
 -- The three keys of a variable, and the keys of a payload
@@ -97,23 +97,23 @@ left-none : (t : List ℕ) (a n k : ℕ) → n ≤ k → left t a n k ≡ []
 left-none t a n k h = let z : n - k ≡ 0 = omega arith in rw z
 
 -- The loop over pairs of nodes
-module _ (d e : ℕ) (t : List ℕ) (a b n : ℕ) where
+module _ (d e : ℕ) (t : List ℕ) (a : ℕ) (u : List ℕ) (b n : ℕ) where
   abbrev pub leftSame : ℕ → Bool
-  leftSame k = sameList (keys d (left t a n k)) (keys e (left t b n k))
+  leftSame k = sameList (keys d (left t a n k)) (keys e (left u b n k))
 
-  pub same-begins : leftSame 0 ≡ sameList (keys d (nodes t a n)) (keys e (nodes t b n))
-  same-begins = rw (left-all t a n, left-all t b n)
+  pub same-begins : leftSame 0 ≡ sameList (keys d (nodes t a n)) (keys e (nodes u b n))
+  same-begins = rw (left-all t a n, left-all u b n)
 
   pub same-ends : (k : ℕ) → n ≤ k → true ≡ leftSame k
   unfolding sameList
-  same-ends k h = rw (left-none t a n k h, left-none t b n k h)
+  same-ends k h = rw (left-none t a n k h, left-none u b n k h)
 
-  module _ (fa : a + n ≤ length t) (fb : b + n ≤ length t) (k : ℕ) (h : k < n) where
-    same-step : leftSame k ≡ eqb (keyOf d (at t (a + k))) (keyOf e (at t (b + k))) && leftSame (k + 1)
+  module _ (fa : a + n ≤ length t) (fb : b + n ≤ length u) (k : ℕ) (h : k < n) where
+    same-step : leftSame k ≡ eqb (keyOf d (at t (a + k))) (keyOf e (at u (b + k))) && leftSame (k + 1)
     unfolding sameList
-    same-step = ap₂ (λ (xs ys : List ℕ). sameList (keys d xs) (keys e ys)) (left-next t a n k fa h) (left-next t b n k fb h)
+    same-step = ap₂ (λ (xs ys : List ℕ). sameList (keys d xs) (keys e ys)) (left-next t a n k fa h) (left-next u b n k fb h)
 
-    module _ (found : Bool) (is-found : found ≡ eqb (keyOf d (at t (a + k))) (keyOf e (at t (b + k)))) where
+    module _ (found : Bool) (is-found : found ≡ eqb (keyOf d (at t (a + k))) (keyOf e (at u (b + k)))) where
       pub same-goes-on : not found ≡ false → leftSame (k + 1) ≡ leftSame k
       same-goes-on q = sym (same-step ∙ ap (λ (c : Bool). c && leftSame (k + 1)) (sym is-found ∙ not-false found q))
 
@@ -157,27 +157,27 @@ length-keys : (d n : ℕ) (t : List ℕ) (a : ℕ) → a + n ≤ length t → le
 length-keys d n t a h = simp (length-map, length-take, length-drop) (omega arith)
 
 -- m and n are the sizes, d and e the depths of two nodes, and found whether the first l pairs agree, as the code has them
-module _ (t : List ℕ) (a b m n d e l : ℕ) (found : Bool) (is-m : m ≡ sizeIn (at t a)) (is-n : n ≡ sizeIn (at t b))
+module _ (t : List ℕ) (a : ℕ) (u : List ℕ) (b m n d e l : ℕ) (found : Bool) (is-m : m ≡ sizeIn (at t a)) (is-n : n ≡ sizeIn (at u b))
     (is-d : d ≡ depthIn (at t a))
-    (is-e : e ≡ depthIn (at t b)) (is-l : l ≡ min m n) (is-found : found ≡ sameList (keys d (nodes t a l)) (keys e (nodes t b l))) where
+    (is-e : e ≡ depthIn (at u b)) (is-l : l ≡ min m n) (is-found : found ≡ sameList (keys d (nodes t a l)) (keys e (nodes u b l))) where
   abbrev keysA : ℕ → List ℕ
   keysA k = keys d (nodes t a k)
 
   abbrev keysB : ℕ → List ℕ
-  keysB k = keys e (nodes t b k)
+  keysB k = keys e (nodes u b k)
 
-  same-keys : sameAt t a b ≡ sameList (keysA m) (keysB n)
-  unfolding sameAt keysAt
+  same-keys : sameAcross t a u b ≡ sameList (keysA m) (keysB n)
+  unfolding sameAcross keysAt
   same-keys = cc
 
-  pub same-refused : not found ≡ true → false ≡ sameAt t a b
+  pub same-refused : not found ≡ true → false ≡ sameAcross t a u b
   same-refused h =
       sym (same-keys ∙ other-sameList _ _ (λ z. true≢false (sym (same-sameList _ _ (first z)) ∙ sym is-found ∙ not-true found h)))
     where
       first : keysA m ≡ keysB n → keysA l ≡ keysB l
-      first z = sym (keys-cut d l m t a (omega arith)) ∙ ap (take l) z ∙ keys-cut e l n t b (omega arith)
+      first z = sym (keys-cut d l m t a (omega arith)) ∙ ap (take l) z ∙ keys-cut e l n u b (omega arith)
 
-  pub same-judged : Inside t a → Inside t b → not found ≡ false → eqb m n ≡ sameAt t a b
+  pub same-judged : Inside t a → Inside u b → not found ≡ false → eqb m n ≡ sameAcross t a u b
   same-judged ia ib h = sym (same-keys ∙ by-test (eqb m n) equal unequal)
     where
       equal : eqb m n ≡ true → sameList (keysA m) (keysB n) ≡ eqb m n
@@ -190,8 +190,8 @@ module _ (t : List ℕ) (a b m n d e l : ℕ) (found : Bool) (is-m : m ≡ sizeI
       unequal : eqb m n ≡ false → sameList (keysA m) (keysB n) ≡ eqb m n
       unequal g =
           let fa : a + m ≤ length t = omega (arith, ia .ends) in
-          let fb : b + n ≤ length t = omega (arith, ib .ends) in
-          other-sameList _ _ (λ z. eqb-false m n g (sym (length-keys d m t a fa) ∙ ap length z ∙ length-keys e n t b fb)) ∙ sym g
+          let fb : b + n ≤ length u = omega (arith, ib .ends) in
+          other-sameList _ _ (λ z. eqb-false m n g (sym (length-keys d m t a fa) ∙ ap length z ∙ length-keys e n u b fb)) ∙ sym g
 
 -- Which outer binders a subterm uses, by its size m and its depth r as the code has them
 pub uses-judged : (t : List ℕ) (a d m r : ℕ) (found : Bool) → m ≡ sizeIn (at t a) → r ≡ depthIn (at t a)

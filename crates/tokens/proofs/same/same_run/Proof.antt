@@ -10,15 +10,15 @@ use Rattle.tokens.proofs.same.same_run.Statement.{statement}
 use Rattle.tokens.proofs.same.same_run.Tie as tie
 
 abbrev Inv-loop : tie.InvT-loop
-Inv-loop t a b d e n k₀ k = (k ≤ n) × (leftSame d e t a b n k ≡ sameList (keys d (nodes t a n)) (keys e (nodes t b n)))
+Inv-loop t a d u b e n k₀ k = (k ≤ n) × (leftSame d e t a u b n k ≡ sameList (keys d (nodes t a n)) (keys e (nodes u b n)))
 
 abbrev μ-loop : tie.MeasureT-loop
-μ-loop t a b d e n k₀ k = n - k
+μ-loop t a d u b e n k₀ k = n - k
 
 loop-holds : tie.Need-loop-holds Inv-loop μ-loop
 loop-holds c =
-    let s = c .before in
-    (search needs, same-begins (s .args .d) (s .args .e) (s .args .t .now) (s .args .a) (s .args .b) (s .args .n))
+    let s = c .before .before in
+    (search needs, same-begins (s .args .d) (s .args .e) (s .args .t .now) (s .args .a) (s .args .u .now) (s .args .b) (s .args .n))
 
 add-same-node : tie.Need-add-same-node Inv-loop μ-loop
 add-same-node c = search needs
@@ -43,9 +43,9 @@ same-node-requires c κs = search needs
 
 returns : tie.Need-returns Inv-loop μ-loop
 returns c =
-    let s = c .before .before .before .before .before .before .before in
+    let s = c .before .before .before .before .before .before .before .before in
     let l = c .before .before .before .before .before .loop in
-    same-stops (s .args .d) (s .args .e) (s .args .t .now) (s .args .a) (s .args .b) (s .args .n)
+    same-stops (s .args .d) (s .args .e) (s .args .t .now) (s .args .a) (s .args .u .now) (s .args .b) (s .args .n)
     (s .pre .0) (s .pre .1) (l .k) (omega arith) (c .before .same-node .result) (c .before .same-node .ensures) (c .if1 .taken) ∙ l .inv .1
 
 add-k : tie.Need-add-k Inv-loop μ-loop
@@ -56,19 +56,19 @@ loop-less c = search needs
 
 loop-again : tie.Need-loop-again Inv-loop μ-loop
 loop-again c =
-    let s = c .before .before .before .before .before .before .before in
+    let s = c .before .before .before .before .before .before .before .before in
     let l = c .before .before .before .before .before .loop in (
       search needs,
-      same-goes-on (s .args .d) (s .args .e) (s .args .t .now) (s .args .a) (s .args .b) (s .args .n)
+      same-goes-on (s .args .d) (s .args .e) (s .args .t .now) (s .args .a) (s .args .u .now) (s .args .b) (s .args .n)
           (s .pre .0) (s .pre .1) (l .k) (omega arith) (c .before .same-node .result) (c .before .same-node .ensures) (c .if1 .left)
           ∙ l .inv .1,
     )
 
 returns-2 : tie.Need-returns-2 Inv-loop μ-loop
 returns-2 c =
-    let s = c .before .before .before in
+    let s = c .before .before .before .before in
     let l = c .before .loop in
-    same-ends (s .args .d) (s .args .e) (s .args .t .now) (s .args .a) (s .args .b) (s .args .n) (l .k) (c .loop-test .left) ∙ l .inv .1
+    same-ends (s .args .d) (s .args .e) (s .args .t .now) (s .args .a) (s .args .u .now) (s .args .b) (s .args .n) (l .k) (c .loop-test .left) ∙ l .inv .1
 
 pub same-run-spec : {M : Type 1} → statement M
 same-run-spec =

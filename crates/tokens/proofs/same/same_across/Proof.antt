@@ -1,8 +1,8 @@
--- `same::same` meets its contract: the nodes that both subterms have, then the sizes.
+-- `same::same_across` meets its contract: the nodes that both subterms have, then the sizes.
 use Rattle.tokens.proofs.same.Laws.{same-refused, same-judged}
 use borrow.Author.Needs.{needs}
-use Rattle.tokens.proofs.same.same.Statement.{statement}
-use Rattle.tokens.proofs.same.same.Tie as tie
+use Rattle.tokens.proofs.same.same_across.Statement.{statement}
+use Rattle.tokens.proofs.same.same_across.Tie as tie
 
 mul-x : tie.Need-mul-x
 mul-x c = search needs
@@ -42,8 +42,8 @@ returns c =
     let depth-a = depth-b .before in
     let size-b = depth-a .before in
     let size-a = size-b .before in
-    let s = size-a .before .before .before .before in
-    same-refused (s .args .t .now) (s .args .a) (s .args .b) (size-a .size .result) (size-b .size2 .result) (depth-a .depth .result)
+    let s = size-a .before .before .before .before .before in
+    same-refused (s .args .t .now) (s .args .a) (s .args .u .now) (s .args .b) (size-a .size .result) (size-b .size2 .result) (depth-a .depth .result)
     (depth-b .depth2 .result)
     (short .least .result) (found .same-run .result) (size-a .size .ensures) (size-b .size2 .ensures)
     (depth-a .depth .ensures) (depth-b .depth2 .ensures) (short .least .ensures) (found .same-run .ensures) (c .if1 .taken)
@@ -56,15 +56,15 @@ returns-2 c =
     let depth-a = depth-b .before in
     let size-b = depth-a .before in
     let size-a = size-b .before in
-    let s = size-a .before .before .before .before in
-    same-judged (s .args .t .now) (s .args .a) (s .args .b) (size-a .size .result) (size-b .size2 .result) (depth-a .depth .result)
+    let s = size-a .before .before .before .before .before in
+    same-judged (s .args .t .now) (s .args .a) (s .args .u .now) (s .args .b) (size-a .size .result) (size-b .size2 .result) (depth-a .depth .result)
     (depth-b .depth2 .result)
     (short .least .result) (found .same-run .result) (size-a .size .ensures) (size-b .size2 .ensures)
     (depth-a .depth .ensures) (depth-b .depth2 .ensures) (short .least .ensures) (found .same-run .ensures) (s .pre .0) (s .pre .1)
     (c .if1 .left)
 
-pub same-spec : {M : Type 1} → statement M
-same-spec =
+pub same-across-spec : {M : Type 1} → statement M
+same-across-spec =
     tie.close
     (tie.spec
     mul-x
