@@ -41,7 +41,7 @@ few-metavariables p =
     subst (λ (n : ℕ). length (metavariables p) ≤ n) (length-upTo metavariableCount) (keep-length _ (upTo metavariableCount))
 
 -- A written text is never over the limit of a text
-text-fits : (p : Problem) (r : Row) → Accepted p → solves p r ≡ true → length (encodeText (textOf p r)) ≤ maxText
+pub text-fits : (p : Problem) (r : Row) → Accepted p → solves p r ≡ true → length (encodeText (textOf p r)) ≤ maxText
 unfolding maxText maxInput metavariableCount
 text-fits p r a e =
     let l = text-length p r a e in

@@ -81,7 +81,7 @@ pub record Copied (p : Problem) (n : ℕ) (t : Term) : Type 0 where
   pub there : nodeAt n (namedExpressions p) ≡ some (termAt p n)
   pub means : t ≡ namelessTerm scope (termAt p n)
 
-copied : (p : Problem) (n : ℕ) (t : Term) → nodeAt n (expressions p) ≡ some t → Copied p n t
+pub copied : (p : Problem) (n : ℕ) (t : Term) → nodeAt n (expressions p) ≡ some t → Copied p n t
 copied p n t e =
     let r = named-node n (namedExpressions p) t e in
     let same : termAt p n ≡ r .1 = ap termOr (r .2) in
@@ -128,11 +128,11 @@ module _ (p : Problem) (r : Row) (ok : Accepted p) (e : solves p r ≡ true) whe
       ap meant (w .1) ∙ ap body (sym (scope-drop (c .scope) v (subst ClosedTerm same d)) ∙ sym same) ∙ sym (candidate-function p r m a)
 
   -- Another metavariable's entry is the term at its source
-  written-value : (m : ℕ) → (m ∈ applied (patterns p) → ⊥) → entryOf p r m ≡ writtenValue p (lookup m (sources p r))
+  pub written-value : (m : ℕ) → (m ∈ applied (patterns p) → ⊥) → entryOf p r m ≡ writtenValue p (lookup m (sources p r))
   unfolding entryOf
   written-value m a = choose-false (writtenBody p r m) (writtenValue p (lookup m (sources p r))) (not-isIn m (applied (patterns p)) a)
 
-  value-copied : (m : ℕ) (s : Source) → m ∈ metavariables p → (m ∈ applied (patterns p) → ⊥) → m ∈ plain (patterns p)
+  pub value-copied : (m : ℕ) (s : Source) → m ∈ metavariables p → (m ∈ applied (patterns p) → ⊥) → m ∈ plain (patterns p)
       → lookup m (sources p r) ≡ some s
       → ClosedTerm (s .term) × Copied p (s .node) (s .term)
   value-copied m s h a b q =

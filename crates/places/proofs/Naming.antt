@@ -74,7 +74,7 @@ module _ (p : Problem) (a : Accepted p) (ds : List ℕ) (agree : Bool) (told : a
   }
 
   -- ... and nothing else does
-  named-row : (r : Row) → Names p (valueOf v) (at r) → IsRowOf v agree ds
+  pub named-row : (r : Row) → Names p (valueOf v) (at r) → IsRowOf v agree ds
   named-row r n =
       let shapes = n .isPlace .agree in
       let whole : valueOf v ≡ record { masks = masksOf r; isPast = false } = n .isValue ∙ row-value r in

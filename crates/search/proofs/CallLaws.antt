@@ -140,7 +140,7 @@ module _ (s : Bytes) (ps es fs ds : List ℕ) (a : Standing) (firsts : Firsts) (
   fs′ = take (a .faces) fs
 
   -- What `judge` is told
-  ready-laid : a .agree ≡ true → fit.Laid p ps′ es′ fs′ (a .occurring .functions) firsts
+  pub ready-laid : a .agree ≡ true → fit.Laid p ps′ es′ fs′ (a .occurring .functions) firsts
   ready-laid e =
       let laid = ready .laid in
       let (xs, shapes) = is-some (faces p) (sym (laid .agree) ∙ e) in

@@ -97,7 +97,7 @@ all-at P [] a k h = absurd (omega arith)
 all-at P (x ∷ xs) a zero h = a .0
 all-at P (x ∷ xs) a (suc k) h = all-at P xs (a .1) k (omega arith)
 
-tokens-table : (levels : ℕ) (ctx : Context) (u : Forest Named) → Readable levels ctx u → Room levels [] u → Table (tokens [] u)
+pub tokens-table : (levels : ℕ) (ctx : Context) (u : Forest Named) → Readable levels ctx u → Room levels [] u → Table (tokens [] u)
 tokens-table levels ctx u r h =
     record {
       counted = all-at (λ x. 1 ≤ sizeIn x) (tokens [] u) (tokens-counted levels ctx [] u r h);

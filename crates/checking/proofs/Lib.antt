@@ -1,0 +1,2 @@
+-- Laws of the checker.
+pub mod CheckLaws

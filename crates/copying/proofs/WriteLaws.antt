@@ -1,0 +1,87 @@
+-- What the writers leave in the buffer, where a part of it is lent on and where not.
+--   headed   bytes before others, which were written first, into the part after them
+--   joined   bytes before others, which were written last, into the part after them
+use mathlib.Core.Path.{_≡_, refl, ap, _∙_}
+use Prim.Native.Nat.{ℕ, _+_, _-_, _/_, _%_, _≤_}
+use native.Mathlib.Omega.{arith}
+use mathlib.Core.List.{[], _∷_, _++_, append-assoc, append-nil}
+use borrow.Rule.Slice.PartMut.{post-is, putMid}
+use lib.ListN.{drop, length, length-append, set, take}
+use lib.Seq.{drop-at, drop-drop, drop-length, length-take-le}
+use Rattle.meaning.specs.Basics.{Bytes}
+use Rattle.meaning.specs.Field.{field, word}
+use Rattle.tokens.specs.Token.{payloadIn, tagIn}
+use Rattle.slices.proofs.Slices.{rest-all, rows-joined}
+use Rattle.copying.specs.Fixed.{Wrote, aHole, fixedIn, headIn, numberIn, numbersIn}
+use Rattle.copying.proofs.FixedLaws.{head-length}
+
+-- A few bytes at the front
+pub two-bytes : (o : Bytes) (n : ℕ) → 2 ≤ length o → set (set o 0 (n / 256)) 1 (n % 256) ≡ word n ++ drop 2 o
+unfolding word
+two-bytes [] n h = absurd (omega arith)
+two-bytes (x ∷ []) n h = absurd (omega arith)
+two-bytes (x ∷ y ∷ o) n h = refl
+
+pub three-bytes : (o : Bytes) (g n : ℕ) → 3 ≤ length o → set (set (set o 0 g) 1 (n / 256)) 2 (n % 256) ≡ g ∷ (word n ++ drop 3 o)
+unfolding word
+three-bytes [] g n h = absurd (omega arith)
+three-bytes (x ∷ []) g n h = absurd (omega arith)
+three-bytes (x ∷ y ∷ []) g n h = absurd (omega arith)
+three-bytes (x ∷ y ∷ z ∷ o) g n h = refl
+
+pub hole-wrote : (o o′ : Bytes) → o′ ≡ 10 ∷ (word 0 ++ drop 3 o) → Wrote aHole o o′ 3
+unfolding aHole field word
+hole-wrote o o′ e = (refl, e)
+
+-- The two numbers of a binder
+pub words-wrote : (x p : ℕ) (o q y : Bytes) → p ≡ payloadIn x → q ≡ word (p % 65536) ++ drop 2 o
+    → y ≡ word (p / 65536) ++ drop 2 (take (length q - 2) (drop 2 q)) → putMid 2 (length q - 2) q y ≡ numbersIn x ++ drop 4 o
+unfolding word
+words-wrote x p o q y e hq hy = rw (← e) (rows-joined (word (p % 65536)) (word (p / 65536)) o q y hq hy)
+
+-- The returns of `write_fixed`
+module _ (x : ℕ) (o o′ : Bytes) where
+  fixed-wrote : (bytes : Bytes) → fixedIn x ≡ bytes → o′ ≡ bytes ++ drop (length bytes) o → o′ ≡ fixedIn x ++ drop (length (fixedIn x)) o
+  fixed-wrote bytes e h = rw e h
+
+  pub number-wrote : (p : ℕ) → fixedIn x ≡ numberIn x → p ≡ payloadIn x → o′ ≡ word (p % 65536) ++ drop 2 o
+      → o′ ≡ fixedIn x ++ drop (length (fixedIn x)) o
+  unfolding word
+  number-wrote p e q h = fixed-wrote (numberIn x) e (rw (← q) h)
+
+  pub numbers-wrote : fixedIn x ≡ numbersIn x → o′ ≡ numbersIn x ++ drop 4 o → o′ ≡ fixedIn x ++ drop (length (fixedIn x)) o
+  unfolding word
+  numbers-wrote e h = fixed-wrote (numbersIn x) e h
+
+  pub none-wrote : fixedIn x ≡ [] → o′ ≡ o → o′ ≡ fixedIn x ++ drop (length (fixedIn x)) o
+  none-wrote e h = fixed-wrote [] e h
+
+-- The return of `write_node`
+pub node-wrote : (x n f g : ℕ) (o p y : Bytes) → f ≡ length (fixedIn x) → g ≡ tagIn x → p ≡ g ∷ (word (f + n) ++ drop 3 o)
+    → y ≡ fixedIn x ++ drop (length (fixedIn x)) (take (length p - 3) (drop 3 p))
+    → putMid 3 (length p - 3) p y ≡ headIn x n ++ drop (3 + length (fixedIn x)) o
+unfolding headIn word
+node-wrote x n f g o p y is-f is-g hp hy =
+    let h : p ≡ tagIn x ∷ (word (length (fixedIn x) + n) ++ drop 3 o) = rw (← is-f, ← is-g) hp in
+    rows-joined (tagIn x ∷ word (length (fixedIn x) + n)) (fixedIn x) o p y h hy
+    ∙ ap (λ (k : ℕ). headIn x n ++ drop k o) (head-length x n)
+
+-- A part that comes back stands after what is before it
+back-after : (a : ℕ) (o y : Bytes) → a ≤ length o → drop a (putMid a (length o - a) o y) ≡ y
+back-after a o y h =
+    drop-at (take a o) (y ++ drop (length o - a) (drop a o)) a (length-take-le a o h)
+    ∙ ap (λ (l : Bytes). y ++ l) (post-is a (length o) o h ∙ drop-length o) ∙ append-nil y
+
+pub headed : (front inner o y o′ : Bytes) (a n r : ℕ) → length front ≡ a → a ≤ length o → Wrote inner (take (length o - a) (drop a o)) y n
+    → r ≡ a + n → o′ ≡ front ++ drop a (putMid a (length o - a) o y) → Wrote (front ++ inner) o o′ r
+headed front inner o y o′ a n r is-a h w is-r e = (
+  is-r ∙ rw (length-append front inner, is-a, ← w .0),
+  e ∙ rw (back-after a o y h, w .1, rest-all a o, drop-drop n a o, is-r, append-assoc front inner (drop (a + n) o)),
+)
+
+pub joined : (a b o p y : Bytes) (n k : ℕ) → Wrote a o p n → Wrote b (take (length p - n) (drop n p)) y k
+    → Wrote (a ++ b) o (putMid n (length p - n) p y) (n + k)
+joined a b o p y n k v w = (
+  rw (length-append a b, ← v .0, ← w .0),
+  rw (v .0, w .0) (rows-joined a b o p y (rw (v .0) at (v .1)) (rw (v .0, w .0) at (w .1)) ∙ rw (length-append a b)),
+)

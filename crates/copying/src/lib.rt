@@ -1,0 +1,147 @@
+// Copies terms out of the table of expressions as bytes: "Bodies and values are copied from the problem with its bound names, lengths made
+// right inside out". The tail of the buffer is lent on to the inner terms' writer, then the head is written before what it wrote.
+use bodies::marked;
+use tokens::token::payload;
+use tokens::token::size;
+use tokens::token::tag;
+ghost use mathlib.Core.Path.{_≡_};
+ghost use Prim.Native.Nat.{_<_, _≤_};
+ghost use mathlib.Core.List.{_∷_, _++_};
+ghost use lib.ListN.{length, drop};
+ghost use Rattle.meaning.specs.Field.{word};
+ghost use Rattle.copying.specs.Fixed.{numbersIn, fixedIn, aHole, HeadRoom, Wrote, NodeRoom, NodeWrote};
+ghost use Rattle.copying.specs.Copied.{Copies, Copied, CopiesTerm, CopiedTerm, CopiesTerms, CopiedTerms};
+ghost use Rattle.copying.specs.Measure.{Measurable, Measured};
+
+// "hole, length 0"
+const HOLE: u8 = 10;
+
+// A field's head, before the content that stands there already.
+pub fn write_head(tag: u8, length: usize, out: &mut [u8])
+    requires { ⌜ HeadRoom length (now out) ⌝ }
+    ensures { λ r. ⌜ now (out .exit) ≡ tag ∷ (word length ++ drop 3 (now (out .entry))) ⌝ }
+{
+    out[0] = tag;
+    out[1] = (length / 256) as u8;
+    out[2] = (length % 256) as u8;
+}
+
+// The number in two bytes, high byte first.
+fn write_word(n: u64, out: &mut [u8])
+    requires { ⌜ (n < 65536) × (2 ≤ length (now out)) ⌝ }
+    ensures { λ r. ⌜ now (out .exit) ≡ word n ++ drop 2 (now (out .entry)) ⌝ }
+{
+    out[0] = (n / 256) as u8;
+    out[1] = (n % 256) as u8;
+}
+
+// The two numbers of a binder.
+fn write_words(x: u64, out: &mut [u8])
+    requires { ⌜ 4 ≤ length (now out) ⌝ }
+    ensures { λ r. ⌜ now (out .exit) ≡ numbersIn x ++ drop 4 (now (out .entry)) ⌝ }
+{
+    let load = payload(x);
+    write_word(load % 65536, out);
+    write_word(load / 65536, &mut out[2..]);
+}
+
+fn write_hole(out: &mut [u8]) -> usize
+    requires { ⌜ 3 ≤ length (now out) ⌝ }
+    ensures { λ r. ⌜ Wrote aHole (now (out .entry)) (now (out .exit)) r ⌝ }
+{
+    write_head(HOLE, 0, out);
+    3
+}
+
+// How long the fixed part of a node's content is. An application has none.
+fn fixed_length(x: u64) -> usize
+    ensures { λ r. ⌜ r ≡ length (fixedIn x) ⌝ }
+{
+    match tag(x) {
+        1 => 2,
+        2 => 2,
+        4 => 4,
+        _ => 0,
+    }
+}
+
+// The fixed part of a node's content.
+fn write_fixed(x: u64, out: &mut [u8])
+    requires { ⌜ length (fixedIn x) ≤ length (now out) ⌝ }
+    ensures { λ r. ⌜ now (out .exit) ≡ fixedIn x ++ drop (length (fixedIn x)) (now (out .entry)) ⌝ }
+{
+    match tag(x) {
+        1 => write_word(payload(x) % 65536, out),
+        2 => write_word(payload(x) % 65536, out),
+        4 => write_words(x, out),
+        _ => {}
+    }
+}
+
+// The head and the fixed part of a node, before n bytes of inner terms that stand there already.
+fn write_node(x: u64, n: usize, out: &mut [u8]) -> usize
+    requires { ⌜ NodeRoom x n (now out) ⌝ }
+    ensures { λ r. ⌜ NodeWrote x n (now (out .entry)) (now (out .exit)) r ⌝ }
+{
+    let fixed = fixed_length(x);
+    write_head(tag(x) as u8, fixed + n, out);
+    write_fixed(x, &mut out[3..]);
+    3 + fixed + n
+}
+
+// The term at node `at`, which is the copied one, at node `from`, or stands below it.
+fn copy_term(es: &[u64], from: usize, mask: u64, at: usize, out: &mut [u8]) -> usize
+    requires { ⌜ CopiesTerm (now es) from mask at (length (now out)) ⌝ }
+    ensures { λ r. ⌜ CopiedTerm (now (es .entry)) from mask at (now (out .entry)) (now (out .exit)) r ⌝ }
+{
+    if marked(mask, at - from) {
+        return write_hole(out);
+    }
+    let x = es[at];
+    let inner = 3 + fixed_length(x);
+    let end = at + size(x) as usize;
+    let n = copy_terms(es, from, mask, at + 1, end, &mut out[inner..]);
+    write_node(x, n, out)
+}
+
+// The terms from node `at` up to node `to`.
+fn copy_terms(es: &[u64], from: usize, mask: u64, at: usize, to: usize, out: &mut [u8]) -> usize
+    requires { ⌜ CopiesTerms (now es) from mask at to (length (now out)) ⌝ }
+    ensures { λ r. ⌜ CopiedTerms (now (es .entry)) from mask at to (now (out .entry)) (now (out .exit)) r ⌝ }
+{
+    if at == to {
+        return 0;
+    }
+    let n = copy_term(es, from, mask, at, out);
+    let next = at + size(es[at]) as usize;
+    n + copy_terms(es, from, mask, next, to, &mut out[n..])
+}
+
+// The term at a node with the marked nodes as holes.
+pub fn copy(es: &[u64], node: usize, mask: u64, out: &mut [u8]) -> usize
+    requires { ⌜ Copies (now es) node mask (length (now out)) ⌝ }
+    ensures { λ r. ⌜ Copied (now (es .entry)) node mask (now (out .entry)) (now (out .exit)) r ⌝ }
+{
+    copy_term(es, node, mask, node, out)
+}
+
+// How many bytes `copy` writes. What stands below a hole is passed.
+pub fn copy_length(es: &[u64], node: usize, mask: u64) -> usize
+    requires { ⌜ Measurable (now es) node ⌝ }
+    ensures { λ r. ⌜ Measured (now (es .entry)) node mask r ⌝ }
+{
+    let n = size(es[node]) as usize;
+    let mut total = 0;
+    let mut i = 0;
+    while i < n {
+        let x = es[node + i];
+        if marked(mask, i) {
+            total += 3;
+            i += size(x) as usize;
+        } else {
+            total += 3 + fixed_length(x);
+            i += 1;
+        }
+    }
+    total
+}

@@ -1,0 +1,7 @@
+-- What the proofs of the functions rest on.
+pub mod TermTable
+pub mod SaidMore
+pub mod ItemLaws
+pub mod ContentLaws
+pub mod FieldLaws
+pub mod TextLaws

@@ -1,0 +1,4 @@
+-- What reading a solution text promises.
+pub mod Fields
+pub mod Noted
+pub mod Texts

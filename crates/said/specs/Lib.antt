@@ -1,0 +1,2 @@
+-- What a text says, as the checker holds it.
+pub mod Said

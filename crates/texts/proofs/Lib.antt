@@ -1,0 +1,2 @@
+-- The second demand.
+pub mod SecondDemand

@@ -1,0 +1,2 @@
+-- What the writer and the checker promise together.
+pub mod Together

@@ -1,0 +1,222 @@
+-- A law for each return of the functions of `write`, in document 01's terms.
+use mathlib.Core.Path.{_≡_, ap, ap₂, sym, _∙_, subst}
+use mathlib.Core.Bool.{true, false, not, true≢false}
+use mathlib.Core.List.{List, _++_}
+use Prim.Native.Nat.{ℕ, _<_, _≤_}
+use native.Mathlib.Omega.{arith}
+use lib.ListN.{length, take, drop}
+use lib.Seq.{length-take-le}
+use borrow.Author.Tests.{not-false, not-true}
+use Rattle.meaning.specs.Limits.{maxText}
+use Rattle.meaning.specs.Basics.{Bytes, _∈_}
+use Rattle.meaning.specs.Problem.{Problem}
+use Rattle.meaning.specs.Row.{Row}
+use Rattle.meaning.specs.Rows.{rows}
+use Rattle.meaning.specs.Candidate.{solves}
+use Rattle.meaning.specs.Read.{got, refused}
+use Rattle.meaning.specs.Accept.{accept}
+use Rattle.meaning.specs.Search.{at, past}
+use Rattle.meaning.specs.PlaceValue.{Names, masksOf}
+use Rattle.meaning.specs.Entry.{WriteCall, noSolutionRow, noSuchRow, notAccepted, rowText, tooShort, writes}
+use Rattle.meaning.proofs.SecondDemand.{text-fits}
+use Rattle.tokens.specs.Token.{Table, expressionTokens}
+use Rattle.tokens.proofs.ProblemTokens.{expression-table}
+use Rattle.faces.specs.declared.first.Firsts.{Firsts}
+use Rattle.accept.specs.declared.Standing.{Standing}
+use Rattle.accept.specs.declared.Verdict.the-variants as verdicts
+use Rattle.prepare.specs.Prepared.{Prepares, Ready}
+use Rattle.prepare.specs.declared.Prepared.{Prepared}
+use Rattle.prepare.proofs.PreparedLaws.{prepared-accepted, prepared-refused, ready-tables}
+use Rattle.places.specs.Places.{AtPast, IsRowOf, Tells, valueOf}
+use Rattle.places.specs.declared.Named.{Named}
+use Rattle.places.specs.declared.Named.the-variants as named
+use Rattle.places.specs.declared.Place.{Place}
+use Rattle.places.proofs.Naming.{named-row, row-named}
+use Rattle.fit.specs.Judging.{Judges, judgedAt}
+use Rattle.fit.specs.Laid.{Laid, RowOf}
+use Rattle.fit.specs.Ready as fit
+use Rattle.fit.specs.declared.Judged.{Judged}
+use Rattle.fit.proofs.Meaning.{Judgement, judge-means}
+use Rattle.fit.proofs.Readiness.{laid-ready}
+use Rattle.search.specs.Calling.{Callable}
+use Rattle.search.proofs.CallLaws.{ready-laid}
+use Rattle.writing.specs.Entries.{DenotesAll, Planned, fieldsOf}
+use Rattle.writing.specs.Writing.{NamedWritten, RowCallable, RowWritten, TextAnswer, TextWritten, Writable, Writes}
+use Rattle.writing.specs.declared.entry.Plan.{Plan}
+use Rattle.writing.specs.declared.write.Written.{Written}
+use Rattle.writing.specs.declared.write.Written.the-variants as answers
+use Rattle.writing.proofs.FieldLaws.{entryOr, row-fields}
+use Rattle.writing.proofs.Denoting.{plan-denotes, plan-planned}
+
+-- A prepared problem, and a row of it
+module _ (s : Bytes) (ps es fs ds : List ℕ) (a : Standing) (firsts : Firsts) (ready : Ready (accept s) ps es fs ds a firsts) (row : Place)
+    (h : IsRowOf row (a .agree) ds) where
+  abbrev p : Problem
+  p = ready .problem
+
+  abbrev ps′ : List ℕ
+  ps′ = take (a .patterns) ps
+
+  abbrev es′ : List ℕ
+  es′ = take (a .expressions) es
+
+  abbrev fs′ : List ℕ
+  fs′ = take (a .faces) fs
+
+  laid : Laid p ps′ es′ fs′ (a .occurring .functions) firsts
+  laid = ready-laid s ps es fs ds a firsts ready (h .agrees)
+
+  isNamed : (r : Row) × (r ∈ rows p) × (row .masks ≡ masksOf r) × Names p (valueOf row) (at r)
+  isNamed =
+      row-named p (ready .laid .accepted) ds (a .agree) (ready .laid .agree) (ready-tables (accept s) ps es fs ds a firsts ready) row h
+
+  abbrev row-of : RowOf p (row .masks)
+  row-of = record { choices = isNamed .0; isRow = isNamed .1; masks = isNamed .2 }
+
+  -- What `judge` requires
+  pub row-ready : (scratch : List ℕ) → length ps ≤ length scratch
+      → fit.Ready ps′ es′ fs′ (a .occurring .functions) firsts (row .masks) scratch
+  row-ready scratch room =
+      laid-ready p ps′ es′ fs′ (a .occurring .functions) firsts laid (row .masks) row-of scratch
+      (omega (arith, length-take-le (a .patterns) ps (ready .laid .patternsInside), ready .laid .patternsInside))
+
+  module _ (judged : Judged) (j : Judges (judgedAt ps′ es′ fs′ (a .occurring .functions) firsts (row .masks)) judged) where
+    judgement : Judgement p (isNamed .0) judged
+    judgement = judge-means p ps′ es′ fs′ (a .occurring .functions) firsts laid (row .masks) row-of judged j
+
+    -- "17 not a solution row"
+    pub no-solution : judged .solves ≡ false → (before : Bytes) → Writes s row before before (answers.Refused 17)
+    no-solution e before = noSolutionRow p (ready .answer) (isNamed .0) (isNamed .3) (sym (judgement .solution) ∙ e)
+
+    module _ (e : judged .solves ≡ true) where
+      solved : solves p (isNamed .0) ≡ true
+      solved = sym (judgement .solution) ∙ e
+
+      abbrev pub planOf : Plan
+      planOf = record { occurring = a .occurring; nodes = firsts .nodes; row = row .masks; sources = judged .sources }
+
+      same-plan : planOf ≡ record { occurring = a .occurring; nodes = firsts .nodes; row = masksOf (isNamed .0); sources = judged .sources }
+      same-plan =
+          ap (λ (m : List ℕ). record { occurring = a .occurring; nodes = firsts .nodes; row = m; sources = judged .sources }) (isNamed .2)
+
+      denotes : DenotesAll es′ planOf (entryOr p (isNamed .0))
+      denotes =
+          subst (λ (t : List ℕ). DenotesAll t planOf (entryOr p (isNamed .0))) (sym (ready .laid .expressions))
+          (subst (λ (x : Plan). DenotesAll (expressionTokens p) x (entryOr p (isNamed .0))) (sym same-plan)
+          (plan-denotes p ps′ es′ fs′ (a .occurring) firsts laid (ready .laid .survey) (isNamed .0) (isNamed .1) solved (judged .sources)
+          (judgement .source e)))
+
+      -- What `write_text` requires
+      pub row-writable : Writable es′ planOf
+      unfolding maxText
+      row-writable = record {
+        table = subst Table (sym (ready .laid .expressions)) (expression-table p (ready .laid .accepted .within));
+        planned =
+            subst Planned (sym same-plan)
+            (plan-planned p ps′ es′ fs′ (a .occurring) firsts laid (ready .laid .survey) (isNamed .0) (isNamed .1) solved (judged .sources)
+            (judgement .source e));
+        says = entryOr p (isNamed .0);
+        denotes = denotes;
+        short = omega (arith, ap length (row-fields p (isNamed .0)), text-fits p (isNamed .0) (ready .laid .accepted) solved);
+      }
+
+      -- "18 buffer too short", or the text
+      pub row-written : (before after : Bytes) (r : Written) → TextWritten es′ planOf before after r → Writes s row before after r
+      row-written before after r t = go r (t .answer (entryOr p (isNamed .0)) denotes)
+        where
+          go : (r : Written) → TextAnswer (fieldsOf (entryOr p (isNamed .0)) 0) before after r → Writes s row before after r
+          go (answers.Refused n) (number, short, same) =
+              subst (λ (x : Bytes). WriteCall s (valueOf row) before (refused n) x) (sym same)
+              (subst (λ (k : ℕ). WriteCall s (valueOf row) before (refused k) before) (sym number)
+              (tooShort p (ready .answer) (isNamed .0) (isNamed .3) solved
+              (subst (λ (bs : Bytes). length before < length bs) (sym (row-fields p (isNamed .0))) short)))
+          go (answers.Wrote n) (fits, (count, same)) =
+              let text : rowText p (isNamed .0) ≡ fieldsOf (entryOr p (isNamed .0)) 0 = row-fields p (isNamed .0) in
+              let number : n ≡ length (rowText p (isNamed .0)) = count ∙ ap length (sym text) in
+              let buffer : after ≡ rowText p (isNamed .0) ++ drop (length (rowText p (isNamed .0))) before =
+              same ∙ ap₂ (λ (bs : Bytes) (k : ℕ). bs ++ drop k before) (sym text) number in
+              subst (λ (x : Bytes). WriteCall s (valueOf row) before (got n) x) (sym buffer)
+              (subst
+              (λ (k : ℕ). WriteCall s (valueOf row) before (got k) (rowText p (isNamed .0) ++ drop (length (rowText p (isNamed .0))) before))
+              (sym number)
+              (writes p (ready .answer) (isNamed .0) (isNamed .3) solved
+              (subst (λ (bs : Bytes). length bs ≤ length before) (sym text) fits)))
+
+-- `write_row`: what its calls require, and its returns
+abbrev pub planWith : Standing → Firsts → Place → Judged → Plan
+planWith a firsts row judged = record { occurring = a .occurring; nodes = firsts .nodes; row = row .masks; sources = judged .sources }
+
+module _ {ps es fs : List ℕ} {a : Standing} {firsts : Firsts} {row : Place} where
+  pub row-judgeable : {scratch : List ℕ} → RowCallable ps es fs a firsts row scratch
+      → fit.Ready (take (a .patterns) ps) (take (a .expressions) es) (take (a .faces) fs) (a .occurring .functions) firsts (row .masks)
+      scratch
+  row-judgeable {scratch} h =
+      row-ready (h .callable .bytes) ps es fs (h .tables) a firsts (h .callable .ready) row (h .isRow) scratch (h .callable .room)
+
+  module _ (judged : Judged)
+      (j : Judges
+      (judgedAt (take (a .patterns) ps) (take (a .expressions) es) (take (a .faces) fs) (a .occurring .functions) firsts (row .masks))
+      judged) where
+    pub row-seventeen : {before : Bytes} → not (judged .solves) ≡ true → RowWritten ps es fs a firsts row before before (answers.Refused 17)
+    row-seventeen {before} e = record {
+      answer = λ s ds ready h. no-solution s ps es fs ds a firsts ready row h judged j (not-true (judged .solves) e) before;
+    }
+
+    module _ (e : not (judged .solves) ≡ false) where
+      pub row-planned : {scratch : List ℕ} → RowCallable ps es fs a firsts row scratch
+          → Writable (take (a .expressions) es) (planWith a firsts row judged)
+      row-planned h =
+          row-writable (h .callable .bytes) ps es fs (h .tables) a firsts (h .callable .ready) row (h .isRow) judged j
+          (not-false (judged .solves) e)
+
+      pub row-text : {before after : Bytes} {r : Written}
+          → TextWritten (take (a .expressions) es) (planWith a firsts row judged) before after r
+          → RowWritten ps es fs a firsts row before after r
+      row-text {before} {after} {r} t = record {
+        answer = λ s ds ready h.
+            row-written s ps es fs ds a firsts ready row h judged j (not-false (judged .solves) e) before after r t;
+      }
+
+-- The returns of `write_named`
+module _ {ps es fs ds : List ℕ} {a : Standing} {firsts : Firsts} {row : Place} where
+  no-row : (s : Bytes) → Ready (accept s) ps es fs ds a firsts → (before : Bytes) → (IsRowOf row (a .agree) ds → ⊥)
+      → Writes s row before before (answers.Refused 16)
+  no-row s ready before f =
+      noSuchRow (ready .problem) (ready .answer)
+      (λ r n. f (named-row (ready .problem) (ready .laid .accepted) ds (a .agree) (ready .laid .agree)
+      (ready-tables (accept s) ps es fs ds a firsts ready) row r n))
+
+  module _ (found : Named) (t : Tells row (a .agree) ds found) where
+    pub named-nothing : {before : Bytes} → found ≡ named.Nothing → NamedWritten ps es fs ds a firsts row before before (answers.Refused 16)
+    unfolding Tells
+    named-nothing {before} e =
+        let u = subst (Tells row (a .agree) ds) e t in
+        record { answer = λ s ready. no-row s ready before (u .0) }
+
+    -- "past the last included"
+    pub named-past : {before : Bytes} → found ≡ named.Past → NamedWritten ps es fs ds a firsts row before before (answers.Refused 16)
+    unfolding Tells
+    named-past {before} e =
+        let u : AtPast row = subst (Tells row (a .agree) ds) e t in
+        record { answer = λ s ready. no-row s ready before (λ h. true≢false (sym (u .past) ∙ h .here)) }
+
+    -- What `write_row` requires
+    pub named-callable : {scratch : List ℕ} → found ≡ named.Row → Callable ps es fs ds a firsts scratch
+        → RowCallable ps es fs a firsts row scratch
+    unfolding Tells
+    named-callable e h = record { tables = ds; callable = h; isRow = subst (Tells row (a .agree) ds) e t }
+
+    pub named-written : {before after : Bytes} {r : Written} → found ≡ named.Row → RowWritten ps es fs a firsts row before after r
+        → NamedWritten ps es fs ds a firsts row before after r
+    unfolding Tells
+    named-written e w = record { answer = λ s ready. w .answer s ds ready (subst (Tells row (a .agree) ds) e t) }
+
+-- The returns of `write`
+module _ (s ps es fs ds : List ℕ) (p : Prepared) (h : Prepares (accept s) ps es fs ds p) {row : Place} {before : Bytes} where
+  pub write-refused : {n : ℕ} → p .verdict ≡ verdicts.Refused n → Writes s row before before (answers.Refused n)
+  write-refused {n} e = notAccepted n (prepared-refused (accept s) ps es fs ds p n h e)
+
+  pub write-accepted : {after : Bytes} {a : Standing} {r : Written} → p .verdict ≡ verdicts.Accepted a
+      → NamedWritten ps es fs ds a (p .firsts) row before after r
+      → Writes s row before after r
+  write-accepted {a} e w = w .answer s (prepared-accepted (accept s) ps es fs ds p a h e)

@@ -1,0 +1,3 @@
+-- Writing the text of a row.
+pub mod Entries
+pub mod Writing

@@ -1,0 +1,4 @@
+// Writing the text of a solution row.
+pub mod entry;
+pub mod text;
+pub mod write;

@@ -1,0 +1,89 @@
+// The bytes of a row's text: how many they are, and how they are written. The tail of the buffer after a field is lent on to the writer
+// of the later ones.
+use crate::entry::Entry;
+use crate::entry::Plan;
+use crate::entry::entry_of;
+use copying::copy;
+use copying::copy_length;
+use copying::write_head;
+use metavariables::METAVARIABLES;
+ghost use mathlib.Core.Path.{_≡_};
+ghost use mathlib.Core.List.{[], _∷_};
+ghost use Prim.Native.Nat.{_≤_};
+ghost use lib.ListN.{length};
+ghost use Rattle.meaning.specs.Field.{field};
+ghost use Rattle.copying.specs.Fixed.{Wrote};
+ghost use Rattle.writing.specs.Writing.{EntryThere, EntryMeasured, Writable, TextMeasured, CopyRoom, CopyWritten};
+ghost use Rattle.writing.specs.Writing.{EntryRoom, EntryWritten, TextRoom, FieldsWritten};
+
+// How many bytes the field of an entry has.
+fn entry_length(es: &[u64], entry: Entry) -> usize
+    requires { ⌜ EntryThere (now es) entry ⌝ }
+    ensures { λ r. ⌜ EntryMeasured (now (es .entry)) entry r ⌝ }
+{
+    match entry {
+        Entry::Absent => 0,
+        Entry::Open => 4,
+        Entry::Value(node) => 4 + copy_length(es, node, 0),
+        Entry::Body(node, mask) => 4 + copy_length(es, node, mask),
+    }
+}
+
+pub fn text_length(es: &[u64], plan: Plan) -> usize
+    requires { ⌜ Writable (now es) plan ⌝ }
+    ensures { λ r. ⌜ TextMeasured (now (es .entry)) plan r ⌝ }
+{
+    let mut m = 0;
+    let mut n = 0;
+    while m < METAVARIABLES {
+        n += entry_length(es, entry_of(plan, m));
+        m += 1;
+    }
+    n
+}
+
+// "11 (open: number, 1 byte)"
+fn write_open(m: u8, out: &mut [u8]) -> usize
+    requires { ⌜ 4 ≤ length (now out) ⌝ }
+    ensures { λ r. ⌜ Wrote (field 11 (m ∷ [])) (now (out .entry)) (now (out .exit)) r ⌝ }
+{
+    out[3] = m;
+    write_head(11, 1, out);
+    4
+}
+
+// A field with a number and a term: "8 (value: number, 1 byte, then an expression)", and 9 likewise. The term first, then its number and
+// the head before it.
+fn write_copied(tag: u8, m: u8, es: &[u64], node: usize, mask: u64, out: &mut [u8]) -> usize
+    requires { ⌜ CopyRoom (now es) node mask m tag (length (now out)) ⌝ }
+    ensures { λ r. ⌜ CopyWritten (now (es .entry)) node mask m tag (now (out .entry)) (now (out .exit)) r ⌝ }
+{
+    let n = copy(es, node, mask, &mut out[4..]);
+    out[3] = m;
+    write_head(tag, n + 1, out);
+    n + 4
+}
+
+fn write_entry(m: u8, es: &[u64], entry: Entry, out: &mut [u8]) -> usize
+    requires { ⌜ EntryRoom (now es) m entry (length (now out)) ⌝ }
+    ensures { λ r. ⌜ EntryWritten (now (es .entry)) m entry (now (out .entry)) (now (out .exit)) r ⌝ }
+{
+    match entry {
+        Entry::Absent => 0,
+        Entry::Open => write_open(m, out),
+        Entry::Value(node) => write_copied(8, m, es, node, 0, out),
+        Entry::Body(node, mask) => write_copied(9, m, es, node, mask, out),
+    }
+}
+
+// The fields of the metavariables from m on.
+pub fn write_from(m: u32, es: &[u64], plan: Plan, out: &mut [u8]) -> usize
+    requires { ⌜ TextRoom (now es) plan m (length (now out)) ⌝ }
+    ensures { λ r. ⌜ FieldsWritten (now (es .entry)) plan m (now (out .entry)) (now (out .exit)) r ⌝ }
+{
+    if m == METAVARIABLES {
+        return 0;
+    }
+    let n = write_entry(m as u8, es, entry_of(plan, m), out);
+    n + write_from(m + 1, es, plan, &mut out[n..])
+}
