@@ -77,28 +77,6 @@ impl Place {
         }
     }
 
-    // What the value names, by the class tables of a problem and whether its shapes agree.
-    pub fn named(self, agree: bool, ds: &[u64]) -> Named
-        requires { ⌜ Long (now ds) ⌝ }
-        ensures { λ r. ⌜ Tells (self) agree (now (ds .entry)) r ⌝ }
-    {
-        let row = self.masks;
-        if self.past {
-            if all_empty(row) {
-                return Named::Past;
-            }
-            return Named::Nothing;
-        }
-        if !agree {
-            return Named::Nothing;
-        }
-        if is_row(ds, row) {
-            Named::Row
-        } else {
-            Named::Nothing
-        }
-    }
-
     // The first row of the tables, or past the last where shapes disagree.
     fn first(agree: bool, ds: &[u64]) -> Place
         requires { ⌜ Opens agree (now ds) ⌝ }
@@ -131,5 +109,27 @@ impl Place {
                 place: Place::first(a.agree, &ds),
             },
         }
+    }
+}
+
+// What the value names, by the class tables of a problem and whether its shapes agree.
+pub fn named_by(place: Place, agree: bool, ds: &[u64]) -> Named
+    requires { ⌜ Long (now ds) ⌝ }
+    ensures { λ r. ⌜ Tells place agree (now (ds .entry)) r ⌝ }
+{
+    let row = place.masks;
+    if place.past {
+        if all_empty(row) {
+            return Named::Past;
+        }
+        return Named::Nothing;
+    }
+    if !agree {
+        return Named::Nothing;
+    }
+    if is_row(ds, row) {
+        Named::Row
+    } else {
+        Named::Nothing
     }
 }

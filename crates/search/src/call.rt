@@ -9,6 +9,7 @@ use accept::Verdict;
 use faces::first::Firsts;
 use places::Named;
 use places::Place;
+use places::named_by;
 use prepare::prepare;
 use rows::first_row;
 use table::TABLE_ROOM;
@@ -75,7 +76,7 @@ fn from_place(
     if n == 0 {
         return refused(15, place);
     }
-    let named = place.named(a.agree, ds);
+    let named = named_by(place, a.agree, ds);
     match named {
         Named::Nothing => refused(16, place),
         Named::Past => ended(),

@@ -2,7 +2,9 @@
 use accept::Standing;
 use accept::Verdict;
 use accept::accept;
-use libc::STDOUT_FILENO;
+use lines::output::end_line;
+use lines::output::print;
+use lines::output::print_number;
 use table::TABLE_ROOM;
 use terms::term::Term;
 use terms::term::read_body;
@@ -13,25 +15,6 @@ ghost use lib.ListN.{length};
 
 // The nodes that 8,192 bytes may have.
 const TERM_ROOM: usize = 2731;
-
-fn print(text: &[u8]) {
-    io::write_all(STDOUT_FILENO, text);
-}
-
-fn print_number(n: u64) {
-    io::print_decimal(STDOUT_FILENO, n);
-}
-
-fn end_line() {
-    print(b"\n");
-}
-
-// A line that is no input.
-pub fn bad(line: &[u8]) {
-    print(b"bad line: ");
-    print(line);
-    end_line();
-}
 
 fn print_refused(r: u8) {
     print(b": refused ");

@@ -7,26 +7,11 @@ mod answer;
 mod line;
 
 use line::show;
-ghost use Prim.Native.Nat.{_≤_};
-ghost use lib.ListN.{length};
+use lines::input::line_end;
+use lines::output::bad;
 
 // The input may have this many bytes: one fewer than the buffer, so that none is cut off.
 const MOST: usize = 65535;
-
-// Where the line that begins at `from` ends: at a line feed, or with the input.
-fn line_end(input: &[u8], from: usize) -> usize
-    requires { ⌜ from ≤ length (now input) ⌝ }
-    ensures { λ r. ⌜ (from ≤ r) × (r ≤ length (now (input .entry))) ⌝ }
-{
-    let mut i = from;
-    while i < input.len() {
-        if input[i] == 10 {
-            return i;
-        }
-        i += 1;
-    }
-    i
-}
 
 fn show_all(input: &[u8]) {
     let mut at = 0;
@@ -41,7 +26,7 @@ fn main() {
     let mut input = io::large_buffer();
     let n = io::read_full(0, &mut input);
     if MOST < n {
-        answer::bad(b"the input is too long");
+        bad(b"the input is too long");
         return;
     }
     show_all(&input[..n]);

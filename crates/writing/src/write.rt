@@ -8,6 +8,7 @@ use faces::first::Firsts;
 use fit::judge;
 use places::Named;
 use places::Place;
+use places::named_by;
 use prepare::prepare;
 use table::TABLE_ROOM;
 ghost use Rattle.search.specs.Calling.{Callable};
@@ -91,7 +92,7 @@ fn write_named(
     ensures { λ r. ⌜ NamedWritten (now (ps .entry)) (now (es .entry)) (now (fs .entry)) (now (ds .entry)) a firsts row (now (out .entry))
         (now (out .exit)) r ⌝ }
 {
-    let named = row.named(a.agree, ds);
+    let named = named_by(row, a.agree, ds);
     match named {
         Named::Nothing => Written::Refused(16),
         Named::Past => Written::Refused(16),

@@ -12,8 +12,8 @@ refused-requires c κs = search needs
 returns : tie.Need-returns
 returns c = placed-zero _ _ _ _ _ _ _ _ _ (c .before .if1 .taken) (c .refused .ensures)
 
-named-requires : tie.Need-named-requires
-named-requires c κs = c .before .before .before .before .before .before .pre .ready .tabled .tables .long
+named-by-requires : tie.Need-named-by-requires
+named-by-requires c κs = c .before .before .before .before .before .before .pre .ready .tabled .tables .long
 
 enum-told : tie.Need-enum-told
 enum-told c = search needs
@@ -34,19 +34,19 @@ from-row-requires : tie.Need-from-row-requires
 from-row-requires c κs =
     let told = c .before in (
       c .before .before .before .before .before .before .before .before .before .before .pre,
-      tells-is-row _ _ _ (subst (Tells _ _ _) (told .enum-told3 .given .1) (c .before .before .before .named .ensures)),
+      tells-is-row _ _ _ (subst (Tells _ _ _) (told .enum-told3 .given .1) (c .before .before .before .named-by .ensures)),
     )
 
 returns-2 : tie.Need-returns-2
 returns-2 c =
     placed-nowhere _ _ _ _ _ _ _ _ _ (c .before .before .before .before .if1 .left)
-    (subst (Tells _ _ _) (c .before .enum-told .given .1) (c .before .before .before .named .ensures))
+    (subst (Tells _ _ _) (c .before .enum-told .given .1) (c .before .before .before .named-by .ensures))
     (c .refused2 .ensures)
 
 returns-3 : tie.Need-returns-3
 returns-3 c =
     placed-past _ _ _ _ _ _ _ _ _ (c .before .before .before .before .if1 .left)
-    (subst (Tells _ _ _) (c .before .enum-told2 .given .1) (c .before .before .before .named .ensures))
+    (subst (Tells _ _ _) (c .before .enum-told2 .given .1) (c .before .before .before .named-by .ensures))
     (c .ended .ensures)
 
 same-length : tie.Need-same-length
@@ -56,7 +56,7 @@ returns-4 : tie.Need-returns-4
 returns-4 c =
     placed-row _ _ _ _ _ _ _ _ _ (c .before .before .before .before .before .before .before .if1 .left)
     (subst (Tells _ _ _) (c .before .before .before .before .enum-told3 .given .1)
-    (c .before .before .before .before .before .before .named .ensures))
+    (c .before .before .before .before .before .before .named-by .ensures))
     (c .before .before .from-row .ensures)
 
 pub from-place-spec : {M : Type 1} → statement M
@@ -65,7 +65,7 @@ from-place-spec =
     (tie.spec
     refused-requires
     returns
-    named-requires
+    named-by-requires
     enum-told
     refused-requires-2
     enum-told-2

@@ -4,8 +4,8 @@ use borrow.Author.Needs.{needs}
 use Rattle.writing.proofs.write.write_named.Statement.{statement}
 use Rattle.writing.proofs.write.write_named.Tie as tie
 
-named-requires : tie.Need-named-requires
-named-requires c κs = c .before .before .before .before .before .before .pre .ready .tabled .tables .long
+named-by-requires : tie.Need-named-by-requires
+named-by-requires c κs = c .before .before .before .before .before .before .pre .ready .tabled .tables .long
 
 enum-told : tie.Need-enum-told
 enum-told c = search needs
@@ -18,15 +18,15 @@ enum-told-3 c = search needs
 
 write-row-requires : tie.Need-write-row-requires
 write-row-requires c κs =
-    let named = c .before .before .before .before in
-    let start = named .before .before .before .before .before .before .before in
-    named-callable _ (named .named .ensures) (c .before .before .enum-told3 .given .1) (start .pre)
+    let named-by = c .before .before .before .before in
+    let start = named-by .before .before .before .before .before .before .before in
+    named-callable _ (named-by .named-by .ensures) (c .before .before .enum-told3 .given .1) (start .pre)
 
 returns : tie.Need-returns
-returns c = named-nothing _ (c .before .before .named .ensures) (c .enum-told .given .1)
+returns c = named-nothing _ (c .before .before .named-by .ensures) (c .enum-told .given .1)
 
 returns-2 : tie.Need-returns-2
-returns-2 c = named-past _ (c .before .before .named .ensures) (c .enum-told2 .given .1)
+returns-2 c = named-past _ (c .before .before .named-by .ensures) (c .enum-told2 .given .1)
 
 same-length : tie.Need-same-length
 same-length c = search needs
@@ -38,14 +38,14 @@ returns-3 : tie.Need-returns-3
 returns-3 c =
     let write-row = c .before .before .before .before in
     let enum-told3 = write-row .before .before .before in
-    let named = enum-told3 .before .before in
-    named-written _ (named .named .ensures) (enum-told3 .enum-told3 .given .1) (write-row .write-row .ensures)
+    let named-by = enum-told3 .before .before in
+    named-written _ (named-by .named-by .ensures) (enum-told3 .enum-told3 .given .1) (write-row .write-row .ensures)
 
 pub write-named-spec : {M : Type 1} → statement M
 write-named-spec =
     tie.close
     (tie.spec
-    named-requires
+    named-by-requires
     enum-told
     enum-told-2
     enum-told-3

@@ -1,0 +1,3 @@
+-- Laws of the C interface.
+pub mod ExportLaws
+pub mod Carried

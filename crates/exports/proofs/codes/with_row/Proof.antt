@@ -1,0 +1,13 @@
+-- `with_row` meets its contract.
+use Rattle.exports.proofs.ExportLaws.{with-row, without-row}
+use Rattle.exports.proofs.codes.with_row.Statement.{statement}
+use Rattle.exports.proofs.codes.with_row.Tie as tie
+
+returns : tie.Need-returns
+returns c = without-row _ _ (c .if1 .taken)
+
+returns-2 : tie.Need-returns-2
+returns-2 c = with-row _ _ (c .if1 .left)
+
+pub with-row-spec : {M : Type 1} → statement M
+with-row-spec = tie.close (tie.spec returns returns-2)

@@ -1,0 +1,2 @@
+-- What the C interface promises.
+pub mod Exported

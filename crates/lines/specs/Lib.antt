@@ -1,0 +1,2 @@
+-- What reading a part of a line promises.
+pub mod Parts

@@ -1,0 +1,3 @@
+// Lines of text, as the programs that run examples read and print them.
+pub mod input;
+pub mod output;

@@ -1,0 +1,98 @@
+// One row written into a buffer, and how the buffer stands after it. What is asked for has 67 bytes: a place, as a mask of 8 bytes for
+// each of 8 functions and a byte that is 1 past the last and else 0; and the buffer's length, 2 bytes. Before, its bytes are all 170.
+use lines::input::number_at;
+use lines::output::bad;
+use lines::output::end_line;
+use lines::output::print;
+use lines::output::print_bytes;
+use lines::output::print_number;
+use places::Place;
+use writing::write::Written;
+use writing::write::write;
+ghost use mathlib.Core.Path.{_≡_};
+ghost use Prim.Native.Nat.{_≤_};
+ghost use lib.ListN.{length};
+
+const ROOM: usize = 8192;
+
+const FILL: u8 = 170;
+
+fn place_of(asked: &[u8]) -> Place
+    requires { ⌜ length (now asked) ≡ 67 ⌝ }
+{
+    let mut masks = [0u64; Place::FUNCTIONS];
+    let mut k = 0;
+    while k < Place::FUNCTIONS {
+        let from = 8 * k;
+        masks[k] = number_at(asked, from, from + 8);
+        k += 1;
+    }
+    Place {
+        masks: masks,
+        past: asked[64] == 1,
+    }
+}
+
+// Whether a byte from there on is not as it was.
+fn changed(buffer: &[u8], from: usize) -> bool {
+    let mut i = from;
+    while i < buffer.len() {
+        if buffer[i] != FILL {
+            return true;
+        }
+        i += 1;
+    }
+    false
+}
+
+fn print_changed(buffer: &[u8], from: usize) {
+    if changed(buffer, from) {
+        print(b", buffer changed");
+    }
+    end_line();
+}
+
+// The text and two bytes after it, of as many as there are; or the refusal.
+fn print_answer(written: Written, buffer: &[u8]) {
+    match written {
+        Written::Wrote(n) => {
+            print(b": wrote ");
+            print_number(n as u64);
+            print(b", ");
+            print_bytes(buffer, std::num::wrapping_add_usize(n, 2));
+            print_changed(buffer, n);
+        }
+        Written::Refused(r) => {
+            print(b": refused ");
+            print_number(r as u64);
+            print_changed(buffer, 0);
+        }
+    }
+}
+
+fn show_row(problem: &[u8], row: Place, room: usize)
+    requires { ⌜ room ≤ 8192 ⌝ }
+{
+    let mut space = [FILL; ROOM];
+    let buffer = &mut space[..room];
+    let written = write(problem, row, buffer);
+    print_answer(written, buffer);
+}
+
+pub fn show_written(label: &[u8], problem: &[u8], asked: &[u8]) {
+    if asked.len() != 67 {
+        bad(label);
+        return;
+    }
+    if 1 < asked[64] {
+        bad(label);
+        return;
+    }
+    let room = number_at(asked, 65, 67) as usize;
+    if ROOM < room {
+        bad(label);
+        return;
+    }
+    print(label);
+    show_row(problem, place_of(asked), room);
+}

@@ -1,0 +1,2 @@
+-- The third demand for an open search.
+pub mod OpenLaws

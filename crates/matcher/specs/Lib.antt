@@ -1,0 +1,2 @@
+-- What a host is promised.
+pub mod Opened

@@ -1,0 +1,2 @@
+-- What was read lies in the buffer.
+pub mod InputLaws

@@ -1,0 +1,2 @@
+-- What reading the input promises.
+pub mod Input

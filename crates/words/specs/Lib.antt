@@ -1,0 +1,2 @@
+-- Places in words.
+pub mod Words
