@@ -1,10 +1,8 @@
 -- What reading a part of a line promises: enough that no index is out of bounds.
 --   InLine   the digits of so many bytes stand in the line, and a space after them
 --   Placed   they do, and the bytes stand at the front of the buffer
-use mathlib.Core.Path.{_≡_}
-use Prim.Native.Nat.{ℕ, _+_, _*_, _<_, _≤_}
+use Prim.Native.Nat.{ℕ, _+_, _*_, _<_}
 use mathlib.Core.List.{List}
-use lib.ListN.{length}
 use Rattle.io.specs.Counts.{Counts}
 use Rattle.lines.specs.declared.input.Part.{Part}
 use Rattle.lines.specs.declared.input.Part.the-variants as parts
