@@ -29,6 +29,7 @@ extern "C" {
 #endif
 
 /* A place is so many words: 8 masks, one for each function by ascending metavariable number, then 0 for a row or 1 for past the last.
+   Node k of a function's face is bit 63 - k of its mask, set where the node is a hole; masks past the last function are 0.
    A row is a place that names a row. Words of another number, or with another last word, are no such place. */
 #define MATCHER_PLACE_WORDS 9
 

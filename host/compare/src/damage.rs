@@ -1,0 +1,192 @@
+//! Damaged problems: every entry point gives the refusal that the second implementation gives, and changes nothing.
+
+use crate::generate::{self, Made};
+use crate::lists;
+use crate::random::Random;
+use crate::report::{same, Tally};
+use crate::subject::{Subject, UNTOUCHED};
+use crate::tree::{self, field, Tree};
+use second::Problem;
+
+/// Damages each seed's problem in some way and compares what is made of it.
+pub fn random(subject: &dyn Subject, seeds: std::ops::Range<u64>) -> Result<Tally, String> {
+    let mut tally = Tally::default();
+    for seed in seeds {
+        let mut random = Random::new(seed);
+        let made = generate::problem(&mut random);
+        let problem = damaged(&mut random, made);
+        compare(subject, &problem, &mut tally).map_err(|e| format!("seed {seed}: {e}"))?;
+    }
+    Ok(tally)
+}
+
+fn compare(subject: &dyn Subject, problem: &[u8], tally: &mut Tally) -> Result<(), String> {
+    match Problem::read(problem) {
+        Ok(_) => lists::whole(subject, problem, tally),
+        Err(refusal) => {
+            tally.count(format!("refused {refusal}"));
+            everywhere(subject, problem, u32::from(refusal))
+        }
+    }
+}
+
+/// Every entry point gives the refusal, whatever else it is given, and changes no buffer.
+fn everywhere(subject: &dyn Subject, problem: &[u8], refusal: u32) -> Result<(), String> {
+    let (mut place, mut row, mut out, mut written) = (UNTOUCHED, UNTOUCHED, [0xA5; 64], 77);
+    same(problem, "a start", subject.start(problem, &mut place), refusal)?;
+    same(
+        problem,
+        "a start with no words",
+        subject.start(problem, &mut []),
+        refusal,
+    )?;
+    for n in [0, 1] {
+        same(
+            problem,
+            "a search call",
+            subject.search(problem, &mut place, &mut row, n),
+            refusal,
+        )?;
+    }
+    same(
+        problem,
+        "writing",
+        subject.write(problem, &[0; 9], &mut out, &mut written),
+        refusal,
+    )?;
+    same(problem, "checking no text", subject.check(problem, &[]), refusal)?;
+    same(
+        problem,
+        "checking a long text",
+        subject.check(problem, &[0; 8193]),
+        refusal,
+    )?;
+    same(
+        problem,
+        "the buffers of refused calls",
+        (place, row, written),
+        (UNTOUCHED, UNTOUCHED, 77),
+    )?;
+    same(
+        problem,
+        "the output of a refused call",
+        out.iter().all(|byte| *byte == 0xA5),
+        true,
+    )
+}
+
+/// The bytes of the problem with one fault or more, most often.
+fn damaged(random: &mut Random, mut made: Made) -> Vec<u8> {
+    match random.below(4) {
+        0 => {
+            misplace(random, &mut made);
+            tree::problem(&made.constraints)
+        }
+        1 => {
+            crowd(random, &mut made);
+            tree::problem(&made.constraints)
+        }
+        2 => bend(random, tree::problem(&made.constraints)),
+        _ => scatter(random, tree::problem(&made.constraints)),
+    }
+}
+
+/// Puts a term where it may not stand (8, 9), too deep (5), or with a number or use that it may not have (10, 12).
+fn misplace(random: &mut Random, made: &mut Made) {
+    if made.constraints.is_empty() {
+        return;
+    }
+    let k = random.below(made.constraints.len());
+    let (pattern, expression) = &mut made.constraints[k];
+    let side = if random.once_in(2) { pattern } else { expression };
+    let node = random.below(side.nodes());
+    let node = side.node_mut(node);
+    let number = random.between(0, 40) as u8;
+    let old = node.clone();
+    *node = match random.below(5) {
+        0 => Tree::Meta(number),
+        1 => Tree::Call(number, Box::new(old)),
+        2 => Tree::Call(number, Box::new(Tree::Meta(number))),
+        3 => Tree::Hole,
+        _ => (0..random.between(20, 33)).fold(old, |inner, _| Tree::Apply(vec![inner])),
+    };
+}
+
+/// Makes too many constraints (11), too long a problem (1), too many functions (13) or too large a face (14).
+fn crowd(random: &mut Random, made: &mut Made) {
+    let symbol = || Tree::Symbol(1);
+    match random.below(4) {
+        0 => {
+            let n = random.between(14, 18);
+            made.constraints.resize(n, (symbol(), symbol()));
+        }
+        1 => {
+            let n = random.between(800, 830);
+            made.constraints.push((symbol(), Tree::Apply(vec![symbol(); n])));
+        }
+        2 => {
+            let n = random.between(7, 10) as u8;
+            let calls = (0..n).map(|m| Tree::Call(m, Box::new(symbol()))).collect();
+            made.constraints
+                .push((Tree::Apply(calls), Tree::Apply(vec![symbol(); usize::from(n)])));
+        }
+        _ => {
+            let n = random.between(60, 66);
+            let call = Tree::Call(random.below(32) as u8, Box::new(Tree::Symbol(9)));
+            let many = (0..n).map(|k| Tree::Symbol(k as u32)).collect();
+            made.constraints.insert(0, (call, Tree::Apply(many)));
+        }
+    }
+}
+
+/// Changes the head of a field, or puts in or takes out a whole one with the lengths around it left as they are.
+fn bend(random: &mut Random, mut bytes: Vec<u8>) -> Vec<u8> {
+    let heads = heads(&bytes);
+    if heads.is_empty() {
+        return vec![random.below(256) as u8; random.between(1, 5)];
+    }
+    let at = *random.pick(&heads);
+    match random.below(5) {
+        0 => bytes[at] = *random.pick(&[0, 1, 2, 3, 4, 5, 6, 7, 8, 9, 10, 11, 99, 255]),
+        1 => bytes[at + 2] = bytes[at + 2].wrapping_add(random.between(1, 3) as u8),
+        2 => bytes[at + 2] = bytes[at + 2].wrapping_sub(random.between(1, 3) as u8),
+        3 => {
+            let content = vec![0; random.below(4)];
+            bytes.splice(at..at, field(random.between(1, 6) as u8, &content));
+        }
+        _ => bytes.extend(vec![random.below(8) as u8; random.between(1, 3)]),
+    }
+    bytes
+}
+
+/// Where the fields of a problem begin that was made as one.
+fn heads(bytes: &[u8]) -> Vec<usize> {
+    let mut heads = Vec::new();
+    let mut at = 0;
+    while at < bytes.len() {
+        heads.push(at);
+        at += match bytes[at] {
+            3 | 7 => 3,
+            4 => 7,
+            6 => 4,
+            _ => 3 + usize::from(bytes[at + 2]),
+        };
+    }
+    heads
+}
+
+/// Changes single bytes, or cuts the end off.
+fn scatter(random: &mut Random, mut bytes: Vec<u8>) -> Vec<u8> {
+    for _ in 0..random.between(0, 3) {
+        if bytes.is_empty() {
+            return bytes;
+        }
+        let at = random.below(bytes.len());
+        match random.below(3) {
+            0 => bytes[at] = random.word() as u8,
+            1 => bytes[at] ^= 1 << random.below(8),
+            _ => bytes.truncate(at),
+        }
+    }
+    bytes
+}

@@ -1,0 +1,81 @@
+//! What a random problem has that a matcher could get wrong.
+
+use crate::generate::Made;
+use crate::tree::Tree;
+
+/// A feature's name, and whether a problem has it.
+type Feature = (&'static str, fn(&Made) -> bool);
+
+/// All that the random problems must have, each often.
+pub const FEATURES: [Feature; 7] = [
+    ("several constraints", |made| made.constraints.len() > 1),
+    ("several functions", |made| distinct(calls(made)) > 1),
+    ("a function applied again", |made| {
+        calls(made).len() > distinct(calls(made))
+    }),
+    ("a name that shadows another", |made| {
+        made.constraints.iter().any(|(p, e)| shadows(p, &[]) || shadows(e, &[]))
+    }),
+    ("a binder over a face", |made| {
+        made.constraints.iter().any(|(pattern, _)| binds_over_a_call(pattern))
+    }),
+    ("a metavariable in several places", |made| {
+        metas(made).len() > distinct(metas(made))
+    }),
+    ("equal subterms under a binder", |made| {
+        made.constraints.iter().any(|(_, e)| repeats_under_a_binder(e))
+    }),
+];
+
+/// All nodes of a term.
+fn nodes(term: &Tree) -> Vec<&Tree> {
+    let inner = term.inner().into_iter().flat_map(nodes);
+    std::iter::once(term).chain(inner).collect()
+}
+
+fn pattern_nodes(made: &Made) -> impl Iterator<Item = &Tree> {
+    made.constraints.iter().flat_map(|(pattern, _)| nodes(pattern))
+}
+
+fn calls(made: &Made) -> Vec<u8> {
+    pattern_nodes(made)
+        .filter_map(|node| if let Tree::Call(m, _) = node { Some(*m) } else { None })
+        .collect()
+}
+
+fn metas(made: &Made) -> Vec<u8> {
+    pattern_nodes(made)
+        .filter_map(|node| if let Tree::Meta(m) = node { Some(*m) } else { None })
+        .collect()
+}
+
+fn distinct(mut numbers: Vec<u8>) -> usize {
+    numbers.sort_unstable();
+    numbers.dedup();
+    numbers.len()
+}
+
+/// Whether a binder has the name of one that it stands under.
+fn shadows(term: &Tree, above: &[u16]) -> bool {
+    let Tree::Bind(_, name, body) = term else {
+        return term.inner().into_iter().any(|inner| shadows(inner, above));
+    };
+    above.contains(name) || shadows(body, &[above, &[*name]].concat())
+}
+
+fn binds_over_a_call(term: &Tree) -> bool {
+    let under =
+        |node: &&Tree| matches!(node, Tree::Bind(..)) && nodes(node).iter().any(|n| matches!(n, Tree::Call(..)));
+    nodes(term).iter().any(under)
+}
+
+/// Whether two nodes of more than a letter are spelled alike under one binder.
+fn repeats_under_a_binder(term: &Tree) -> bool {
+    nodes(term)
+        .into_iter()
+        .filter(|node| matches!(node, Tree::Bind(..)))
+        .any(|binder| {
+            let large: Vec<&Tree> = nodes(binder).into_iter().filter(|node| node.nodes() > 1).collect();
+            large.iter().enumerate().any(|(k, node)| large[..k].contains(node))
+        })
+}

@@ -1,0 +1,22 @@
+//! The proved matcher held against a second implementation, on the same problems.
+//!
+//! Each comparison is a function over a [`subject::Subject`], so that it can be tried on wrong matchers too ([`wrong`]):
+//! one that passes any of them would be no test.
+
+#![forbid(unsafe_code)]
+#![warn(missing_docs)]
+
+pub mod calls;
+pub mod damage;
+pub mod features;
+pub mod generate;
+pub mod hex;
+pub mod lists;
+pub mod places;
+pub mod random;
+pub mod report;
+pub mod subject;
+pub mod texts;
+pub mod tree;
+pub mod vectors;
+pub mod wrong;

@@ -1,0 +1,74 @@
+//! What is tested: the proved matcher, or a wrong one in its place.
+
+use matcher::raw::{self, PLACE_WORDS};
+use second::{Problem, Row};
+
+/// The entry points of a matcher, as `matcher::raw` has them.
+pub trait Subject {
+    /// The start of a problem.
+    fn start(&self, problem: &[u8], place: &mut [u64]) -> u32;
+    /// One search call.
+    fn search(&self, problem: &[u8], place: &mut [u64], row: &mut [u64], n: u32) -> u32;
+    /// A row's text.
+    fn write(&self, problem: &[u8], row: &[u64], out: &mut [u8], written: &mut u64) -> u32;
+    /// Whether a text passes.
+    fn check(&self, problem: &[u8], text: &[u8]) -> u32;
+}
+
+/// The proved matcher.
+pub struct Proved;
+
+impl Subject for Proved {
+    fn start(&self, problem: &[u8], place: &mut [u64]) -> u32 {
+        raw::start(problem, place)
+    }
+
+    fn search(&self, problem: &[u8], place: &mut [u64], row: &mut [u64], n: u32) -> u32 {
+        raw::search(problem, place, row, n)
+    }
+
+    fn write(&self, problem: &[u8], row: &[u64], out: &mut [u8], written: &mut u64) -> u32 {
+        raw::write(problem, row, out, written)
+    }
+
+    fn check(&self, problem: &[u8], text: &[u8]) -> u32 {
+        raw::check(problem, text)
+    }
+}
+
+/// A place as the words that a matcher takes.
+pub type Words = [u64; PLACE_WORDS];
+
+/// Past the last.
+pub const PAST: Words = [0, 0, 0, 0, 0, 0, 0, 0, 1];
+
+/// Words that no call should leave in a buffer that it fills.
+pub const UNTOUCHED: Words = [0xA5A5_A5A5_A5A5_A5A5; PLACE_WORDS];
+
+/// The words of a row: node k of a face is bit 63 - k of its function's mask.
+pub fn words(row: &Row) -> Words {
+    let mut words = [0; PLACE_WORDS];
+    for (word, choice) in words.iter_mut().zip(row) {
+        *word = choice.iter().map(|node| 1 << (63 - node)).sum();
+    }
+    words
+}
+
+/// The words of a row, or of past the last where there is none.
+pub fn place(row: Option<&Row>) -> Words {
+    row.map_or(PAST, words)
+}
+
+/// What the words name in a problem: a row, past the last (no row), or nothing.
+pub fn named(read: &Problem, place: &[u64]) -> Option<Option<Row>> {
+    if place == PAST {
+        return Some(None);
+    }
+    let functions = read.functions().len();
+    if place.len() != PLACE_WORDS || place[functions..].iter().any(|word| *word != 0) {
+        return None;
+    }
+    let nodes = |word: u64| (0..64).filter(|node| word >> (63 - node) & 1 == 1).collect();
+    let row: Row = place[..functions].iter().map(|word| nodes(*word)).collect();
+    read.is_row(&row).then_some(Some(row))
+}

@@ -1,0 +1,179 @@
+//! Texts: the checker says yes, no or refused as the second implementation does.
+
+use crate::generate::{self, Made};
+use crate::lists::MOST_ROWS;
+use crate::random::Random;
+use crate::report::{differ, Tally};
+use crate::subject::Subject;
+use crate::tree::{self, Entry, Tree};
+use matcher::raw::{LARGEST_TEXT, NO, YES};
+use second::Problem;
+
+/// Texts to each problem.
+const TEXTS: usize = 8;
+
+/// Checks random texts on each seed's problem.
+pub fn random(subject: &dyn Subject, seeds: std::ops::Range<u64>) -> Result<Tally, String> {
+    let mut tally = Tally::default();
+    for seed in seeds {
+        let mut random = Random::new(seed);
+        let made = generate::problem(&mut random);
+        let problem = tree::problem(&made.constraints);
+        let Ok(read) = Problem::read(&problem) else { continue };
+        for base in bases(&mut random, &made, &read) {
+            let text = changed(&mut random, base);
+            compare(subject, &problem, &read, &text, &mut tally).map_err(|e| format!("seed {seed}: {e}"))?;
+        }
+    }
+    Ok(tally)
+}
+
+fn compare(
+    subject: &dyn Subject,
+    problem: &[u8],
+    read: &Problem,
+    text: &[u8],
+    tally: &mut Tally,
+) -> Result<(), String> {
+    let expected = match read.check(text) {
+        Ok(true) => YES,
+        Ok(false) => NO,
+        Err(refusal) => u32::from(refusal),
+    };
+    tally.count(match expected {
+        YES => "yes".to_string(),
+        NO => "no".to_string(),
+        refusal => format!("refused {refusal}"),
+    });
+    let got = subject.check(problem, text);
+    if got != expected {
+        let shown = if text.len() > LARGEST_TEXT {
+            "(long)".to_string()
+        } else {
+            crate::hex::hex(text)
+        };
+        return Err(differ(
+            problem,
+            &format!("checking: got {got}, expected {expected}\ntext {shown}"),
+        ));
+    }
+    Ok(())
+}
+
+/// Fillings that are solutions, or were meant to be one.
+fn bases(random: &mut Random, made: &Made, read: &Problem) -> Vec<Vec<Entry>> {
+    let listed = read
+        .rows(MOST_ROWS)
+        .and_then(|_| read.solutions(MOST_ROWS))
+        .unwrap_or_default();
+    (0..TEXTS)
+        .map(|_| {
+            if listed.is_empty() || random.once_in(4) {
+                made.filling.clone()
+            } else {
+                tree::read_text(&random.pick(&listed).text)
+            }
+        })
+        .collect()
+}
+
+/// The bytes of a filling after up to two changes.
+fn changed(random: &mut Random, mut entries: Vec<Entry>) -> Vec<u8> {
+    for _ in 0..random.between(0, 2) {
+        change(random, &mut entries);
+    }
+    let mut bytes = tree::text(&entries);
+    match random.below(12) {
+        0 if !bytes.is_empty() => {
+            let at = random.below(bytes.len());
+            bytes[at] = bytes[at].wrapping_add(random.between(1, 4) as u8);
+        }
+        1 => bytes.truncate(random.below(bytes.len() + 1)),
+        2 if random.once_in(4) => bytes.resize(LARGEST_TEXT + random.below(2), 0),
+        _ => (),
+    }
+    bytes
+}
+
+/// One change of a filling: its fields in another order, one more or less, another number or kind, other names or nodes.
+fn change(random: &mut Random, entries: &mut Vec<Entry>) {
+    if entries.is_empty() {
+        return entries.push(Entry::Open(random.between(0, 33) as u8));
+    }
+    let k = random.below(entries.len());
+    match random.below(7) {
+        0 => entries.rotate_left(k),
+        1 => drop(entries.remove(k)),
+        2 => entries.insert(k, entries[k].clone()),
+        3 => *number(&mut entries[k]) = random.between(0, 33) as u8,
+        4 => entries[k] = another_kind(random, &entries[k]),
+        5 => {
+            if let Some(term) = term(&mut entries[k]) {
+                rename(random, term);
+            }
+        }
+        _ => {
+            if let Some(term) = term(&mut entries[k]) {
+                replace_node(random, term);
+            }
+        }
+    }
+}
+
+fn number(entry: &mut Entry) -> &mut u8 {
+    match entry {
+        Entry::Value(m, _) | Entry::Body(m, _) | Entry::Open(m) => m,
+    }
+}
+
+fn term(entry: &mut Entry) -> Option<&mut Tree> {
+    match entry {
+        Entry::Value(_, term) | Entry::Body(_, term) => Some(term),
+        Entry::Open(_) => None,
+    }
+}
+
+fn another_kind(random: &mut Random, entry: &Entry) -> Entry {
+    let term = match entry {
+        Entry::Value(_, term) | Entry::Body(_, term) => term.clone(),
+        Entry::Open(_) => Tree::Symbol(0),
+    };
+    let m = *number(&mut entry.clone());
+    match random.below(3) {
+        0 => Entry::Value(m, term),
+        1 => Entry::Body(m, term),
+        _ => Entry::Open(m),
+    }
+}
+
+/// Gives a binder and what it binds another name, which may catch or be caught.
+fn rename(random: &mut Random, term: &mut Tree) {
+    let k = random.below(term.nodes());
+    let to = random.below(6) as u16;
+    if let Tree::Bind(_, v, body) = term.node_mut(k) {
+        let from = std::mem::replace(v, to);
+        rename_free(body, from, to);
+    }
+}
+
+fn rename_free(term: &mut Tree, from: u16, to: u16) {
+    match term {
+        Tree::Variable(v) if *v == from => *v = to,
+        Tree::Bind(_, v, _) if *v == from => (),
+        _ => term
+            .inner_mut()
+            .into_iter()
+            .for_each(|inner| rename_free(inner, from, to)),
+    }
+}
+
+fn replace_node(random: &mut Random, term: &mut Tree) {
+    let from = random.below(term.nodes());
+    let copy = term.node_mut(from).clone();
+    let to = random.below(term.nodes());
+    *term.node_mut(to) = match random.below(4) {
+        0 => Tree::Hole,
+        1 => Tree::Variable(random.below(3) as u16),
+        _ => copy,
+    };
+}

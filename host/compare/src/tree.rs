@@ -1,0 +1,172 @@
+//! Terms as trees, and the fields of problems and texts that are made of them.
+
+/// A term of a problem or of a text.
+#[derive(Clone, Debug, PartialEq, Eq)]
+pub enum Tree {
+    /// A symbol.
+    Symbol(u32),
+    /// A variable.
+    Variable(u16),
+    /// An application of 1 or more terms.
+    Apply(Vec<Tree>),
+    /// A binder: its number, the variable that it binds, its body.
+    Bind(u16, u16, Box<Tree>),
+    /// A metavariable.
+    Meta(u8),
+    /// A function application m(t).
+    Call(u8, Box<Tree>),
+    /// A hole of a body.
+    Hole,
+}
+
+/// What a text says of one metavariable.
+#[derive(Clone, Debug, PartialEq, Eq)]
+pub enum Entry {
+    /// It has a value.
+    Value(u8, Tree),
+    /// It is a function and has a body.
+    Body(u8, Tree),
+    /// It is open.
+    Open(u8),
+}
+
+/// A field: tag, length, content.
+///
+/// # Panics
+/// Where the content is longer than a field can be.
+pub fn field(tag: u8, content: &[u8]) -> Vec<u8> {
+    let length = u16::try_from(content.len()).expect("a field has at most 65,535 bytes");
+    let mut bytes = vec![tag];
+    bytes.extend(length.to_be_bytes());
+    bytes.extend(content);
+    bytes
+}
+
+impl Tree {
+    /// Its bytes, by document 01's table of fields.
+    pub fn bytes(&self) -> Vec<u8> {
+        match self {
+            Tree::Symbol(s) => field(
+                1,
+                &u16::try_from(*s)
+                    .expect("a symbol's number has two bytes")
+                    .to_be_bytes(),
+            ),
+            Tree::Variable(v) => field(2, &v.to_be_bytes()),
+            Tree::Apply(terms) => field(3, &terms.iter().flat_map(Tree::bytes).collect::<Vec<u8>>()),
+            Tree::Bind(b, v, body) => field(4, &[&b.to_be_bytes()[..], &v.to_be_bytes(), &body.bytes()].concat()),
+            Tree::Meta(m) => field(5, &[*m]),
+            Tree::Call(m, argument) => field(6, &[&[*m][..], &argument.bytes()].concat()),
+            Tree::Hole => field(10, &[]),
+        }
+    }
+
+    /// The terms directly inside.
+    pub fn inner(&self) -> Vec<&Tree> {
+        match self {
+            Tree::Apply(terms) => terms.iter().collect(),
+            Tree::Bind(_, _, term) | Tree::Call(_, term) => vec![term],
+            _ => vec![],
+        }
+    }
+
+    /// The same, to be changed.
+    pub fn inner_mut(&mut self) -> Vec<&mut Tree> {
+        match self {
+            Tree::Apply(terms) => terms.iter_mut().collect(),
+            Tree::Bind(_, _, term) | Tree::Call(_, term) => vec![term],
+            _ => vec![],
+        }
+    }
+
+    /// How many nodes it has.
+    pub fn nodes(&self) -> usize {
+        1 + self.inner().into_iter().map(Tree::nodes).sum::<usize>()
+    }
+
+    /// The k-th node from the top, left to right, to be changed. There must be one.
+    pub fn node_mut(&mut self, k: usize) -> &mut Tree {
+        let mut left = k;
+        let mut at = self;
+        while left > 0 {
+            left -= 1;
+            at = at
+                .inner_mut()
+                .into_iter()
+                .find(|inner| {
+                    let nodes = inner.nodes();
+                    let here = left < nodes;
+                    if !here {
+                        left -= nodes;
+                    }
+                    here
+                })
+                .expect("the tree has such a node");
+        }
+        at
+    }
+}
+
+/// The bytes of a problem: a pattern and an expression for each constraint.
+pub fn problem(constraints: &[(Tree, Tree)]) -> Vec<u8> {
+    constraints
+        .iter()
+        .flat_map(|(pattern, expression)| field(7, &[pattern.bytes(), expression.bytes()].concat()))
+        .collect()
+}
+
+/// The bytes of a text.
+pub fn text(entries: &[Entry]) -> Vec<u8> {
+    entries.iter().flat_map(Entry::bytes).collect()
+}
+
+impl Entry {
+    /// Its field.
+    pub fn bytes(&self) -> Vec<u8> {
+        match self {
+            Entry::Value(m, term) => field(8, &[&[*m][..], &term.bytes()].concat()),
+            Entry::Body(m, term) => field(9, &[&[*m][..], &term.bytes()].concat()),
+            Entry::Open(m) => field(11, &[*m]),
+        }
+    }
+}
+
+/// The fields of a text that was written as one.
+///
+/// # Panics
+/// Where it is not one.
+pub fn read_text(text: &[u8]) -> Vec<Entry> {
+    fields(text)
+        .map(|(tag, content)| match tag {
+            8 => Entry::Value(content[0], read(&content[1..])),
+            9 => Entry::Body(content[0], read(&content[1..])),
+            11 => Entry::Open(content[0]),
+            _ => panic!("a text has no field of tag {tag}"),
+        })
+        .collect()
+}
+
+/// The one term that the bytes are.
+fn read(bytes: &[u8]) -> Tree {
+    let (tag, content) = fields(bytes).next().expect("a term has a field");
+    let number = |at: usize| u16::from_be_bytes([content[at], content[at + 1]]);
+    match tag {
+        1 => Tree::Symbol(u32::from(number(0))),
+        2 => Tree::Variable(number(0)),
+        3 => Tree::Apply(fields(content).map(|(tag, inner)| read(&field(tag, inner))).collect()),
+        4 => Tree::Bind(number(0), number(2), Box::new(read(&content[4..]))),
+        10 => Tree::Hole,
+        _ => panic!("an expression has no field of tag {tag}"),
+    }
+}
+
+/// The fields that fill the bytes, each as its tag and content.
+fn fields(bytes: &[u8]) -> impl Iterator<Item = (u8, &[u8])> {
+    let mut rest = bytes;
+    std::iter::from_fn(move || {
+        let (head, after) = rest.split_at_checked(3)?;
+        let (content, later) = after.split_at(usize::from(u16::from_be_bytes([head[1], head[2]])));
+        rest = later;
+        Some((head[0], content))
+    })
+}

@@ -1,0 +1,170 @@
+//! Wrong matchers, document 01's useless ones among them: a comparison that lets one pass says nothing about it.
+
+use crate::subject::{Proved, Subject, PAST, UNTOUCHED};
+use matcher::raw::{self, END, FOUND, NO, OK, PAUSED, PLACE_WORDS, YES};
+
+/// A way to be wrong.
+#[derive(Clone, Copy, Debug, PartialEq, Eq)]
+pub enum Wrong {
+    /// Refuses everything.
+    Refuses,
+    /// Has no solutions, whatever the problem.
+    Ends,
+    /// Ends on the first call.
+    EndsAtOnce,
+    /// Never pauses.
+    NeverPauses,
+    /// Pauses where it stands.
+    PausesInPlace,
+    /// Passes fewer rows than allowed before it pauses.
+    PausesEarly,
+    /// Goes on one row late after a Found.
+    ResumesLate,
+    /// Gives a solution twice.
+    Repeats,
+    /// Moves the place of a refused call.
+    MovesWhenRefused,
+    /// Writes one text, whatever the row.
+    WritesOneText,
+    /// Writes nothing and makes up a length.
+    WritesNothing,
+    /// Changes the byte after the text.
+    WritesTooFar,
+    /// Writes a text that is too long for the buffer, as far as it goes.
+    WritesWhenRefused,
+    /// Takes every row.
+    WritesAnyRow,
+    /// Passes every text.
+    PassesAll,
+    /// Passes no text.
+    PassesNone,
+    /// Takes every text for well-formed.
+    ReadsAnyText,
+    /// Gives one refusal in place of another.
+    RefusesOtherwise,
+}
+
+impl Wrong {
+    /// All of them.
+    pub const ALL: [Wrong; 18] = [
+        Wrong::Refuses,
+        Wrong::Ends,
+        Wrong::EndsAtOnce,
+        Wrong::NeverPauses,
+        Wrong::PausesInPlace,
+        Wrong::PausesEarly,
+        Wrong::ResumesLate,
+        Wrong::Repeats,
+        Wrong::MovesWhenRefused,
+        Wrong::WritesOneText,
+        Wrong::WritesNothing,
+        Wrong::WritesTooFar,
+        Wrong::WritesWhenRefused,
+        Wrong::WritesAnyRow,
+        Wrong::PassesAll,
+        Wrong::PassesNone,
+        Wrong::ReadsAnyText,
+        Wrong::RefusesOtherwise,
+    ];
+}
+
+/// Whether the answer is a refusal.
+fn refuses(answer: u32) -> bool {
+    (1..256).contains(&answer)
+}
+
+impl Subject for Wrong {
+    fn start(&self, problem: &[u8], place: &mut [u64]) -> u32 {
+        let answer = Proved.start(problem, place);
+        match self {
+            Wrong::Refuses => 4,
+            Wrong::Ends if answer == OK => {
+                place.copy_from_slice(&PAST);
+                OK
+            }
+            Wrong::RefusesOtherwise if answer == 9 => 4,
+            _ => answer,
+        }
+    }
+
+    fn search(&self, problem: &[u8], place: &mut [u64], row: &mut [u64], n: u32) -> u32 {
+        let before = place.to_vec();
+        let allowed = match self {
+            Wrong::NeverPauses if n > 0 => u32::MAX,
+            Wrong::PausesEarly => n.min(2),
+            _ => n,
+        };
+        let answer = Proved.search(problem, place, row, allowed);
+        match self {
+            Wrong::Refuses => 4,
+            Wrong::Ends | Wrong::EndsAtOnce if answer == FOUND || answer == PAUSED => {
+                row.copy_from_slice(&UNTOUCHED);
+                place.copy_from_slice(&PAST);
+                END
+            }
+            Wrong::PausesInPlace if answer == PAUSED => {
+                place.copy_from_slice(&before);
+                PAUSED
+            }
+            Wrong::ResumesLate if answer == FOUND => {
+                Proved.search(problem, place, &mut [0; PLACE_WORDS], 1);
+                FOUND
+            }
+            Wrong::Repeats if answer == FOUND => {
+                place.copy_from_slice(&before);
+                FOUND
+            }
+            Wrong::MovesWhenRefused if refuses(answer) && place.len() == PLACE_WORDS => {
+                place.copy_from_slice(&PAST);
+                answer
+            }
+            Wrong::RefusesOtherwise if answer == 16 => 15,
+            _ => answer,
+        }
+    }
+
+    fn write(&self, problem: &[u8], row: &[u64], out: &mut [u8], written: &mut u64) -> u32 {
+        let before = out.to_vec();
+        let answer = Proved.write(problem, row, out, written);
+        let length = *written as usize;
+        match self {
+            Wrong::Refuses => 4,
+            Wrong::Ends if answer == OK => {
+                out.copy_from_slice(&before);
+                16
+            }
+            Wrong::WritesOneText if answer == OK => {
+                out[..length].fill(8);
+                OK
+            }
+            Wrong::WritesNothing if answer == OK => {
+                out.copy_from_slice(&before);
+                OK
+            }
+            Wrong::WritesTooFar if answer == OK && length < out.len() => {
+                out[length] = 0;
+                OK
+            }
+            Wrong::WritesWhenRefused if answer == 18 && !out.is_empty() => {
+                out[0] = 8;
+                18
+            }
+            Wrong::WritesAnyRow if answer == 17 => {
+                *written = 0;
+                OK
+            }
+            _ => answer,
+        }
+    }
+
+    fn check(&self, problem: &[u8], text: &[u8]) -> u32 {
+        let answer = raw::check(problem, text);
+        match self {
+            Wrong::Refuses => 4,
+            Wrong::Ends | Wrong::PassesNone if answer == YES => NO,
+            Wrong::PassesAll if answer == NO => YES,
+            Wrong::ReadsAnyText if answer == 20 => NO,
+            _ => answer,
+        }
+    }
+}

@@ -1,0 +1,239 @@
+//! Document 01's examples, worked out by hand: what the proved matcher lists, and what the second implementation lists.
+
+use compare::tree::{self, Entry, Tree};
+use matcher::{Problem, Refusal};
+
+const P: u8 = 0;
+const Q: u8 = 1;
+const X: u8 = 2;
+const Y: u8 = 3;
+const FORALL: u16 = 1;
+const EXISTS: u16 = 2;
+
+fn s(number: u32) -> Tree {
+    Tree::Symbol(number)
+}
+
+fn v(number: u16) -> Tree {
+    Tree::Variable(number)
+}
+
+fn meta(m: u8) -> Tree {
+    Tree::Meta(m)
+}
+
+fn call(m: u8, argument: Tree) -> Tree {
+    Tree::Call(m, Box::new(argument))
+}
+
+fn all(x: u16, term: Tree) -> Tree {
+    Tree::Bind(FORALL, x, Box::new(term))
+}
+
+fn exists(x: u16, term: Tree) -> Tree {
+    Tree::Bind(EXISTS, x, Box::new(term))
+}
+
+/// An operator, which is a symbol, applied to terms.
+fn op(symbol: u32, terms: &[Tree]) -> Tree {
+    Tree::Apply([&[s(symbol)], terms].concat())
+}
+
+fn hole() -> Tree {
+    Tree::Hole
+}
+
+const PLUS: u32 = 100;
+const AND: u32 = 101;
+const UNEQUAL: u32 = 102;
+const EQUALS: u32 = 103;
+const POWER: u32 = 104;
+const GREATER: u32 = 105;
+const LESS: u32 = 106;
+const IMPLIES: u32 = 107;
+const MINUS: u32 = 108;
+const WRAP: u32 = 109;
+
+/// Both implementations list just these solutions, in this order, with just these texts.
+fn lists(constraints: &[(Tree, Tree)], solutions: &[Vec<Entry>]) {
+    let bytes = tree::problem(constraints);
+    let expected: Vec<Vec<u8>> = solutions.iter().map(|entries| tree::text(entries)).collect();
+    let problem = Problem::new(&bytes).expect("the example is accepted");
+    let listed: Vec<Vec<u8>> = problem.search().map(|solution| solution.text()).collect();
+    assert_eq!(listed, expected, "the proved matcher");
+    let second = second::Problem::read(&bytes).expect("the example is accepted");
+    let listed: Vec<Vec<u8>> = second
+        .solutions(1000)
+        .expect("the list is short")
+        .into_iter()
+        .map(|s| s.text)
+        .collect();
+    assert_eq!(listed, expected, "the second implementation");
+    for text in expected {
+        assert_eq!(problem.check(&text), Ok(true));
+        assert_eq!(second.check(&text), Ok(true));
+    }
+}
+
+fn refused(constraints: &[(Tree, Tree)], refusal: Refusal) {
+    let bytes = tree::problem(constraints);
+    assert_eq!(Problem::new(&bytes), Err(refusal));
+    assert_eq!(second::Problem::read(&bytes).err(), Some(refusal.number()));
+}
+
+fn body(m: u8, term: Tree) -> Entry {
+    Entry::Body(m, term)
+}
+
+fn value(m: u8, term: Tree) -> Entry {
+    Entry::Value(m, term)
+}
+
+#[test]
+fn no_constraint() {
+    lists(&[], &[vec![]]);
+}
+
+#[test]
+fn a_function_and_a_symbol() {
+    let problem = [(call(P, meta(X)), s(5))];
+    lists(
+        &problem,
+        &[
+            vec![body(P, hole()), value(X, s(5))],
+            vec![body(P, s(5)), Entry::Open(X)],
+        ],
+    );
+}
+
+#[test]
+fn two_values() {
+    lists(&[(meta(X), s(1)), (meta(X), s(2))], &[]);
+}
+
+#[test]
+fn one_plus_one() {
+    let sum = |left: Tree, right: Tree| vec![body(P, op(PLUS, &[left, right]))];
+    let problem = [(call(P, s(1)), op(PLUS, &[s(1), s(1)]))];
+    lists(
+        &problem,
+        &[
+            sum(hole(), hole()),
+            sum(hole(), s(1)),
+            sum(s(1), hole()),
+            sum(s(1), s(1)),
+        ],
+    );
+}
+
+#[test]
+fn examples_of_001() {
+    let problem = [(op(AND, &[meta(X), meta(Y)]), op(AND, &[s(6), op(PLUS, &[s(7), s(8)])]))];
+    lists(&problem, &[vec![value(X, s(6)), value(Y, op(PLUS, &[s(7), s(8)]))]]);
+    let problem = [(
+        op(POWER, &[op(PLUS, &[meta(X), meta(Y)]), op(MINUS, &[meta(X), meta(Y)])]),
+        op(POWER, &[op(PLUS, &[s(3), v(1)]), op(MINUS, &[s(3), v(2)])]),
+    )];
+    lists(&problem, &[]);
+    let problem = [(
+        op(AND, &[call(P, s(1)), call(P, s(2))]),
+        op(AND, &[op(UNEQUAL, &[s(0), s(1)]), op(UNEQUAL, &[s(0), s(2)])]),
+    )];
+    lists(&problem, &[vec![body(P, op(UNEQUAL, &[s(0), hole()]))]]);
+}
+
+#[test]
+fn bound_outside() {
+    lists(&[(all(1, meta(X)), all(2, v(2)))], &[]);
+    lists(&[(all(1, call(P, v(1))), all(2, s(6)))], &[vec![body(P, s(6))]]);
+}
+
+#[test]
+fn holes_under_a_binder() {
+    let (y, z, w) = (1, 2, 3);
+    let equation = |x: u16, left: Tree, right: Tree| all(x, op(EQUALS, &[left, right]));
+    let whole = equation(y, v(y), v(z));
+    let no_equals = all(y, Tree::Apply(vec![hole(), v(y), v(z)]));
+    let first = (call(P, meta(X)), whole.clone());
+    let solutions = [
+        vec![body(P, hole()), value(X, whole.clone())],
+        vec![body(P, no_equals), value(X, s(EQUALS))],
+        vec![body(P, equation(y, v(y), hole())), value(X, v(z))],
+        vec![body(P, whole.clone()), Entry::Open(X)],
+    ];
+    lists(std::slice::from_ref(&first), &solutions);
+    // the same with (P(Y), ∀w.w=y): Y is y, which the body's own y must not catch
+    let other = equation(w, v(w), v(y));
+    let solutions = [
+        vec![body(P, hole()), value(X, whole), value(Y, other.clone())],
+        vec![body(P, equation(y, v(y), hole())), value(X, v(z)), value(Y, v(y))],
+    ];
+    lists(&[first, (call(P, meta(Y)), other)], &solutions);
+}
+
+#[test]
+fn table_of_001() {
+    let above = |base: Tree| op(GREATER, &[op(PLUS, &[op(POWER, &[base, s(2)]), s(1)]), s(0)]);
+    let minus_nine = op(MINUS, &[s(9)]);
+    let problem = [(
+        op(WRAP, &[all(1, call(P, v(1))), call(P, meta(X))]),
+        op(WRAP, &[all(2, above(v(2))), above(minus_nine.clone())]),
+    )];
+    lists(&problem, &[vec![body(P, above(hole())), value(X, minus_nine)]]);
+
+    let below = |left: Tree| op(LESS, &[op(PLUS, &[left, s(1)]), s(5)]);
+    let problem = [(
+        op(WRAP, &[op(WRAP, &[meta(X), call(P, meta(X))]), all(1, call(P, v(1)))]),
+        op(WRAP, &[op(WRAP, &[v(7), below(v(7))]), all(2, below(v(2)))]),
+    )];
+    lists(&problem, &[vec![body(P, below(hole())), value(X, v(7))]]);
+
+    // Q's x would be bound in the second line
+    let cube = |x: u16| op(EQUALS, &[op(POWER, &[v(x), s(3)]), op(MINUS, &[s(1)])]);
+    let under_five = op(LESS, &[v(1), s(5)]);
+    let problem = [(
+        op(
+            WRAP,
+            &[
+                exists(1, call(P, v(1))),
+                all(2, op(IMPLIES, &[call(P, v(2)), meta(X)])),
+                meta(X),
+            ],
+        ),
+        op(
+            WRAP,
+            &[
+                exists(1, cube(1)),
+                all(1, op(IMPLIES, &[cube(1), under_five.clone()])),
+                under_five,
+            ],
+        ),
+    )];
+    lists(&problem, &[]);
+}
+
+/// A symbol so deep, at most 32.
+fn deep(depth: usize) -> Tree {
+    (1..depth).fold(s(1), |inner, _| Tree::Apply(vec![inner]))
+}
+
+#[test]
+fn limits() {
+    let many = |nodes: usize| Tree::Apply((1..nodes).map(|k| s(k as u32)).collect());
+    let with_hole = |k: usize| {
+        let mut term = many(64);
+        *term.node_mut(k) = hole();
+        term
+    };
+    lists(
+        &[(call(P, s(63)), many(64))],
+        &[vec![body(P, with_hole(63))], vec![body(P, many(64))]],
+    );
+    refused(&[(call(P, s(63)), many(65))], Refusal::FaceTooLarge);
+    lists(&[(meta(X), deep(32))], &[vec![value(X, deep(32))]]);
+    refused(&[(meta(X), deep(33))], Refusal::TooDeep);
+    lists(&vec![(meta(X), s(1)); 16], &[vec![value(X, s(1))]]);
+    refused(&vec![(meta(X), s(1)); 17], Refusal::TooManyConstraints);
+    refused(&[(call(P, meta(P)), s(1))], Refusal::BothWays);
+    refused(&[(call(P, call(Q, meta(X))), s(1))], Refusal::FunctionInArgument);
+}

@@ -1,0 +1,70 @@
+//! Random problems, calls, bytes, texts and places: the proved matcher answers as the second implementation does, and every
+//! kind of case comes up often enough to say something.
+
+use compare::features::FEATURES;
+use compare::report::Tally;
+use compare::subject::Proved;
+use compare::{calls, damage, lists, places, texts};
+
+/// The comparison holds, and met at least so many of each case.
+fn met(compared: Result<Tally, String>, cases: &[(&str, usize)]) {
+    let tally = compared.unwrap_or_else(|difference| panic!("{difference}"));
+    for (case, least) in cases {
+        tally.need(case, *least).unwrap_or_else(|few| panic!("{few}"));
+    }
+}
+
+#[test]
+fn whole_lists_agree() {
+    let mut cases = vec![
+        ("problems", 20_000),
+        ("solutions", 50_000),
+        ("no solution", 3_000),
+        ("one solution", 3_000),
+        ("several solutions", 3_000),
+        ("shapes that disagree", 500),
+        ("an open metavariable", 3_000),
+    ];
+    cases.extend(FEATURES.iter().map(|(feature, _)| (*feature, 2_000)));
+    met(lists::random(&Proved, 0..24_000), &cases);
+}
+
+#[test]
+fn lists_of_calls_agree() {
+    let cases = [
+        ("lists", 3_000),
+        ("found", 3_000),
+        ("paused", 3_000),
+        ("end", 3_000),
+        ("refused 15", 1_000),
+        ("refused 18", 1_000),
+    ];
+    met(calls::random(&Proved, 100_000..104_000), &cases);
+}
+
+#[test]
+fn damaged_problems_agree() {
+    let mut cases: Vec<(String, usize)> = (1..=14).map(|refusal| (format!("refused {refusal}"), 50)).collect();
+    cases.push(("problems".to_string(), 3_000));
+    let cases: Vec<(&str, usize)> = cases.iter().map(|(case, least)| (&case[..], *least)).collect();
+    met(damage::random(&Proved, 200_000..230_000), &cases);
+}
+
+#[test]
+fn checked_texts_agree() {
+    let cases = [("yes", 5_000), ("no", 5_000), ("refused 19", 50), ("refused 20", 1_000)];
+    met(texts::random(&Proved, 300_000..305_000), &cases);
+}
+
+#[test]
+fn places_and_rows_agree() {
+    let cases = [
+        ("place", 5_000),
+        ("no place", 1_000),
+        ("written", 1_000),
+        ("refused 16", 1_000),
+        ("refused 17", 1_000),
+        ("refused 18", 500),
+    ];
+    met(places::random(&Proved, 400_000..404_000), &cases);
+}

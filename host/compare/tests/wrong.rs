@@ -1,0 +1,38 @@
+//! No comparison would pass a useless matcher, and every wrong one is caught by some comparison.
+
+use compare::report::Tally;
+use compare::subject::Subject;
+use compare::wrong::Wrong;
+use compare::{calls, damage, lists, places, texts};
+use std::ops::Range;
+
+type Comparison = fn(&dyn Subject, Range<u64>) -> Result<Tally, String>;
+
+const COMPARISONS: [(&str, Comparison); 5] = [
+    ("lists", lists::random),
+    ("calls", calls::random),
+    ("damage", damage::random),
+    ("texts", texts::random),
+    ("places", places::random),
+];
+
+const SEEDS: Range<u64> = 500_000..501_000;
+
+#[test]
+fn every_comparison_catches_the_useless_matchers() {
+    for wrong in [Wrong::Refuses, Wrong::Ends] {
+        for (name, comparison) in COMPARISONS {
+            assert!(comparison(&wrong, SEEDS).is_err(), "{name} passes {wrong:?}");
+        }
+    }
+}
+
+#[test]
+fn every_wrong_matcher_is_caught() {
+    for wrong in Wrong::ALL {
+        let caught = COMPARISONS
+            .iter()
+            .any(|(_, comparison)| comparison(&wrong, SEEDS).is_err());
+        assert!(caught, "nothing catches {wrong:?}");
+    }
+}

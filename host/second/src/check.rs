@@ -1,0 +1,73 @@
+//! The checker.
+//!
+//! Document 01: "The checker takes a problem and a text, fields in any order,
+//! bound names free, and says yes or no. A wrong, missing or double
+//! metavariable is a no."
+
+use crate::apply::Filling;
+use crate::body::has_hole;
+use crate::problem::Problem;
+use crate::read::Constraint;
+use crate::rename::{canonical, Names};
+use crate::term::{Meta, Name, Term};
+use crate::text::Field;
+use std::collections::BTreeSet;
+
+/// Whether the fields are a solution of the problem.
+pub fn is_solution(problem: &Problem, fields: &[Field]) -> bool {
+    let named: BTreeSet<Meta> = fields.iter().map(Field::meta).collect();
+    let each_once = named.len() == fields.len() && named == *problem.metas();
+    let filling = filling(fields);
+    each_once
+        && filling.bodies.keys().eq(problem.function_metas())
+        && filling.values.keys().eq(&due_values(problem, &filling))
+        && problem.constraints().iter().all(|c| fits(c, &filling))
+}
+
+/// The filling that the fields give.
+fn filling(fields: &[Field]) -> Filling {
+    let mut filling = Filling::default();
+    for field in fields {
+        match field {
+            Field::Value(meta, value) => filling.values.insert(*meta, value.clone()),
+            Field::Body(meta, body) => filling.bodies.insert(*meta, body.clone()),
+            Field::Open(_) => None,
+        };
+    }
+    filling
+}
+
+/// The metavariables that must have a value, all others being open: those that
+/// stand somewhere else than in arguments of functions without a hole.
+fn due_values(problem: &Problem, filling: &Filling) -> BTreeSet<Meta> {
+    let mut due = BTreeSet::new();
+    for constraint in problem.constraints() {
+        add_due(&constraint.pattern, filling, &mut due);
+    }
+    due
+}
+
+/// Adds those of one pattern.
+fn add_due(pattern: &Term, filling: &Filling, due: &mut BTreeSet<Meta>) {
+    match pattern {
+        Term::Metavariable(meta) => {
+            due.insert(*meta);
+        }
+        Term::Function(meta, _) if !filling.bodies.get(meta).is_some_and(has_hole) => {}
+        other => {
+            for child in other.children() {
+                add_due(child, filling, due);
+            }
+        }
+    }
+}
+
+/// Whether the filled pattern equals its expression. It is not built where its
+/// size alone says no, so the work stays within the problem's own size.
+fn fits(constraint: &Constraint, filling: &Filling) -> bool {
+    let Constraint { pattern, expression } = constraint;
+    filling.size(pattern) == expression.size() && {
+        let filled = filling.apply(pattern, &mut Names::of(Name::Apart));
+        canonical(&filled) == canonical(expression)
+    }
+}

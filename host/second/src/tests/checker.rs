@@ -1,0 +1,112 @@
+//! The checker, on texts that no search wrote.
+
+use super::notation::{problem, term};
+use crate::term::Meta;
+use crate::text::{write, Field};
+
+/// The checker's answer for fields as `9 0 body`, `8 1 value` and `11 2`.
+fn says(text: &str, fields: &[&str]) -> bool {
+    let fields: Vec<Field> = fields.iter().map(|text| field(text)).collect();
+    problem(text).check(&write(&fields)).expect("a good text")
+}
+
+/// One field.
+fn field(text: &str) -> Field {
+    let mut parts = text.splitn(3, ' ');
+    let mut next = || parts.next().expect("three parts");
+    let tag = next();
+    let meta = Meta(next().parse().expect("a number"));
+    match tag {
+        "8" => Field::Value(meta, term(next())),
+        "9" => Field::Body(meta, term(next())),
+        _ => Field::Open(meta),
+    }
+}
+
+const READINGS: &str = "?0{?1} = s5";
+
+#[test]
+fn any_order_is_good() {
+    assert!(says(READINGS, &["9 0 _", "8 1 s5"]));
+    assert!(says(READINGS, &["8 1 s5", "9 0 _"]));
+    assert!(says(READINGS, &["11 1", "9 0 s5"]));
+}
+
+#[test]
+fn each_metavariable_comes_once() {
+    assert!(!says(READINGS, &["9 0 _"]));
+    assert!(!says(READINGS, &["9 0 s5"]));
+    assert!(!says(READINGS, &["8 1 s5"]));
+    assert!(!says(READINGS, &[]));
+    assert!(!says(READINGS, &["9 0 _", "8 1 s5", "8 1 s5"]));
+    assert!(!says(READINGS, &["9 0 s5", "11 1", "11 1"]));
+    assert!(!says(READINGS, &["9 0 _", "8 1 s5", "11 2"]));
+    assert!(!says(READINGS, &["9 0 _", "8 2 s5"]));
+}
+
+#[test]
+fn each_metavariable_has_its_kind() {
+    assert!(!says(READINGS, &["8 0 s5", "11 1"]));
+    assert!(!says(READINGS, &["11 0", "11 1"]));
+    assert!(!says(READINGS, &["9 0 s5", "9 1 s5"]));
+    assert!(!says(READINGS, &["9 0 _", "9 1 s5"]));
+    assert!(!says("?1 = s5", &["9 1 s5"]));
+    assert!(says("?1 = s5", &["8 1 s5"]));
+}
+
+#[test]
+fn open_just_where_no_hole_asks() {
+    assert!(!says(READINGS, &["9 0 s5", "8 1 s5"]));
+    assert!(!says(READINGS, &["9 0 _", "11 1"]));
+    assert!(!says("?1 = s5", &["11 1"]));
+    let twice = "(?0{?1} ?2{?1}) = (s5 s6)";
+    assert!(says(twice, &["9 0 s5", "8 1 s6", "9 2 _"]));
+    assert!(says(twice, &["9 0 s5", "11 1", "9 2 s6"]));
+    assert!(!says(twice, &["9 0 s5", "8 1 s6", "9 2 s6"]));
+    assert!(!says(twice, &["9 0 s5", "11 1", "9 2 _"]));
+}
+
+#[test]
+fn bound_names_are_free() {
+    let text = "?0{?1} = [b0 v1 (s2 v1 s3)]";
+    assert!(says(text, &["9 0 [b0 v8 (s2 v8 _)]", "8 1 s3"]));
+    assert!(says(text, &["9 0 _", "8 1 [b0 v8 (s2 v8 s3)]"]));
+    assert!(!says(text, &["9 0 [b0 v8 (s2 v1 _)]", "8 1 s3"]));
+    assert!(!says(text, &["9 0 [b1 v8 (s2 v8 _)]", "8 1 s3"]));
+}
+
+#[test]
+fn nothing_is_caught() {
+    // By a binder of the body.
+    let text = "?0{?1} = [b0 v1 (v1 v2)]";
+    assert!(says(text, &["9 0 [b0 v2 (v2 _)]", "8 1 v2"]));
+    assert!(!says(text, &["9 0 [b0 v1 (_ v2)]", "8 1 v1"]));
+    // By a binder of the pattern, from a value and from a body.
+    let text = "[b0 v1 (v1 ?0)] = [b0 v3 (v3 v1)]";
+    assert!(says(text, &["8 0 v1"]));
+    assert!(!says(text, &["8 0 v3"]));
+    assert!(!says("[b0 v1 ?0] = [b0 v1 v1]", &["8 0 v1"]));
+    assert!(!says("[b0 v1 ?0{s1}] = [b0 v1 v1]", &["9 0 v1"]));
+    // An argument's bound variable, by a body's binder of the same name.
+    let text = "[b0 v1 ?0{v1}] = [b0 v2 [b0 v3 (v2 v3)]]";
+    assert!(says(text, &["9 0 [b0 v1 (_ v1)]"]));
+    assert!(!says(text, &["9 0 [b0 v1 (v1 _)]"]));
+}
+
+#[test]
+fn each_constraint_counts() {
+    let text = "?0 = s1 ; ?1 = s2";
+    assert!(says(text, &["8 0 s1", "8 1 s2"]));
+    assert!(!says(text, &["8 0 s1", "8 1 s1"]));
+    assert!(!says("s1 = s2", &[]));
+    assert!(says("s1 = s1", &[]));
+}
+
+#[test]
+fn a_large_filling_gets_a_no() {
+    // The filled pattern would have more than a million nodes.
+    let holes = format!("({})", vec!["_"; 200].join(" "));
+    let value = format!("({})", vec!["s1"; 1000].join(" "));
+    let text = "?0{(?1 ?1 ?1 ?1 ?1 ?1 ?1 ?1)} = s1";
+    assert!(!says(text, &[&format!("9 0 {holes}"), &format!("8 1 {value}")]));
+}

@@ -1,0 +1,233 @@
+//! Refusals 1 to 14, 19 and 20.
+
+use super::notation::{bytes, hex, problem, term};
+use crate::encode;
+use crate::read::tag;
+use crate::Problem;
+
+/// The refusal of these bytes, or 0 if they are accepted.
+fn refusal(bytes: &[u8]) -> u8 {
+    Problem::read(bytes).err().unwrap_or(0)
+}
+
+/// The refusal of bytes in hexadecimal.
+fn refusal_of(digits: &str) -> u8 {
+    refusal(&hex(digits))
+}
+
+/// The refusal of a problem in readable notation.
+fn refusal_in(text: &str) -> u8 {
+    refusal(&bytes(text))
+}
+
+/// A term of that depth.
+fn nested(depth: usize, inside: &str) -> String {
+    format!("{}{inside}{}", "(".repeat(depth - 1), ")".repeat(depth - 1))
+}
+
+#[test]
+fn refusal_1_input_too_long() {
+    assert_eq!(refusal(&[0; 4097]), 1);
+    assert_eq!(refusal(&[0; 4096]), 4);
+    let longest = format!("?0 = ((({})))", vec!["s1"; 816].join(" "));
+    assert_eq!((bytes(&longest).len(), refusal_in(&longest)), (4096, 0));
+}
+
+#[test]
+fn refusal_2_head_cut() {
+    assert_eq!(refusal_of("07"), 2);
+    assert_eq!(refusal_of("0700"), 2);
+    assert_eq!(refusal_of("070002 0100"), 2);
+    assert_eq!(refusal_of("07000A 0100020001 030002 0100"), 2);
+    // Before 4: the tag of a cut head is not looked at.
+    assert_eq!(refusal_of("FF00"), 2);
+}
+
+#[test]
+fn refusal_3_past_the_enclosing_end() {
+    assert_eq!(refusal_of("070001"), 3);
+    assert_eq!(refusal_of("070005 0100030001"), 3);
+    // The input has more bytes, but the enclosing field has not.
+    assert_eq!(refusal_of("070004 01000200 01"), 3);
+    // Before 4.
+    assert_eq!(refusal_of("FF0001"), 3);
+}
+
+#[test]
+fn refusal_4_misplaced_tag() {
+    for tag in ["00", "01", "05", "06", "08", "0A", "FF"] {
+        assert_eq!(refusal_of(&format!("{tag}0000")), 4);
+    }
+    for tag in ["00", "07", "08", "0A", "FF"] {
+        assert_eq!(refusal_of(&format!("070003 {tag}0000")), 4);
+        assert_eq!(refusal_of(&format!("070008 0100020001 {tag}0000")), 4);
+    }
+}
+
+#[test]
+fn refusal_5_too_deep() {
+    let [deep, deeper] = [32, 33].map(|depth| nested(depth, "s1"));
+    assert_eq!(refusal_in(&format!("{deep} = s1")), 0);
+    assert_eq!(refusal_in(&format!("{deeper} = s1")), 5);
+    assert_eq!(refusal_in(&format!("s1 = {deep}")), 0);
+    assert_eq!(refusal_in(&format!("s1 = {deeper}")), 5);
+    // An argument is one deeper than its function application.
+    assert_eq!(refusal_in(&format!("{} = s1", nested(31, "?0{s1}"))), 0);
+    assert_eq!(refusal_in(&format!("{} = s1", nested(32, "?0{s1}"))), 5);
+    // After 4, 8 and 9, before 6.
+    assert_eq!(refusal_in(&format!("{} = s1", nested(33, "_"))), 4);
+    assert_eq!(refusal_in(&format!("s1 = {}", nested(33, "?0"))), 8);
+    assert_eq!(refusal_in(&format!("?1{{{}}} = s1", nested(32, "?0{s1}"))), 9);
+    let empty = bytes(&format!("s1 = {}", nested(33, "_")));
+    let application = |byte| if byte == 10 { 3 } else { byte };
+    let empty: Vec<u8> = empty.into_iter().map(application).collect();
+    assert_eq!(refusal(&empty), 5);
+}
+
+#[test]
+fn refusal_6_bad_content() {
+    assert_eq!(refusal_of("070004 01000100"), 6);
+    assert_eq!(refusal_of("070006 010003000000"), 6);
+    assert_eq!(refusal_of("070004 02000100"), 6);
+    assert_eq!(refusal_of("070007 02000400000000"), 6);
+    assert_eq!(refusal_of("070003 030000"), 6);
+    assert_eq!(refusal_of("070006 040003000000"), 6);
+    assert_eq!(refusal_of("070003 050000"), 6);
+    assert_eq!(refusal_of("070003 060000"), 6);
+    // Before 10.
+    assert_eq!(refusal_of("070005 0500022020"), 6);
+}
+
+#[test]
+fn refusal_7_missing_or_left() {
+    assert_eq!(refusal_of("070000"), 7);
+    assert_eq!(refusal_of("070005 0100020001"), 7);
+    assert_eq!(refusal_of("07000B 0100020001 0100020001 00"), 7);
+    assert_eq!(refusal_of("070007 04000400000000"), 7);
+    assert_eq!(refusal_of("070004 06000100"), 7);
+    assert_eq!(refusal_of("07000D 04000A 00000000 0100020001 00"), 7);
+    assert_eq!(refusal_of("07000A 060007 00 0100020001 00"), 7);
+}
+
+#[test]
+fn refusal_8_metavariable_in_an_expression() {
+    assert_eq!(refusal_in("s1 = ?0"), 8);
+    assert_eq!(refusal_in("s1 = (s1 ?0{s1})"), 8);
+    // Before 6 and 10.
+    assert_eq!(refusal_of("070008 0100020001 050000"), 8);
+}
+
+#[test]
+fn refusal_9_function_in_an_argument() {
+    assert_eq!(refusal_in("?0{?1{?2}} = s1"), 9);
+    assert_eq!(refusal_in("?0{[b0 v0 (s1 ?1{s1})]} = s1"), 9);
+    assert_eq!(refusal_in("?0{?1} = s1"), 0);
+}
+
+#[test]
+fn refusal_10_metavariable_number() {
+    assert_eq!(refusal_in("?31 = s1"), 0);
+    assert_eq!(refusal_in("?32 = s1"), 10);
+    assert_eq!(refusal_in("?31{s1} = s1"), 0);
+    assert_eq!(refusal_in("?32{s1} = s1"), 10);
+    // Before the inner fields.
+    assert_eq!(refusal_of("070004 06000120"), 10);
+}
+
+#[test]
+fn refusal_11_a_17th_constraint() {
+    let repeated = |n: usize| vec!["s1 = s1"; n].join(" ; ");
+    assert_eq!(refusal_in(&repeated(16)), 0);
+    assert_eq!(refusal_in(&repeated(17)), 11);
+    // A 17th field of another tag is 4, a 17th constraint is not read.
+    let sixteen = bytes(&repeated(16));
+    assert_eq!(refusal(&[&sixteen[..], &[1, 0, 0]].concat()), 4);
+    assert_eq!(refusal(&[&sixteen[..], &[7, 0, 0]].concat()), 11);
+}
+
+#[test]
+fn refusal_12_both_ways() {
+    assert_eq!(refusal_in("?0{?0} = s1"), 12);
+    assert_eq!(refusal_in("?0{s1} = s1 ; ?0 = s1"), 12);
+    // Whether shapes agree or not, and before 13.
+    assert_eq!(refusal_in("(s1 ?0{?0}) = s2"), 12);
+    assert_eq!(refusal_in(&format!("{} ; ?0 = s1", functions(9))), 12);
+}
+
+/// A problem with so many functions.
+fn functions(n: usize) -> String {
+    let functions: Vec<String> = (0..n).map(|i| format!("?{i}{{s1}}")).collect();
+    format!("({}) = ({})", functions.join(" "), vec!["s1"; n].join(" "))
+}
+
+#[test]
+fn refusal_13_too_many_functions() {
+    assert_eq!(refusal_in(&functions(8)), 0);
+    assert_eq!(refusal_in(&functions(9)), 13);
+    assert_eq!(refusal_in(&format!("{} ; s1 = s2", functions(9))), 13);
+    assert_eq!(refusal_in("(?0{s1} ?0{s2} ?0{s3}) = s9"), 0);
+}
+
+#[test]
+fn refusal_14_face_too_large() {
+    let face = |nodes: usize| format!("({})", vec!["s1"; nodes - 1].join(" "));
+    let [fits, too_large] = [64, 65].map(face);
+    assert_eq!(refusal_in(&format!("?0{{s1}} = {fits}")), 0);
+    assert_eq!(refusal_in(&format!("?0{{s1}} = {too_large}")), 14);
+    // Not if shapes disagree, in any constraint.
+    assert_eq!(refusal_in(&format!("?0{{s1}} = {too_large} ; s1 = s2")), 0);
+    // Not what a metavariable or a later application faces.
+    assert_eq!(refusal_in(&format!("?0 = {too_large}")), 0);
+    assert_eq!(refusal_in(&format!("?0{{s1}} = s1 ; ?0{{s1}} = {too_large}")), 0);
+    // Any function's.
+    assert_eq!(refusal_in(&format!("?0{{s1}} = s1 ; ?1{{s1}} = {too_large}")), 14);
+}
+
+#[test]
+fn refusal_19_text_too_long() {
+    let any = problem("?0 = s1");
+    assert_eq!(any.check(&[0; 8193]), Err(19));
+    assert_eq!(any.check(&[0; 8192]), Err(20));
+}
+
+#[test]
+fn refusal_20_bad_text() {
+    let any = problem("?0{?1} = s1");
+    let faults = [
+        "09",                              // a head that is cut
+        "090005 00 0A0000",                // a length past the end
+        "010002 0001",                     // no field of a text
+        "0A0000",                          // a hole that is no term
+        "0C0001 00",                       // an unknown tag
+        "080004 01 0A0000",                // a hole in a value
+        "090008 00 010002 0001 00",        // a byte left
+        "080001 01",                       // no term
+        "080000",                          // no number
+        "0B0002 01 00",                    // a byte left
+        "080006 20 010002 0001",           // a number over 31
+        "0B0001 20",                       // a number over 31
+        "090005 00 050001 01",             // a metavariable in a body
+        "09000A 00 060006 00 010002 0001", // a function in a body
+        "090005 00 0A0001 00",             // a hole with content
+        "090004 00 030000",                // an empty application
+    ];
+    for fault in faults {
+        assert_eq!(any.check(&hex(fault)), Err(20), "{fault}");
+    }
+    // A later field's fault counts, also where the earlier ones say no.
+    assert_eq!(any.check(&hex("0B0001 07 09")), Err(20));
+    assert_eq!(any.check(&hex("0B0001 07")), Ok(false));
+}
+
+#[test]
+fn refusal_20_text_too_deep() {
+    let any = problem("?0{?1} = s1");
+    for tag in [tag::VALUE, tag::BODY] {
+        let field = |depth: usize| {
+            let term = encode::term(&term(&nested(depth, "s1")));
+            encode::field(tag, &[&[0], &term[..]].concat())
+        };
+        assert_eq!(any.check(&field(32)), Ok(false));
+        assert_eq!(any.check(&field(33)), Err(20));
+    }
+}

@@ -1,0 +1,83 @@
+//! Choices and rows.
+
+use super::notation::problem;
+use crate::{Choice, Row};
+
+/// A row of one choice.
+fn row(nodes: &[usize]) -> Row {
+    vec![nodes.iter().copied().collect()]
+}
+
+#[test]
+fn equal_up_to_bound_names_and_by_the_very_binder() {
+    let kept = problem("[b0 v0 ?0{v0}] = [b0 v0 ([b0 v1 v0] [b0 v2 v0] [b0 v0 v0] v0)]");
+    // In the face: 0 application, 1 binder, 2 v0, 3 binder, 4 v0, 5 binder,
+    // 6 the inner v0, 7 v0.
+    assert!(kept.is_row(&row(&[1, 3])));
+    assert!(!kept.is_row(&row(&[1, 5])));
+    assert!(kept.is_row(&row(&[2, 4, 7])));
+    assert!(!kept.is_row(&row(&[6])));
+    assert!(kept.is_row(&row(&[5])));
+    assert!(kept.is_row(&row(&[0])));
+    assert!(!kept.is_row(&row(&[8])));
+    // {0}, {5}, the empty set, 3 subsets of {1, 3} and 7 of {2, 4, 7}.
+    assert_eq!(kept.rows(99).unwrap().len(), 13);
+}
+
+#[test]
+fn different_binders_of_one_name_differ() {
+    // Around the face there are two binders of variable 0 or 1.
+    let two = problem("[b0 v0 [b0 v1 ?0{v0}]] = [b0 v0 [b0 v1 (v0 v1 v0 v3)]]");
+    assert!(two.is_row(&row(&[1, 3])));
+    assert!(!two.is_row(&row(&[1, 2])));
+    assert!(two.is_row(&row(&[4])));
+}
+
+#[test]
+fn rows_of_two_functions() {
+    let two = problem("(?1{s1} ?0{s1}) = (s1 (s1))");
+    // Function 0 faces (s1), function 1 faces s1.
+    let [zero, one, none]: [Choice; 3] = [Choice::from([0]), Choice::from([1]), Choice::new()];
+    let expected: Vec<Row> = [&zero, &one, &none]
+        .iter()
+        .flat_map(|first| {
+            [
+                vec![(*first).clone(), zero.clone()],
+                vec![(*first).clone(), none.clone()],
+            ]
+        })
+        .collect();
+    assert_eq!(two.rows(6), Some(expected));
+    assert_eq!(two.rows(5), None);
+}
+
+#[test]
+fn many_rows_are_only_counted() {
+    let face = format!("({})", vec!["s1"; 63].join(" "));
+    let functions: Vec<String> = (0..8).map(|i| format!("?{i}{{s1}} = {face}")).collect();
+    let large = problem(&functions.join(" ; "));
+    assert_eq!(large.rows(usize::MAX), None);
+    assert_eq!(large.solutions(3), None);
+    let full: Choice = (1..64).collect();
+    let text = large.write(&vec![full; 8]).unwrap();
+    assert_eq!(large.check(&text), Ok(true));
+    assert_eq!(large.write(&vec![Choice::from([0]); 8]), Err(17));
+}
+
+#[test]
+fn a_rank_is_the_place_in_the_list() {
+    let texts = [
+        "?0{s1} = (s1 s2 s1 (s2 s1) s1)",
+        "[b0 v0 ?0{v0}] = [b0 v0 ([b0 v1 v0] [b0 v2 v0] [b0 v0 v0] v0)]",
+        "(?1{s1} ?0{?2}) = ((s1 s1 s2) (s1 (s1) (s1)))",
+        "?2 = s1",
+    ];
+    for problem in texts.map(problem) {
+        let rows = problem.rows(1_000).unwrap();
+        assert_eq!(problem.row_count(), Some(rows.len() as u128));
+        for (k, row) in rows.iter().enumerate() {
+            assert_eq!(problem.rank(row), Some(k as u128));
+        }
+    }
+    assert_eq!(problem("s1 = s2").row_count(), Some(0));
+}

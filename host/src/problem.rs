@@ -1,0 +1,76 @@
+//! A problem that the matcher accepts.
+
+use crate::raw::{self, PLACE_WORDS};
+use crate::refusal::Refusal;
+use crate::saved::{self, ResumeError};
+use crate::search::Search;
+
+/// A problem that is accepted: none of the refusals 1 to 14 applies to its bytes.
+#[derive(Clone, Debug, PartialEq, Eq)]
+pub struct Problem {
+    bytes: Vec<u8>,
+    /// The first row, or past the last if there is none.
+    start: [u64; PLACE_WORDS],
+}
+
+impl Problem {
+    /// Reads the bytes of a problem, or says why they are refused.
+    ///
+    /// ```
+    /// use matcher::{Problem, Refusal};
+    ///
+    /// // a constraint whose length goes past the end
+    /// let refusal = Problem::new(&[7, 0, 1]).unwrap_err();
+    /// assert_eq!(refusal, Refusal::LengthPastEnd);
+    /// assert_eq!(refusal.to_string(), "refused 3: a field's length goes past the enclosing end");
+    /// ```
+    pub fn new(bytes: &[u8]) -> Result<Problem, Refusal> {
+        let mut start = [0; PLACE_WORDS];
+        match raw::start(bytes, &mut start) {
+            raw::OK => Ok(Problem {
+                bytes: bytes.to_vec(),
+                start,
+            }),
+            other => Err(refused(other)),
+        }
+    }
+
+    /// The bytes that it was read from.
+    pub fn bytes(&self) -> &[u8] {
+        &self.bytes
+    }
+
+    /// The list of its solutions, from the first on.
+    pub fn search(&self) -> Search<'_> {
+        Search::at(self, self.start, 0)
+    }
+
+    /// A search that goes on where another one was [suspended](Search::suspend), in this process or another.
+    ///
+    /// Bytes that are damaged, or were saved for another problem, are an error; the search that they came from can still
+    /// be resumed from bytes that are not.
+    pub fn resume(&self, saved: &[u8]) -> Result<Search<'_>, ResumeError> {
+        let (place, found) = saved::read(saved, &self.bytes)?;
+        let search = Search::at(self, place, found);
+        if search.stands() {
+            Ok(search)
+        } else {
+            Err(ResumeError::NoSuchPlace)
+        }
+    }
+
+    /// Whether the filling that a text names is a solution. The text's fields may come in any order, and its bound names
+    /// are free; a wrong, missing or double metavariable is a no.
+    pub fn check(&self, text: &[u8]) -> Result<bool, Refusal> {
+        match raw::check(&self.bytes, text) {
+            raw::YES => Ok(true),
+            raw::NO => Ok(false),
+            other => Err(refused(other)),
+        }
+    }
+}
+
+/// The refusal that an answer is.
+pub(crate) fn refused(answer: u32) -> Refusal {
+    Refusal::numbered(answer).unwrap_or_else(|| panic!("the matcher is proved not to answer {answer} here"))
+}

@@ -1,0 +1,89 @@
+//! Why a call is refused.
+
+use std::fmt;
+
+/// Makes the enum, its numbers and its words from one table, so that they cannot fall apart.
+macro_rules! refusals {
+    ($($name:ident = $number:literal, $words:literal;)*) => {
+        /// Why a call is refused: document 01's table "Where each check is made". A refused call changes nothing.
+        ///
+        /// Of several reasons that apply the first one met is given: a problem is read field by field from the front (1 to
+        /// 11), then looked at as a whole (12 to 14), and only then is what else the call was given.
+        #[derive(Clone, Copy, Debug, PartialEq, Eq, Hash)]
+        #[repr(u8)]
+        pub enum Refusal {
+            $(#[doc = $words] $name = $number,)*
+        }
+
+        impl Refusal {
+            /// Every refusal, in the order of the numbers.
+            pub const ALL: &'static [Refusal] = &[$(Refusal::$name,)*];
+
+            /// What it means, in document 01's words.
+            pub fn meaning(self) -> &'static str {
+                match self {
+                    $(Refusal::$name => $words,)*
+                }
+            }
+        }
+    };
+}
+
+refusals! {
+    ProblemTooLong = 1, "the problem has over 4,096 bytes";
+    HeadCutOff = 2, "only 1 or 2 bytes are left where a field begins";
+    LengthPastEnd = 3, "a field's length goes past the enclosing end";
+    TagOutOfPlace = 4, "a tag has no place where it stands";
+    TooDeep = 5, "a term stands deeper than 32";
+    FixedPart = 6, "a field's fixed part is too short, or too long for a symbol, variable or metavariable; or an application is empty";
+    InnerFields = 7, "no inner field is left where one is due, or bytes are left after the last";
+    PatternInExpression = 8, "a metavariable or function application stands in an expression";
+    FunctionInArgument = 9, "a function application stands in an argument";
+    MetavariableOver31 = 10, "a metavariable's number is over 31";
+    TooManyConstraints = 11, "there is a 17th constraint";
+    BothWays = 12, "a metavariable stands both as a function and not";
+    TooManyFunctions = 13, "there are over 8 functions";
+    FaceTooLarge = 14, "a function's first application faces over 64 nodes";
+    NoAllowance = 15, "the allowance is 0";
+    NoSuchPlace = 16, "there is no such place or row in this problem";
+    NotASolution = 17, "the row is not a solution row";
+    BufferTooShort = 18, "the buffer is too short";
+    TextTooLong = 19, "the text has over 8,192 bytes";
+    TextMalformed = 20, "the text is not values, bodies and open metavariables with their contents, at most 32 deep and numbered at most 31";
+}
+
+impl Refusal {
+    /// Document 01's number for it.
+    pub fn number(self) -> u8 {
+        self as u8
+    }
+
+    /// The refusal that has the number, if one has.
+    pub fn numbered(number: u32) -> Option<Refusal> {
+        Refusal::ALL.iter().copied().find(|r| u32::from(r.number()) == number)
+    }
+}
+
+impl fmt::Display for Refusal {
+    fn fmt(&self, f: &mut fmt::Formatter) -> fmt::Result {
+        write!(f, "refused {}: {}", self.number(), self.meaning())
+    }
+}
+
+impl std::error::Error for Refusal {}
+
+#[cfg(test)]
+mod tests {
+    use super::Refusal;
+
+    /// The numbers run from 1 on without a gap, and each leads back to its refusal.
+    #[test]
+    fn numbers_lead_back() {
+        for (k, refusal) in Refusal::ALL.iter().enumerate() {
+            assert_eq!(usize::from(refusal.number()), k + 1);
+            assert_eq!(Refusal::numbered(k as u32 + 1), Some(*refusal));
+        }
+        assert_eq!(Refusal::numbered(0), None);
+        assert_eq!(Refusal::numbered(Refusal::ALL.len() as u32 + 1), None);
+    }
+}

@@ -1,0 +1,99 @@
+//! The search: calls that can be stopped and resumed, and the iterator made of them.
+
+use crate::problem::{refused, Problem};
+use crate::raw::{self, PLACE_WORDS};
+use crate::refusal::Refusal;
+use crate::saved::{self, SAVED_BYTES};
+use crate::solution::Solution;
+
+/// The rows that the iterator allows each of its calls.
+pub const ALLOWANCE: u32 = 1_000_000;
+
+/// A search of a problem: a place in the list of its rows. As an iterator it gives the solutions from there on, and makes
+/// as many calls as that takes.
+///
+/// A problem may have far more rows than anyone can wait for. A host that wants to stay in charge makes the calls itself,
+/// with [`Search::call`].
+#[derive(Clone, Debug)]
+pub struct Search<'p> {
+    problem: &'p Problem,
+    place: [u64; PLACE_WORDS],
+    /// How many solutions came before the place.
+    found: u64,
+}
+
+/// What one call of a search gives.
+#[derive(Clone, Debug, PartialEq, Eq)]
+pub enum Step<'p> {
+    /// The first solution at or after the place; the search has moved to the row after it.
+    Found(Solution<'p>),
+    /// At least as many rows as allowed were passed, with no solution among them, and the search has moved past them.
+    Paused,
+    /// There is none at or after the place.
+    End,
+}
+
+impl<'p> Search<'p> {
+    pub(crate) fn at(problem: &'p Problem, place: [u64; PLACE_WORDS], found: u64) -> Search<'p> {
+        Search { problem, place, found }
+    }
+
+    /// Looks for the next solution, and pauses after `allowance` rows without one. Refused only where the allowance is 0;
+    /// the search then stays where it is.
+    ///
+    /// ```
+    /// use matcher::{Problem, Refusal, Step};
+    ///
+    /// let problem = Problem::new(&[])?; // no constraint: one solution, the empty text
+    /// let mut search = problem.search();
+    /// assert_eq!(search.call(0), Err(Refusal::NoAllowance));
+    /// let Step::Found(solution) = search.call(1)? else { panic!() };
+    /// assert_eq!(solution.text(), []);
+    /// assert_eq!(search.call(1)?, Step::End);
+    /// # Ok::<(), Refusal>(())
+    /// ```
+    pub fn call(&mut self, allowance: u32) -> Result<Step<'p>, Refusal> {
+        let mut row = [0; PLACE_WORDS];
+        match raw::search(self.problem.bytes(), &mut self.place, &mut row, allowance) {
+            raw::FOUND => {
+                self.found = self.found.saturating_add(1);
+                Ok(Step::Found(Solution::of(self.problem, row, self.found)))
+            }
+            raw::PAUSED => Ok(Step::Paused),
+            raw::END => Ok(Step::End),
+            other => Err(refused(other)),
+        }
+    }
+
+    /// How many solutions came before the place that the search is at, those before it was suspended included.
+    pub fn found(&self) -> u64 {
+        self.found
+    }
+
+    /// The search as bytes, for [`Problem::resume`]. They hold the place, how many solutions came before it, and a mark of
+    /// the problem, so that they are not taken for a place in another one. The problem's own bytes are not among them.
+    pub fn suspend(&self) -> [u8; SAVED_BYTES] {
+        saved::bytes(&self.place, self.found, self.problem.bytes())
+    }
+
+    /// Whether the problem has the place: a call there is not refused.
+    pub(crate) fn stands(&self) -> bool {
+        self.clone().call(1).is_ok()
+    }
+}
+
+impl<'p> Iterator for Search<'p> {
+    type Item = Solution<'p>;
+
+    fn next(&mut self) -> Option<Solution<'p>> {
+        loop {
+            match self.call(ALLOWANCE).expect("the allowance is above 0") {
+                Step::Found(solution) => return Some(solution),
+                Step::Paused => (),
+                Step::End => return None,
+            }
+        }
+    }
+}
+
+impl std::iter::FusedIterator for Search<'_> {}

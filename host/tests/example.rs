@@ -1,0 +1,79 @@
+//! The example program: it stops, saves its place, and goes on in another process.
+
+use std::path::{Path, PathBuf};
+use std::process::{Command, Output};
+
+/// A folder of this test's own, gone when it ends.
+struct Folder(PathBuf);
+
+impl Folder {
+    fn new(name: &str) -> Folder {
+        let path = std::env::temp_dir().join(format!("{name}-{}", std::process::id()));
+        std::fs::create_dir_all(&path).expect("a folder can be made");
+        Folder(path)
+    }
+}
+
+impl Drop for Folder {
+    fn drop(&mut self) {
+        let _ = std::fs::remove_dir_all(&self.0);
+    }
+}
+
+/// cargo builds examples beside its tests.
+fn program() -> PathBuf {
+    let test = std::env::current_exe().expect("a test has a path");
+    let built = test
+        .ancestors()
+        .nth(2)
+        .expect("it stands in deps/ of the folder of what is built");
+    built.join("examples/stop_and_resume")
+}
+
+fn run(problem: &Path, saved: &Path, count: &str) -> Output {
+    Command::new(program())
+        .args([problem.as_os_str(), saved.as_os_str(), count.as_ref()])
+        .output()
+        .expect("it starts")
+}
+
+fn printed(output: &Output) -> String {
+    assert!(output.status.success(), "{}", String::from_utf8_lossy(&output.stderr));
+    String::from_utf8_lossy(&output.stdout).into_owned()
+}
+
+#[test]
+fn it_stops_and_goes_on() {
+    let folder = Folder::new("stop_and_resume");
+    let (problem, saved) = (folder.0.join("problem"), folder.0.join("saved"));
+    std::fs::write(&problem, [7, 0, 13, 6, 0, 5, 0, 5, 0, 1, 1, 1, 0, 2, 0, 5]).unwrap();
+    assert_eq!(printed(&run(&problem, &saved, "0")), "stopped after 0\n");
+    assert_eq!(
+        printed(&run(&problem, &saved, "1")),
+        "solution 1:090004000A0000080006010100020005\nstopped after 1\n"
+    );
+    assert_eq!(
+        printed(&run(&problem, &saved, "5")),
+        "solution 2:0900060001000200050B000101\nend 2\n"
+    );
+    assert_eq!(printed(&run(&problem, &saved, "5")), "end 2\n");
+}
+
+#[test]
+fn it_tells_what_is_wrong_and_loses_nothing() {
+    let folder = Folder::new("stop_and_resume_bad");
+    let (problem, saved) = (folder.0.join("problem"), folder.0.join("saved"));
+    std::fs::write(&problem, [7, 0, 1]).unwrap();
+    std::fs::write(&saved, b"not a place").unwrap();
+    let told = |count: &str| {
+        let output = run(&problem, &saved, count);
+        assert_eq!(output.status.code(), Some(1));
+        assert!(output.stdout.is_empty());
+        String::from_utf8_lossy(&output.stderr).into_owned()
+    };
+    assert!(told("1").contains("refused 3: a field's length goes past the enclosing end"));
+    assert!(told("many").contains("COUNT is a number, not 'many'"));
+    std::fs::write(&problem, []).unwrap();
+    assert!(told("1").contains("a suspended search has 100 bytes"));
+    assert_eq!(std::fs::read(&saved).unwrap(), b"not a place");
+}
