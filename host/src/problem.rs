@@ -19,10 +19,13 @@ impl Problem {
     /// ```
     /// use matcher::{Problem, Refusal};
     ///
+    /// // no constraint: accepted, and there is one solution, the empty one
+    /// assert_eq!(Problem::new(&[])?.search().count(), 1);
     /// // a constraint whose length goes past the end
     /// let refusal = Problem::new(&[7, 0, 1]).unwrap_err();
     /// assert_eq!(refusal, Refusal::LengthPastEnd);
     /// assert_eq!(refusal.to_string(), "refused 3: a field's length goes past the enclosing end");
+    /// # Ok::<(), Refusal>(())
     /// ```
     pub fn new(bytes: &[u8]) -> Result<Problem, Refusal> {
         let mut start = [0; PLACE_WORDS];

@@ -22,6 +22,7 @@ fn solutions_have_numbers_and_holes() {
 fn a_search_goes_on_where_it_was_suspended() {
     let problem = Problem::new(&FOUR).unwrap();
     let whole: Vec<Vec<u8>> = problem.search().map(|s| s.text()).collect();
+    assert_eq!(whole.len(), 4);
     for stop in 0..=whole.len() {
         let mut search = problem.search();
         let mut texts: Vec<Vec<u8>> = search.by_ref().take(stop).map(|s| s.text()).collect();
@@ -75,6 +76,7 @@ fn texts_are_checked() {
 
 #[test]
 fn a_refusal_says_what_it_means() {
+    assert_eq!(Problem::new(&FOUR).map(|problem| problem.search().count()), Ok(4));
     let refusal = Problem::new(&FOUR[..29]).unwrap_err();
     assert_eq!(refusal, Refusal::LengthPastEnd);
     assert_eq!(

@@ -12,6 +12,7 @@ pub mod features;
 pub mod generate;
 pub mod hex;
 pub mod lists;
+pub mod outline;
 pub mod places;
 pub mod random;
 pub mod report;

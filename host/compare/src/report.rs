@@ -1,6 +1,7 @@
 //! What a comparison tells: where two implementations differ, and what it has met.
 
 use crate::hex::hex;
+use crate::outline::outline;
 use second::Problem;
 use std::collections::BTreeMap;
 
@@ -8,7 +9,7 @@ use std::collections::BTreeMap;
 pub fn differ(problem: &[u8], what: &str) -> String {
     let readable = match Problem::read(problem) {
         Ok(read) => read.to_string(),
-        Err(refusal) => format!("refused {refusal}"),
+        Err(refusal) => format!("refused {refusal}: {}", outline(problem)),
     };
     format!("{what}\nproblem {}\nthat is {readable}", hex(problem))
 }

@@ -2,6 +2,7 @@
 
 use compare::generate;
 use compare::random::Random;
+use compare::report::differ;
 use compare::tree;
 use compare::vectors;
 use std::io::Write;
@@ -59,7 +60,12 @@ fn it_lists_as_the_second_implementation_does() {
         }
         let expected = vectors::readings(&problem);
         solutions += expected.matches("solution").count();
-        assert_eq!(listed(&program, &problem), expected, "seed {seed}");
+        assert_eq!(
+            listed(&program, &problem),
+            expected,
+            "seed {seed}: {}",
+            differ(&problem, "the C example")
+        );
     }
     assert_eq!(listed(&program, &[0; 4097]), "refused 1\n");
     let _ = std::fs::remove_file(&program);

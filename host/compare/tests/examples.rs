@@ -109,6 +109,7 @@ fn a_function_and_a_symbol() {
 #[test]
 fn two_values() {
     lists(&[(meta(X), s(1)), (meta(X), s(2))], &[]);
+    lists(&[(meta(X), s(1)), (meta(X), s(1))], &[vec![value(X, s(1))]]);
 }
 
 #[test]

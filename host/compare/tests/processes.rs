@@ -3,6 +3,7 @@
 use compare::generate;
 use compare::hex::hex;
 use compare::random::Random;
+use compare::report::differ;
 use compare::tree;
 use second::Problem;
 use std::io::Write;
@@ -72,7 +73,7 @@ fn the_same_list_from_many_processes() {
             .map(|s| hex(&s.text))
             .collect();
         let (texts, paused) = listed(&problem, &mut random);
-        assert_eq!(texts, expected, "seed {seed}: {} that is {read}", hex(&problem));
+        assert_eq!(texts, expected, "seed {seed}: {}", differ(&problem, "the list"));
         solutions += texts.len();
         pauses += paused;
     }

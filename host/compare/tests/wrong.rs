@@ -1,7 +1,7 @@
 //! No comparison would pass a useless matcher, and every wrong one is caught by some comparison.
 
 use compare::report::Tally;
-use compare::subject::Subject;
+use compare::subject::{Proved, Subject};
 use compare::wrong::Wrong;
 use compare::{calls, damage, lists, places, texts};
 use std::ops::Range;
@@ -18,8 +18,16 @@ const COMPARISONS: [(&str, Comparison); 5] = [
 
 const SEEDS: Range<u64> = 500_000..501_000;
 
+/// The proved matcher passes here: what is caught below is the fault and nothing else.
+fn the_proved_one_passes() {
+    for (name, comparison) in COMPARISONS {
+        comparison(&Proved, SEEDS).unwrap_or_else(|difference| panic!("{name}: {difference}"));
+    }
+}
+
 #[test]
 fn every_comparison_catches_the_useless_matchers() {
+    the_proved_one_passes();
     for wrong in [Wrong::Refuses, Wrong::Ends] {
         for (name, comparison) in COMPARISONS {
             assert!(comparison(&wrong, SEEDS).is_err(), "{name} passes {wrong:?}");
@@ -29,6 +37,7 @@ fn every_comparison_catches_the_useless_matchers() {
 
 #[test]
 fn every_wrong_matcher_is_caught() {
+    the_proved_one_passes();
     for wrong in Wrong::ALL {
         let caught = COMPARISONS
             .iter()
