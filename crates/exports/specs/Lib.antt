@@ -1,2 +1,3 @@
 -- What the C interface promises.
 pub mod Exported
+pub mod Numbers
