@@ -20,7 +20,7 @@ use Rattle.lockstep.proofs.Answers.{Found}
 use Rattle.said.specs.declared.Said.{Said}
 use Rattle.filled.specs.Filled.{spanAcross, walkAcross, valueAt, numberAt, facedValueAt, argumentAt, holeAt, bodyAt, applicationAt}
 use Rattle.filled.specs.Filled.{faceAt}
-use Rattle.filled.specs.Ready.{Crossing, Tables, Text, SaidOf, Faced, Argued, ArguedAt, Bodied, Applied}
+use Rattle.filled.specs.Ready.{Crossing, ProblemTables, Text, SaidOf, Faced, Argued, ArguedAt, Bodied, Applied}
 use Rattle.filled.proofs.Cases.{without-body, with-body, plain-face, applied-face}
 
 -- ---- the walk of two subterms, from the parts of their tokens
@@ -84,8 +84,8 @@ module _ {ready : ℕ → Type 0} {test : ℕ → Bool} {ns : List ℕ} {k : ℕ
           })
 
 -- What is lent keeps its length
-pub tables-again : (ps es old new : List ℕ) → Tables ps es old → length new ≡ length old → Tables ps es new
-tables-again ps es old new t e =
+pub problem-again : (ps es old new : List ℕ) → ProblemTables ps es old → length new ≡ length old → ProblemTables ps es new
+problem-again ps es old new t e =
     record { patterns = t .patterns; expressions = t .expressions; room = subst (λ (n : ℕ). length ps ≤ n) (sym e) (t .room) }
 
 pub text-again : (ts old new : List ℕ) → Text ts old → length new ≡ length old → Text ts new

@@ -39,7 +39,7 @@ use Rattle.sources.proofs.RecordedDemands.{slot-fits}
 use Rattle.said.specs.Said.{SaidBy}
 use Rattle.said.specs.declared.Said.{Said}
 use Rattle.filled.specs.Filled.{facedValueAt, applicationAt, faceAt, filledAt}
-use Rattle.filled.specs.Ready.{Tables, Text, Slotted}
+use Rattle.filled.specs.Ready.{ProblemTables, Text, Slotted}
 use Rattle.filled.specs.Grounded.{Grounded}
 use Rattle.filled.proofs.Cases.{plain-face, applied-face}
 use Rattle.filled.proofs.Deciding.{Decides, fill-decided}
@@ -148,7 +148,7 @@ meets-disagree p σ e =
 
 -- THE CODE CAN BE CALLED
 module _ (ps es ns ts : List ℕ) (s : Said) (holes scratch : List ℕ) (g : Grounded ps es ns ts s holes scratch) where
-  pub grounded-tables : Tables ps es scratch
+  pub grounded-tables : ProblemTables ps es scratch
   grounded-tables = record {
     patterns = subst Table (sym (g .patterns)) (pattern-table (g .problem) (g .accepted .within));
     expressions = subst Table (sym (g .expressions)) (expression-table (g .problem) (g .accepted .within));

@@ -1,7 +1,7 @@
 -- What the code asks of the tables, said of the numbers alone. The tables of a problem and of a text have all of it (`grounded-slots`, in
 -- proofs/Meaning).
 --   Crossing   two subterms that can be walked together, with room for the faces
---   Tables     the tables of the problem, with room for the faces of an argument; Text, that of the text, with room for those of a body
+--   ProblemTables   those of the problem, with room for the faces of an argument; Text, that of the text, with room for those of a body
 --   SaidOf     a metavariable's number, and where it is given a value, that stands in the text's table
 --   Faced      a recorded face can be looked up
 --   Argued     an argument and what stands across can be walked, and each face that is recorded be looked up
@@ -27,7 +27,7 @@ pub record Crossing (t : List ℕ) (i : ℕ) (u : List ℕ) (j : ℕ) (out : Lis
   pub across : j < length u
   pub room : length t ≤ length out
 
-pub record Tables (ps es scratch : List ℕ) : Type 0 where
+pub record ProblemTables (ps es scratch : List ℕ) : Type 0 where
   pub patterns : Table ps
   pub expressions : Table es
   pub room : length ps ≤ length scratch

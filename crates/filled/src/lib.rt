@@ -14,7 +14,7 @@ ghost use Rattle.meaning.specs.Basics.{All, every};
 ghost use Rattle.tokens.specs.Key.{Inside};
 ghost use Rattle.lockstep.specs.Span.{Walked};
 ghost use Rattle.filled.specs.Filled.{walkAcross, valueAt, facedValueAt, argumentAt, holeAt, bodyAt, applicationAt, faceAt, filledAt};
-ghost use Rattle.filled.specs.Ready.{Crossing, Tables, Text, SaidOf, Faced, Argued, ArguedAt, Bodied, Applied, Slotted};
+ghost use Rattle.filled.specs.Ready.{Crossing, ProblemTables, Text, SaidOf, Faced, Argued, ArguedAt, Bodied, Applied, Slotted};
 ghost use Rattle.filled.specs.Grounded.{Grounded};
 
 // The tags of a text's fields that have a term.
@@ -85,7 +85,7 @@ fn argument_is(
     node: usize,
     scratch: &mut [u64],
 ) -> bool
-    requires { ⌜ Tables (now ps) (now es) (now scratch) × Argued (now ps) (now es) (now ts) said i node ⌝ }
+    requires { ⌜ ProblemTables (now ps) (now es) (now scratch) × Argued (now ps) (now es) (now ts) said i node ⌝ }
     ensures { λ r. ⌜ r ≡ argumentAt (now (ps .entry)) (now (es .entry)) (now (ts .entry)) said i node ⌝ }
 {
     match walk_across(ps, i, es, node, scratch) {
@@ -104,7 +104,7 @@ fn arguments_are(
     holes: &[u64],
     scratch: &mut [u64],
 ) -> bool
-    requires { ⌜ Tables (now ps) (now es) (now scratch) × All (ArguedAt (now ps) (now es) (now ts) said i) (now holes) ⌝ }
+    requires { ⌜ ProblemTables (now ps) (now es) (now scratch) × All (ArguedAt (now ps) (now es) (now ts) said i) (now holes) ⌝ }
     ensures { λ r. ⌜ r ≡ every (holeAt (now (ps .entry)) (now (es .entry)) (now (ts .entry)) said i) (now (holes .entry)) ⌝ }
 {
     let mut k = 0;
@@ -130,7 +130,7 @@ fn body_is(
     holes: &mut [u64],
     scratch: &mut [u64],
 ) -> bool
-    requires { ⌜ Tables (now ps) (now es) (now scratch) × Text (now ts) (now holes) × Bodied (now ps) (now es) (now ts) said b i node ⌝ }
+    requires { ⌜ ProblemTables (now ps) (now es) (now scratch) × Text (now ts) (now holes) × Bodied (now ps) (now es) (now ts) said b i node ⌝ }
     ensures { λ r. ⌜ r ≡ bodyAt (now (ps .entry)) (now (es .entry)) (now (ts .entry)) said b i node ⌝ }
 {
     match walk_across(ts, b, es, node, holes) {
@@ -149,7 +149,7 @@ fn application_is(
     holes: &mut [u64],
     scratch: &mut [u64],
 ) -> bool
-    requires { ⌜ Tables (now ps) (now es) (now scratch) × Text (now ts) (now holes) × Applied (now ps) (now es) (now ts) said face ⌝ }
+    requires { ⌜ ProblemTables (now ps) (now es) (now scratch) × Text (now ts) (now holes) × Applied (now ps) (now es) (now ts) said face ⌝ }
     ensures { λ r. ⌜ r ≡ applicationAt (now (ps .entry)) (now (es .entry)) (now (ts .entry)) said face ⌝ }
 {
     let i = (face % 65536) as usize;
@@ -172,7 +172,7 @@ fn face_is(
     holes: &mut [u64],
     scratch: &mut [u64],
 ) -> bool
-    requires { ⌜ Tables (now ps) (now es) (now scratch) × Text (now ts) (now holes) × Slotted (now ps) (now es) (now ts) said face ⌝ }
+    requires { ⌜ ProblemTables (now ps) (now es) (now scratch) × Text (now ts) (now holes) × Slotted (now ps) (now es) (now ts) said face ⌝ }
     ensures { λ r. ⌜ r ≡ faceAt (now (ps .entry)) (now (es .entry)) (now (ts .entry)) said face ⌝ }
 {
     if tag(ps[(face % 65536) as usize]) != 6 {

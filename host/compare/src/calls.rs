@@ -3,12 +3,13 @@
 
 use crate::generate;
 use crate::random::Random;
-use crate::report::{differ, same, Tally};
+use crate::report::{differ, each_seed, same, Tally};
 use crate::subject::{words, Subject, Words, PAST, UNTOUCHED};
 use crate::tree;
 use matcher::raw::{END, FOUND, OK, PAUSED};
 use second::Problem;
 use std::collections::HashMap;
+use std::ops::Range;
 
 /// Problems with more rows than this are left out.
 const MOST_ROWS: usize = 2_000;
@@ -48,29 +49,17 @@ impl Rows {
 }
 
 /// Makes a random list of calls on each seed's problem.
-pub fn random(subject: &dyn Subject, seeds: std::ops::Range<u64>) -> Result<Tally, String> {
-    let mut tally = Tally::default();
-    for seed in seeds {
-        let mut random = Random::new(seed);
-        let made = generate::problem(&mut random);
-        let problem = tree::problem(&made.constraints);
-        let Some(rows) = Problem::read(&problem).ok().and_then(|read| Rows::of(&read)) else {
-            tally.count("left out");
-            continue;
-        };
-        let mut list = Calls {
-            subject,
-            problem: &problem,
-            rows: &rows,
-            at: 0,
-            place: UNTOUCHED,
-            found: Vec::new(),
-            ended: false,
-        };
-        list.run(&mut random, &mut tally)
-            .map_err(|e| format!("seed {seed}: {e}"))?;
-    }
-    Ok(tally)
+pub fn random(subject: &dyn Subject, seeds: Range<u64>) -> Result<Tally, String> {
+    each_seed(seeds, |random, tally| {
+        let problem = tree::problem(&generate::problem(random).constraints);
+        match Problem::read(&problem).ok().and_then(|read| Rows::of(&read)) {
+            Some(rows) => Calls::new(subject, &problem, &rows).run(random, tally),
+            None => {
+                tally.count("left out");
+                Ok(())
+            }
+        }
+    })
 }
 
 /// A list of calls under way.
@@ -86,7 +75,19 @@ struct Calls<'a> {
     ended: bool,
 }
 
-impl Calls<'_> {
+impl<'a> Calls<'a> {
+    fn new(subject: &'a dyn Subject, problem: &'a [u8], rows: &'a Rows) -> Calls<'a> {
+        Calls {
+            subject,
+            problem,
+            rows,
+            at: 0,
+            place: UNTOUCHED,
+            found: Vec::new(),
+            ended: false,
+        }
+    }
+
     /// Calls with random allowances: so many above 0 that End must come, and refused ones between them.
     fn run(&mut self, random: &mut Random, tally: &mut Tally) -> Result<(), String> {
         same(

@@ -3,21 +3,18 @@
 use crate::generate::{self, Made};
 use crate::lists;
 use crate::random::Random;
-use crate::report::{same, Tally};
+use crate::report::{each_seed, same, Tally};
 use crate::subject::{Subject, UNTOUCHED};
 use crate::tree::{self, field, Tree};
 use second::Problem;
+use std::ops::Range;
 
 /// Damages each seed's problem in some way and compares what is made of it.
-pub fn random(subject: &dyn Subject, seeds: std::ops::Range<u64>) -> Result<Tally, String> {
-    let mut tally = Tally::default();
-    for seed in seeds {
-        let mut random = Random::new(seed);
-        let made = generate::problem(&mut random);
-        let problem = damaged(&mut random, made);
-        compare(subject, &problem, &mut tally).map_err(|e| format!("seed {seed}: {e}"))?;
-    }
-    Ok(tally)
+pub fn random(subject: &dyn Subject, seeds: Range<u64>) -> Result<Tally, String> {
+    each_seed(seeds, |random, tally| {
+        let made = generate::problem(random);
+        compare(subject, &damaged(random, made), tally)
+    })
 }
 
 fn compare(subject: &dyn Subject, problem: &[u8], tally: &mut Tally) -> Result<(), String> {

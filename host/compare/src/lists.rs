@@ -3,27 +3,25 @@
 use crate::features::FEATURES;
 use crate::generate;
 use crate::hex::hex;
-use crate::random::Random;
-use crate::report::{differ, same, Tally};
+use crate::report::{differ, each_seed, same, Tally};
 use crate::subject::{place, words, Subject, Words, PAST, UNTOUCHED};
 use crate::tree::{self, Entry};
 use matcher::raw::{END, FOUND, LARGEST_TEXT, OK};
 use second::{Problem, Solution};
+use std::ops::Range;
 
 /// Problems with more rows than this are left out: a list that is walked to its end shall end soon.
 pub const MOST_ROWS: usize = 20_000;
 
 /// Compares the lists of random problems, one for each seed.
-pub fn random(subject: &dyn Subject, seeds: std::ops::Range<u64>) -> Result<Tally, String> {
-    let mut tally = Tally::default();
-    for seed in seeds {
-        let made = generate::problem(&mut Random::new(seed));
+pub fn random(subject: &dyn Subject, seeds: Range<u64>) -> Result<Tally, String> {
+    each_seed(seeds, |random, tally| {
+        let made = generate::problem(random);
         for (feature, has) in FEATURES {
             tally.add(feature, usize::from(has(&made)));
         }
-        whole(subject, &tree::problem(&made.constraints), &mut tally).map_err(|e| format!("seed {seed}: {e}"))?;
-    }
-    Ok(tally)
+        whole(subject, &tree::problem(&made.constraints), tally)
+    })
 }
 
 /// Compares the whole list of one problem.

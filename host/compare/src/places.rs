@@ -5,34 +5,30 @@ use crate::generate;
 use crate::hex::hex;
 use crate::lists::MOST_ROWS;
 use crate::random::Random;
-use crate::report::{same, Tally};
+use crate::report::{each_seed, same, Tally};
 use crate::subject::{named, words, Subject, PAST, UNTOUCHED};
 use crate::tree;
 use matcher::raw::{END, FOUND, LARGEST_TEXT, OK, PLACE_WORDS};
 use second::{Problem, Row, Solution};
+use std::ops::Range;
 
 /// Places to each problem.
 const PLACES: usize = 8;
 
 /// Hands random words to each seed's problem.
-pub fn random(subject: &dyn Subject, seeds: std::ops::Range<u64>) -> Result<Tally, String> {
-    let mut tally = Tally::default();
-    for seed in seeds {
-        let mut random = Random::new(seed);
-        let made = generate::problem(&mut random);
-        let problem = tree::problem(&made.constraints);
-        let Some(known) = Known::of(&problem) else { continue };
+pub fn random(subject: &dyn Subject, seeds: Range<u64>) -> Result<Tally, String> {
+    each_seed(seeds, |random, tally| {
+        let problem = tree::problem(&generate::problem(random).constraints);
+        let Some(known) = Known::of(&problem) else {
+            return Ok(());
+        };
         for _ in 0..PLACES {
-            let place = known.some_place(&mut random);
-            known
-                .searched(subject, &place, &mut tally)
-                .map_err(|e| format!("seed {seed}: {e}"))?;
-            known
-                .written(subject, &place, &mut random, &mut tally)
-                .map_err(|e| format!("seed {seed}: {e}"))?;
+            let place = known.some_place(random);
+            known.searched(subject, &place, tally)?;
+            known.written(subject, &place, random, tally)?;
         }
-    }
-    Ok(tally)
+        Ok(())
+    })
 }
 
 /// A problem with its rows and its list.

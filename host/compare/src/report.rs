@@ -2,8 +2,10 @@
 
 use crate::hex::hex;
 use crate::outline::outline;
+use crate::random::Random;
 use second::Problem;
 use std::collections::BTreeMap;
+use std::ops::Range;
 
 /// A difference, in words, with the problem in hexadecimal and in readable notation.
 pub fn differ(problem: &[u8], what: &str) -> String {
@@ -21,6 +23,18 @@ pub fn same<T: PartialEq + std::fmt::Debug>(problem: &[u8], what: &str, got: T, 
     } else {
         Err(differ(problem, &format!("{what}: got {got:?}, expected {expected:?}")))
     }
+}
+
+/// Makes a comparison with the generator of each seed, and names the seed where it fails.
+pub fn each_seed(
+    seeds: Range<u64>,
+    compare: impl Fn(&mut Random, &mut Tally) -> Result<(), String>,
+) -> Result<Tally, String> {
+    let mut tally = Tally::default();
+    for seed in seeds {
+        compare(&mut Random::new(seed), &mut tally).map_err(|difference| format!("seed {seed}: {difference}"))?;
+    }
+    Ok(tally)
 }
 
 /// How often a comparison met each case. A case that is never met is not compared.

@@ -3,29 +3,29 @@
 use crate::generate::{self, Made};
 use crate::lists::MOST_ROWS;
 use crate::random::Random;
-use crate::report::{differ, Tally};
+use crate::report::{differ, each_seed, Tally};
 use crate::subject::Subject;
 use crate::tree::{self, Entry, Tree};
 use matcher::raw::{LARGEST_TEXT, NO, YES};
 use second::Problem;
+use std::ops::Range;
 
 /// Texts to each problem.
 const TEXTS: usize = 8;
 
 /// Checks random texts on each seed's problem.
-pub fn random(subject: &dyn Subject, seeds: std::ops::Range<u64>) -> Result<Tally, String> {
-    let mut tally = Tally::default();
-    for seed in seeds {
-        let mut random = Random::new(seed);
-        let made = generate::problem(&mut random);
+pub fn random(subject: &dyn Subject, seeds: Range<u64>) -> Result<Tally, String> {
+    each_seed(seeds, |random, tally| {
+        let made = generate::problem(random);
         let problem = tree::problem(&made.constraints);
-        let Ok(read) = Problem::read(&problem) else { continue };
-        for base in bases(&mut random, &made, &read) {
-            let text = changed(&mut random, base);
-            compare(subject, &problem, &read, &text, &mut tally).map_err(|e| format!("seed {seed}: {e}"))?;
-        }
-    }
-    Ok(tally)
+        let Ok(read) = Problem::read(&problem) else {
+            return Ok(());
+        };
+        let fillings = fillings(random, &made, &read);
+        fillings
+            .into_iter()
+            .try_for_each(|filling| compare(subject, &problem, &read, &changed(random, filling), tally))
+    })
 }
 
 fn compare(
@@ -61,7 +61,7 @@ fn compare(
 }
 
 /// Fillings that are solutions, or were meant to be one.
-fn bases(random: &mut Random, made: &Made, read: &Problem) -> Vec<Vec<Entry>> {
+fn fillings(random: &mut Random, made: &Made, read: &Problem) -> Vec<Vec<Entry>> {
     let listed = read
         .rows(MOST_ROWS)
         .and_then(|_| read.solutions(MOST_ROWS))

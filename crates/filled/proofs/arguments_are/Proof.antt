@@ -6,7 +6,7 @@ use lib.ListN.{length}
 use borrow.Author.Needs.{needs}
 use Rattle.filled.specs.Filled.{holeAt}
 use Rattle.filled.specs.Ready.{ArguedAt}
-use Rattle.filled.proofs.CodeLaws.{Testing, testing-ready, testing-fails, testing-goes, testing-ends, tables-again}
+use Rattle.filled.proofs.CodeLaws.{Testing, testing-ready, testing-fails, testing-goes, testing-ends, problem-again}
 use Rattle.filled.proofs.arguments_are.Statement.{statement}
 use Rattle.filled.proofs.arguments_are.Tie as tie
 
@@ -32,7 +32,7 @@ argument-is-requires c κs =
     let l = t .before in
     let s = l .before .before .before .before .before .before in
     let a = s .args in (
-      tables-again (a .ps .now) (a .es .now) (a .scratch .now) (l .loop .scratch) (s .pre .0) (l .loop .inv .0),
+      problem-again (a .ps .now) (a .es .now) (a .scratch .now) (l .loop .scratch) (s .pre .0) (l .loop .inv .0),
       testing-ready (l .loop .inv .1) (t .loop-test .taken),
     )
 

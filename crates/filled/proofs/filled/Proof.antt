@@ -6,7 +6,7 @@ use lib.ListN.{length}
 use borrow.Author.Needs.{needs}
 use Rattle.filled.specs.Filled.{faceAt, filledAt}
 use Rattle.filled.specs.Ready.{Slotted}
-use Rattle.filled.proofs.CodeLaws.{Testing, testing-ready, testing-fails, testing-goes, testing-ends, tables-again, text-again}
+use Rattle.filled.proofs.CodeLaws.{Testing, testing-ready, testing-fails, testing-goes, testing-ends, problem-again, text-again}
 use Rattle.filled.proofs.Meaning.{grounded-tables, grounded-text, grounded-slots}
 use Rattle.filled.proofs.filled.Statement.{statement}
 use Rattle.filled.proofs.filled.Tie as tie
@@ -42,7 +42,7 @@ face-is-requires c κs =
     let l = t .before in
     let s = l .before .before .before .before .before .before .before in
     let a = s .args in (
-      tables-again (a .ps .now) (a .es .now) (a .scratch .now) (l .loop .scratch)
+      problem-again (a .ps .now) (a .es .now) (a .scratch .now) (l .loop .scratch)
           (grounded-tables (a .ps .now) (a .es .now) (a .faces .now) (a .ts .now) (a .said) (a .holes .now) (a .scratch .now) (s .pre))
           (l .loop .inv .1),
       text-again (a .ts .now) (a .holes .now) (l .loop .holes)
