@@ -21,3 +21,15 @@ pub mod texts;
 pub mod tree;
 pub mod vectors;
 pub mod wrong;
+
+/// A comparison of random inputs, one for each seed.
+pub type Comparison = fn(&dyn subject::Subject, std::ops::Range<u64>) -> Result<report::Tally, String>;
+
+/// All of them, with their names.
+pub const COMPARISONS: [(&str, Comparison); 5] = [
+    ("lists", lists::random),
+    ("calls", calls::random),
+    ("damage", damage::random),
+    ("texts", texts::random),
+    ("places", places::random),
+];

@@ -1,20 +1,9 @@
 //! No comparison would pass a useless matcher, and every wrong one is caught by some comparison.
 
-use compare::report::Tally;
-use compare::subject::{Proved, Subject};
+use compare::subject::Proved;
 use compare::wrong::Wrong;
-use compare::{calls, damage, lists, places, texts};
+use compare::COMPARISONS;
 use std::ops::Range;
-
-type Comparison = fn(&dyn Subject, Range<u64>) -> Result<Tally, String>;
-
-const COMPARISONS: [(&str, Comparison); 5] = [
-    ("lists", lists::random),
-    ("calls", calls::random),
-    ("damage", damage::random),
-    ("texts", texts::random),
-    ("places", places::random),
-];
 
 const SEEDS: Range<u64> = 500_000..501_000;
 
