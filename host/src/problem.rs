@@ -77,3 +77,23 @@ impl Problem {
 pub(crate) fn refused(answer: u32) -> Refusal {
     Refusal::numbered(answer).unwrap_or_else(|| panic!("the matcher is proved not to answer {answer} here"))
 }
+
+#[cfg(test)]
+mod tests {
+    use super::*;
+
+    /// Bytes that were made up, with marks that are right, still name no place that the problem has not.
+    #[test]
+    fn a_place_that_is_made_up_is_told() {
+        let problem = Problem::new(&[]).expect("no constraint is a problem");
+        let [mut mask, mut flag] = [problem.start; 2];
+        mask[0] = 1;
+        flag[PLACE_WORDS - 1] = 2;
+        for place in [mask, flag] {
+            let saved = saved::bytes(&place, 0, problem.bytes());
+            assert_eq!(problem.resume(&saved).err(), Some(ResumeError::NoSuchPlace));
+        }
+        let saved = saved::bytes(&problem.start, 0, problem.bytes());
+        assert_eq!(problem.resume(&saved).map(Iterator::count), Ok(1));
+    }
+}
