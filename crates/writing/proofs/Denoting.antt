@@ -44,11 +44,11 @@ use Rattle.fit.proofs.Functions.{function-at, laid-own}
 use Rattle.copying.specs.Copied as copying
 use Rattle.copying.specs.Copied.{TermIn}
 use Rattle.copying.proofs.CopiedMeaning.{copied-choice, expression-in}
-use Rattle.writing.specs.Entries.{Denotes, DenotesAll, Planned, bodyAt, entryAt, valueAt}
-use Rattle.writing.specs.declared.entry.Plan.{Plan}
-use Rattle.writing.specs.declared.entry.Entry.{Entry}
-use Rattle.writing.specs.declared.entry.Entry.the-variants as entries
-use Rattle.writing.proofs.FieldLaws.{entryOr}
+use Rattle.composing.specs.Entries.{Denotes, DenotesAll, Planned, bodyAt, entryAt, valueAt}
+use Rattle.composing.specs.declared.entry.Plan.{Plan}
+use Rattle.composing.specs.declared.entry.Entry.{Entry}
+use Rattle.composing.specs.declared.entry.Entry.the-variants as entries
+use Rattle.composing.proofs.FieldLaws.{entryOr}
 
 module _ (p : Problem) (ps es ns : List ℕ) (o : Occurring) (firsts : Firsts) (l : Laid p ps es ns (o .functions) firsts)
     (survey : Surveyed (patternTokens p) o) (r : Row) (i : r ∈ rows p) (solved : solves p r ≡ true) (kept : Sources)

@@ -1,6 +1,3 @@
 -- Laws of writing.
-pub mod FieldLaws
-pub mod EntryLaws
 pub mod Denoting
-pub mod TextLaws
 pub mod WriteLaws

@@ -1,5 +1,5 @@
 -- A law for each return of the functions of `write`, in document 01's terms.
-use mathlib.Core.Path.{_≡_, ap, ap₂, sym, _∙_, subst}
+use mathlib.Core.Path.{_≡_, refl, ap, ap₂, sym, _∙_, subst}
 use mathlib.Core.Bool.{true, false, not, true≢false}
 use mathlib.Core.List.{List, _++_}
 use Prim.Native.Nat.{ℕ, _<_, _≤_}
@@ -40,13 +40,29 @@ use Rattle.fit.proofs.Meaning.{Judgement, judge-means}
 use Rattle.fit.proofs.Readiness.{laid-ready}
 use Rattle.search.specs.Calling.{Callable}
 use Rattle.search.proofs.CallLaws.{ready-laid}
-use Rattle.writing.specs.Entries.{DenotesAll, Planned, fieldsOf}
-use Rattle.writing.specs.Writing.{NamedWritten, RowCallable, RowWritten, TextAnswer, TextWritten, Writable, Writes}
-use Rattle.writing.specs.declared.entry.Plan.{Plan}
+use Rattle.composing.specs.Entries.{DenotesAll, Planned, fieldsOf}
+use Rattle.writing.specs.Writing.{NamedWritten, RowCallable, RowWritten, TextAnswer, TextWritten, Writes}
+use Rattle.composing.specs.Composing.{FieldsWritten, TextMeasured, Writable}
+use Rattle.composing.specs.declared.entry.Plan.{Plan}
 use Rattle.writing.specs.declared.write.Written.{Written}
 use Rattle.writing.specs.declared.write.Written.the-variants as answers
-use Rattle.writing.proofs.FieldLaws.{entryOr, row-fields}
+use Rattle.composing.proofs.FieldLaws.{entryOr, row-fields}
 use Rattle.writing.proofs.Denoting.{plan-denotes, plan-planned}
+
+-- "18 buffer too short", or the text
+module _ {es : List ℕ} {plan : Plan} where
+  pub text-short : {before : Bytes} {n : ℕ} → TextMeasured es plan n → length before < n
+      → TextWritten es plan before before (answers.Refused 18)
+  text-short h l = record { answer = λ says d. (refl, omega (arith, h .measured says d), refl) }
+
+  pub text-written : {before after : Bytes} {n r : ℕ} → TextMeasured es plan n → n ≤ length before → FieldsWritten es plan 0 before after r
+      → TextWritten es plan before after (answers.Wrote n)
+  text-written {before} h l f = record {
+    answer = λ says d.
+        let e = h .measured says d in
+        let (c, b) = f .wrote says d in
+        (omega arith, (e, b ∙ ap (λ (k : ℕ). fieldsOf says 0 ++ drop k before) (c ∙ sym e)));
+  }
 
 -- A prepared problem, and a row of it
 module _ (s : Bytes) (ps es fs ds : List ℕ) (a : Standing) (firsts : Firsts) (ready : Ready (accept s) ps es fs ds a firsts) (row : Place)

@@ -1,3 +1,2 @@
 -- Writing the text of a row.
-pub mod Entries
 pub mod Writing

@@ -1,9 +1,9 @@
 // Writing the text of a row, from any bytes and any row.
-use crate::entry::Plan;
-use crate::text::text_length;
-use crate::text::write_from;
 use accept::Standing;
 use accept::Verdict;
+use composing::entry::Plan;
+use composing::text::text_length;
+use composing::text::write_from;
 use faces::first::Firsts;
 use fit::judge;
 use places::Named;
@@ -12,7 +12,8 @@ use places::named_by;
 use prepare::prepare;
 use table::TABLE_ROOM;
 ghost use Rattle.search.specs.Calling.{Callable};
-ghost use Rattle.writing.specs.Writing.{Writable, TextWritten, RowCallable, RowWritten, NamedWritten, Writes};
+ghost use Rattle.composing.specs.Composing.{Writable};
+ghost use Rattle.writing.specs.Writing.{TextWritten, RowCallable, RowWritten, NamedWritten, Writes};
 
 // The text's length, or document 01's refusal by its number.
 pub enum Written {

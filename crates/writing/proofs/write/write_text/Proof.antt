@@ -1,5 +1,6 @@
 -- `write_text` meets its contract: the length first, and the text where it fits.
-use Rattle.writing.proofs.TextLaws.{text-room, text-short, text-written}
+use Rattle.composing.proofs.TextLaws.{text-room}
+use Rattle.writing.proofs.WriteLaws.{text-short, text-written}
 use borrow.Author.Needs.{needs}
 use Rattle.writing.proofs.write.write_text.Statement.{statement}
 use Rattle.writing.proofs.write.write_text.Tie as tie

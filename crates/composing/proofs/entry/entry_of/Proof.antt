@@ -1,8 +1,8 @@
 -- `entry_of` meets its contract: a function, another metavariable, or none of the problem's.
 use borrow.Author.Needs.{needs}
-use Rattle.writing.proofs.EntryLaws.{entry-function, entry-plain, entry-absent, rank-small}
-use Rattle.writing.proofs.entry.entry_of.Statement.{statement}
-use Rattle.writing.proofs.entry.entry_of.Tie as tie
+use Rattle.composing.proofs.EntryLaws.{entry-function, entry-plain, entry-absent, rank-small}
+use Rattle.composing.proofs.entry.entry_of.Statement.{statement}
+use Rattle.composing.proofs.entry.entry_of.Tie as tie
 
 -- src/entry.rt:62:8
 in-set-requires : tie.Need-in-set-requires

@@ -9,10 +9,10 @@ use Rattle.meaning.proofs.Lists.{choose-true, choose-false}
 use Rattle.tokens.specs.Key.{at}
 use Rattle.metavariables.specs.Survey.{count, has}
 use Rattle.sources.specs.Demand.{openNode}
-use Rattle.writing.specs.Entries.{Planned, bodyAt, entryAt, valueAt}
-use Rattle.writing.specs.declared.entry.Plan.{Plan}
-use Rattle.writing.specs.declared.entry.Entry.{Entry}
-use Rattle.writing.specs.declared.entry.Entry.the-variants as entries
+use Rattle.composing.specs.Entries.{Planned, bodyAt, entryAt, valueAt}
+use Rattle.composing.specs.declared.entry.Plan.{Plan}
+use Rattle.composing.specs.declared.entry.Entry.{Entry}
+use Rattle.composing.specs.declared.entry.Entry.the-variants as entries
 
 pub body-returned : (plan : Plan) (k : ℕ) → entries.Body (at (plan .nodes) k) (at (plan .row) k) ≡ bodyAt plan k
 unfolding bodyAt

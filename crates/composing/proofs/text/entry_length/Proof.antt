@@ -1,10 +1,10 @@
 -- `entry_length` meets its contract: a law for each kind of entry.
 use native.Mathlib.Omega.{arith}
-use Rattle.writing.proofs.TextLaws.{absent-length, body-length, body-measurable, measured-small, open-length}
-use Rattle.writing.proofs.TextLaws.{value-length, value-measurable}
+use Rattle.composing.proofs.TextLaws.{absent-length, body-length, body-measurable, measured-small, open-length}
+use Rattle.composing.proofs.TextLaws.{value-length, value-measurable}
 use borrow.Author.Needs.{needs}
-use Rattle.writing.proofs.text.entry_length.Statement.{statement}
-use Rattle.writing.proofs.text.entry_length.Tie as tie
+use Rattle.composing.proofs.text.entry_length.Statement.{statement}
+use Rattle.composing.proofs.text.entry_length.Tie as tie
 
 enum-told : tie.Need-enum-told
 enum-told c = search needs

@@ -2,10 +2,10 @@
 use mathlib.Core.Path.{_∙_}
 use native.Mathlib.Omega.{arith}
 use lib.ListN.{length-set}
-use Rattle.writing.proofs.TextLaws.{open-field}
+use Rattle.composing.proofs.TextLaws.{open-field}
 use borrow.Author.Needs.{needs}
-use Rattle.writing.proofs.text.write_open.Statement.{statement}
-use Rattle.writing.proofs.text.write_open.Tie as tie
+use Rattle.composing.proofs.text.write_open.Statement.{statement}
+use Rattle.composing.proofs.text.write_open.Tie as tie
 
 slice-write-out : tie.Need-slice-write-out
 slice-write-out c = search needs

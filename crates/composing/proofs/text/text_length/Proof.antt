@@ -3,11 +3,11 @@
 use Prim.Native.Nat.{_-_, _≤_}
 use native.Mathlib.Omega.{arith}
 use Rattle.meaning.specs.Limits.{metavariableCount}
-use Rattle.writing.proofs.TextLaws.{Counting, counting-begins, counting-ends, counting-goes-on, entry-at-there}
-use Rattle.writing.proofs.TextLaws.{entry-measured, sum-small}
+use Rattle.composing.proofs.TextLaws.{Counting, counting-begins, counting-ends, counting-goes-on, entry-at-there}
+use Rattle.composing.proofs.TextLaws.{entry-measured, sum-small}
 use borrow.Author.Needs.{needs}
-use Rattle.writing.proofs.text.text_length.Statement.{statement}
-use Rattle.writing.proofs.text.text_length.Tie as tie
+use Rattle.composing.proofs.text.text_length.Statement.{statement}
+use Rattle.composing.proofs.text.text_length.Tie as tie
 
 abbrev Inv-loop : tie.InvT-loop
 Inv-loop es plan m₀ n₀ m n = (m ≤ 32) × Counting es plan m n

@@ -1,8 +1,8 @@
 -- `write_entry` meets its contract: a law for each kind of entry.
-use Rattle.writing.proofs.TextLaws.{absent-written, body-room, body-written, open-room, open-written, value-room, value-written}
+use Rattle.composing.proofs.TextLaws.{absent-written, body-room, body-written, open-room, open-written, value-room, value-written}
 use borrow.Author.Needs.{needs}
-use Rattle.writing.proofs.text.write_entry.Statement.{statement}
-use Rattle.writing.proofs.text.write_entry.Tie as tie
+use Rattle.composing.proofs.text.write_entry.Statement.{statement}
+use Rattle.composing.proofs.text.write_entry.Tie as tie
 
 enum-told : tie.Need-enum-told
 enum-told c = search needs

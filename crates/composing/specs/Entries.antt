@@ -18,9 +18,9 @@ use Rattle.tokens.specs.Key.{at}
 use Rattle.metavariables.specs.Survey.{count, has}
 use Rattle.sources.specs.Demand.{openNode}
 use Rattle.copying.specs.Copied.{TermIn, copied}
-use Rattle.writing.specs.declared.entry.Plan.{Plan}
-use Rattle.writing.specs.declared.entry.Entry.{Entry}
-use Rattle.writing.specs.declared.entry.Entry.the-variants as entries
+use Rattle.composing.specs.declared.entry.Plan.{Plan}
+use Rattle.composing.specs.declared.entry.Entry.{Entry}
+use Rattle.composing.specs.declared.entry.Entry.the-variants as entries
 
 -- Each function has its place in the arrays
 pub record Planned (plan : Plan) : Type 0 where

@@ -19,14 +19,13 @@ use Rattle.copying.specs.Copied.{Copied, Copies, TermIn, copied}
 use Rattle.copying.specs.Measure.{Measurable, Measured}
 use Rattle.copying.proofs.CopiedMeaning.{copied-whole}
 use Rattle.copying.proofs.WriteLaws.{joined}
-use Rattle.writing.specs.Entries.{Denotes, DenotesAll, Entries, entryAt, fieldsOf}
-use Rattle.writing.specs.Writing.{CopyRoom, CopyWritten, EntryMeasured, EntryRoom, EntryThere, EntryWritten, FieldsWritten, Fits}
-use Rattle.writing.specs.Writing.{TextMeasured, TextRoom, TextWritten, Writable}
-use Rattle.writing.specs.declared.entry.Plan.{Plan}
-use Rattle.writing.specs.declared.entry.Entry.{Entry}
-use Rattle.writing.specs.declared.entry.Entry.the-variants as entries
-use Rattle.writing.specs.declared.write.Written.the-variants as answers
-use Rattle.writing.proofs.FieldLaws.{fields-end, fields-length, fields-next}
+use Rattle.composing.specs.Entries.{Denotes, DenotesAll, Entries, entryAt, fieldsOf}
+use Rattle.composing.specs.Composing.{CopyRoom, CopyWritten, EntryMeasured, EntryRoom, EntryThere, EntryWritten, FieldsWritten, Fits}
+use Rattle.composing.specs.Composing.{TextMeasured, TextRoom, Writable}
+use Rattle.composing.specs.declared.entry.Plan.{Plan}
+use Rattle.composing.specs.declared.entry.Entry.{Entry}
+use Rattle.composing.specs.declared.entry.Entry.the-variants as entries
+use Rattle.composing.proofs.FieldLaws.{fields-end, fields-length, fields-next}
 
 -- A field with a number
 numbered-length : (tag m : ℕ) (bytes : Bytes) → length (field tag (m ∷ bytes)) ≡ 4 + length bytes
@@ -370,11 +369,7 @@ module _ {es : List ℕ} {plan : Plan} where
               (joined (encodeEntry m (says m)) (fieldsOf says (m + 1)) before p x n r (e .wrote (says m) (d m small)) (f .wrote says d));
         }
 
-  -- "18 buffer too short", and the text
-  pub text-short : {before : Bytes} {n : ℕ} → TextMeasured es plan n → length before < n
-      → TextWritten es plan before before (answers.Refused 18)
-  text-short h l = record { answer = λ says d. (refl, omega (arith, h .measured says d), refl) }
-
+  -- What the writer of all fields requires
   pub text-room : (before : Bytes) {n : ℕ} → Writable es plan → TextMeasured es plan n → n ≤ length before
       → TextRoom es plan 0 (length before)
   text-room before w h l =
@@ -386,12 +381,3 @@ module _ {es : List ℕ} {plan : Plan} where
         within = omega arith;
         fits = record { inside = omega arith; short = w .short };
       }
-
-  pub text-written : {before after : Bytes} {n r : ℕ} → TextMeasured es plan n → n ≤ length before → FieldsWritten es plan 0 before after r
-      → TextWritten es plan before after (answers.Wrote n)
-  text-written {before} h l f = record {
-    answer = λ says d.
-        let e = h .measured says d in
-        let (c, b) = f .wrote says d in
-        (omega arith, (e, b ∙ ap (λ (k : ℕ). fieldsOf says 0 ++ drop k before) (c ∙ sym e)));
-  }

@@ -1,9 +1,9 @@
 -- `value_of` meets its contract.
 use mathlib.Core.Path.{refl}
 use borrow.Author.Needs.{needs}
-use Rattle.writing.proofs.EntryLaws.{value-open, value-there}
-use Rattle.writing.proofs.entry.value_of.Statement.{statement}
-use Rattle.writing.proofs.entry.value_of.Tie as tie
+use Rattle.composing.proofs.EntryLaws.{value-open, value-there}
+use Rattle.composing.proofs.entry.value_of.Statement.{statement}
+use Rattle.composing.proofs.entry.value_of.Tie as tie
 
 -- src/entry.rt:48:16
 mul-node : tie.Need-mul-node

@@ -13,8 +13,8 @@ ghost use Prim.Native.Nat.{_≤_};
 ghost use lib.ListN.{length};
 ghost use Rattle.meaning.specs.Field.{field};
 ghost use Rattle.copying.specs.Fixed.{Wrote};
-ghost use Rattle.writing.specs.Writing.{EntryThere, EntryMeasured, Writable, TextMeasured, CopyRoom, CopyWritten};
-ghost use Rattle.writing.specs.Writing.{EntryRoom, EntryWritten, TextRoom, FieldsWritten};
+ghost use Rattle.composing.specs.Composing.{EntryThere, EntryMeasured, Writable, TextMeasured, CopyRoom, CopyWritten};
+ghost use Rattle.composing.specs.Composing.{EntryRoom, EntryWritten, TextRoom, FieldsWritten};
 
 // How many bytes the field of an entry has.
 fn entry_length(es: &[u64], entry: Entry) -> usize

@@ -7,7 +7,7 @@ use sources::OPEN;
 use sources::Sources;
 ghost use mathlib.Core.Path.{_≡_};
 ghost use Prim.Native.Nat.{_<_};
-ghost use Rattle.writing.specs.Entries.{Planned, bodyAt, valueAt, entryAt};
+ghost use Rattle.composing.specs.Entries.{Planned, bodyAt, valueAt, entryAt};
 
 // Where the entries of a row are looked up: the problem's metavariables, the face and the mask of each function, and the nodes that the
 // values are copied from.

@@ -1,10 +1,10 @@
 -- `write_copied` meets its contract: the term's bytes, then what stands before them.
 use mathlib.Core.Path.{_∙_}
 use native.Mathlib.Omega.{arith}
-use Rattle.writing.proofs.TextLaws.{copy-begins, copy-copies, copy-short, copy-written, kept-length, long-after, long-before}
+use Rattle.composing.proofs.TextLaws.{copy-begins, copy-copies, copy-short, copy-written, kept-length, long-after, long-before}
 use borrow.Author.Needs.{needs}
-use Rattle.writing.proofs.text.write_copied.Statement.{statement}
-use Rattle.writing.proofs.text.write_copied.Tie as tie
+use Rattle.composing.proofs.text.write_copied.Statement.{statement}
+use Rattle.composing.proofs.text.write_copied.Tie as tie
 
 sub-copy : tie.Need-sub-copy
 sub-copy c = copy-begins (c .before .before .args .out .now) (c .before .before .pre)

@@ -9,16 +9,16 @@ use borrow.Author.Needs.{needs}
 use borrow.Fn.Kinds.{In}
 use borrow.Fn.PlainCycle.{Measures, is, falls, and}
 use Rattle.meaning.specs.Limits.{metavariableCount}
-use Rattle.writing.specs.Entries.{entryAt}
-use Rattle.writing.specs.Writing.{EntryWritten}
-use Rattle.writing.proofs.TextLaws.{entry-at-room, entry-written, field-inside, fields-written, later-room, none-left, sum-fits}
-use Rattle.writing.proofs.text.write_from.Reads as write-from
-use Rattle.writing.proofs.text.write_from.Kinds as write-from-kinds
-use Rattle.writing.proofs.text.+write_from.Lts-write_from as write-from-lts
-use Rattle.writing.proofs.entry.entry_of.Reads as entry-of-reads
-use Rattle.writing.proofs.text.write_entry.Reads as write-entry-reads
-use Rattle.writing.proofs.text.+write_from.{statement}
-use Rattle.writing.proofs.text.+write_from.Tie.{close}
+use Rattle.composing.specs.Entries.{entryAt}
+use Rattle.composing.specs.Composing.{EntryWritten}
+use Rattle.composing.proofs.TextLaws.{entry-at-room, entry-written, field-inside, fields-written, later-room, none-left, sum-fits}
+use Rattle.composing.proofs.text.write_from.Reads as write-from
+use Rattle.composing.proofs.text.write_from.Kinds as write-from-kinds
+use Rattle.composing.proofs.text.+write_from.Lts-write_from as write-from-lts
+use Rattle.composing.proofs.entry.entry_of.Reads as entry-of-reads
+use Rattle.composing.proofs.text.write_entry.Reads as write-entry-reads
+use Rattle.composing.proofs.text.+write_from.{statement}
+use Rattle.composing.proofs.text.+write_from.Tie.{close}
 
 abbrev μ-write-from : Measures 2 write-from-kinds.ps ℕ
 μ-write-from κs a = 32 - a .0

@@ -14,7 +14,7 @@ use Rattle.meaning.specs.Row.{Row}
 use Rattle.meaning.specs.Text.{Item, entryOf, textOf}
 use Rattle.meaning.specs.Encoded.{encodeEntry, encodeText}
 use Rattle.meaning.specs.Entry.{rowText}
-use Rattle.writing.specs.Entries.{Entries, fieldsOf}
+use Rattle.composing.specs.Entries.{Entries, fieldsOf}
 
 abbrev pub entryOr : Problem → Row → Entries
 entryOr p r m = choose (isFunction p m || isPlain p m) (entryOf p r m) absent

@@ -1,8 +1,8 @@
 -- `body_of` meets its contract.
 use borrow.Author.Needs.{needs}
-use Rattle.writing.proofs.EntryLaws.{body-returned}
-use Rattle.writing.proofs.entry.body_of.Statement.{statement}
-use Rattle.writing.proofs.entry.body_of.Tie as tie
+use Rattle.composing.proofs.EntryLaws.{body-returned}
+use Rattle.composing.proofs.entry.body_of.Statement.{statement}
+use Rattle.composing.proofs.entry.body_of.Tie as tie
 
 -- src/entry.rt:39:17
 mul-t5 : tie.Need-mul-t5
