@@ -25,9 +25,9 @@ use Rattle.places.specs.declared.Place.{Place}
 use Rattle.places.specs.declared.Started.{Started}
 use Rattle.places.specs.declared.Start.the-variants as starts
 use Rattle.search.specs.Calling.{replyWith, hostReply, Answers}
-use Rattle.search.specs.declared.seek.Answer as code
-use Rattle.search.specs.declared.seek.Answer.the-variants as answers
-use Rattle.search.specs.declared.seek.Searched.{Searched}
+use Rattle.seeking.specs.declared.Answer as code
+use Rattle.seeking.specs.declared.Answer.the-variants as answers
+use Rattle.seeking.specs.declared.Searched.{Searched}
 use Rattle.calls.specs.Running.{masksIn, leftBy, Put, IsEnd, Called, FromPlace, Runs}
 use Rattle.calls.specs.declared.Progress.{Progress}
 use Rattle.calls.specs.declared.Ran.{Ran}

@@ -3,7 +3,7 @@
 use places::Place;
 use places::Start;
 use search::call::search;
-use search::seek::Answer;
+use seeking::Answer;
 ghost use Prim.Native.Nat.{_+_, _*_, _≤_};
 ghost use lib.ListN.{length};
 ghost use Rattle.meaning.specs.Accept.{accept};

@@ -20,9 +20,9 @@ use Rattle.places.specs.declared.Place.{Place}
 use Rattle.places.specs.declared.Started.{Started}
 use Rattle.places.specs.declared.Start.the-variants as starts
 use Rattle.search.specs.Calling.{rowValue, replyWith, hostReply, Answers}
-use Rattle.search.specs.declared.seek.Answer as code
-use Rattle.search.specs.declared.seek.Answer.the-variants as answers
-use Rattle.search.specs.declared.seek.Searched.{Searched}
+use Rattle.seeking.specs.declared.Answer as code
+use Rattle.seeking.specs.declared.Answer.the-variants as answers
+use Rattle.seeking.specs.declared.Searched.{Searched}
 use Rattle.writing.specs.Writing.{answerOf, Writes}
 use Rattle.writing.specs.declared.write.Written.{Written}
 use Rattle.words.specs.Words.{isPlaceLong, placeOfWords, placeWords, wordsOf}

@@ -20,8 +20,8 @@ use Rattle.meaning.specs.PlaceValue.{PlaceValue}
 use Rattle.meaning.specs.Entry.{HostReply, startCall, SearchCall, WriteCall, checkCall}
 use Rattle.meaning.specs.Calls.{HostCall}
 use Rattle.search.specs.Calling.{replyWith}
-use Rattle.search.specs.declared.seek.Answer as code
-use Rattle.search.specs.declared.seek.Answer.the-variants as answers
+use Rattle.seeking.specs.declared.Answer as code
+use Rattle.seeking.specs.declared.Answer.the-variants as answers
 use Rattle.words.specs.Words.{placeWords, isPlaceLong, wordsOf, placeOfWords}
 
 -- The start, into words that may be too few or too many for a place: 16, after 1 to 14

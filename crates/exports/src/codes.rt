@@ -1,6 +1,6 @@
 // The number of each answer: a refusal is document 01's number, and an answer that is none is above every refusal.
 use checking::Checked;
-use search::seek::Answer;
+use seeking::Answer;
 use words::PLACE_WORDS;
 ghost use mathlib.Core.Path.{_≡_};
 ghost use Rattle.meaning.specs.Basics.{choose};

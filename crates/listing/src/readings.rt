@@ -7,7 +7,7 @@ use lines::output::print_number;
 use places::Place;
 use places::Start;
 use search::call::search;
-use search::seek::Answer;
+use seeking::Answer;
 use writing::write::Written;
 use writing::write::write;
 

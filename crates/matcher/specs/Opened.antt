@@ -19,7 +19,7 @@ use Rattle.meaning.specs.Calls.{HostCall, KeptCall, callsOf}
 use Rattle.places.specs.Places.{valueOf}
 use Rattle.places.specs.declared.Place.{Place}
 use Rattle.search.specs.Calling.{Answers, hostReply}
-use Rattle.search.specs.declared.seek.Searched.{Searched}
+use Rattle.seeking.specs.declared.Searched.{Searched}
 use Rattle.matcher.specs.declared.OpenSearch.{OpenSearch}
 use Rattle.matcher.specs.declared.Reply.{Reply}
 

@@ -39,12 +39,12 @@ use Rattle.fit.specs.Laid as fit
 use Rattle.fit.specs.Judging.{judgedAt}
 use Rattle.fit.proofs.Meaning.{judge-means}
 use Rattle.classes.specs.Tabled.{Tabled}
-use Rattle.search.specs.Seeking.{judged, Grounded, Seekable, Ended, Clean, maskPlace, maskReply, Seeks}
+use Rattle.seeking.specs.Seeking.{judged, Grounded, Seekable, Ended, Clean, maskPlace, maskReply, Seeks}
 use Rattle.search.specs.Calling.{rowValue, replyWith, hostReply, Answers, Refuses, Callable, Sought, Placed}
-use Rattle.search.specs.declared.seek.Fixed.{Fixed}
-use Rattle.search.specs.declared.seek.Answer.{Answer}
-use Rattle.search.specs.declared.seek.Answer.the-variants as answers
-use Rattle.search.specs.declared.seek.Searched.{Searched}
+use Rattle.seeking.specs.declared.Fixed.{Fixed}
+use Rattle.seeking.specs.declared.Answer.{Answer}
+use Rattle.seeking.specs.declared.Answer.the-variants as answers
+use Rattle.seeking.specs.declared.Searched.{Searched}
 use Rattle.search.proofs.RowsBack.{placeTo, replyTo, Back, keeps-back}
 
 -- The test of a row, as the code makes it, is document 01's

@@ -18,11 +18,11 @@ use Rattle.accept.specs.declared.Standing.{Standing}
 use Rattle.prepare.specs.Prepared.{Ready}
 use Rattle.places.specs.Places.{valueOf, IsRowOf}
 use Rattle.places.specs.declared.Place.{Place}
-use Rattle.search.specs.Seeking.{Seeks}
-use Rattle.search.specs.declared.seek.Fixed.{Fixed}
-use Rattle.search.specs.declared.seek.Answer.{Answer}
-use Rattle.search.specs.declared.seek.Answer.the-variants as answers
-use Rattle.search.specs.declared.seek.Searched.{Searched}
+use Rattle.seeking.specs.Seeking.{Seeks}
+use Rattle.seeking.specs.declared.Fixed.{Fixed}
+use Rattle.seeking.specs.declared.Answer.{Answer}
+use Rattle.seeking.specs.declared.Answer.the-variants as answers
+use Rattle.seeking.specs.declared.Searched.{Searched}
 
 abbrev pub rowValue : MaskRow → PlaceValue
 rowValue row = record { masks = row; isPast = false }

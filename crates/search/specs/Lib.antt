@@ -1,3 +1,2 @@
 -- What the search promises.
-pub mod Seeking
 pub mod Calling

@@ -1,9 +1,4 @@
 // One search call, from any bytes, any place and any allowance.
-use crate::seek::Answer;
-use crate::seek::Fixed;
-use crate::seek::Searched;
-use crate::seek::ended;
-use crate::seek::seek;
 use accept::Standing;
 use accept::Verdict;
 use faces::first::Firsts;
@@ -12,6 +7,11 @@ use places::Place;
 use places::named_by;
 use prepare::prepare;
 use rows::first_row;
+use seeking::Answer;
+use seeking::Fixed;
+use seeking::Searched;
+use seeking::ended;
+use seeking::seek;
 use table::TABLE_ROOM;
 ghost use mathlib.Core.Path.{_≡_};
 ghost use mathlib.Core.Bool.{true};

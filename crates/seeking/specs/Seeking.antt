@@ -19,11 +19,11 @@ use Rattle.places.specs.Places.{AtRow, AtPast}
 use Rattle.places.specs.declared.Place.{Place}
 use Rattle.fit.specs.Judging.{judgedAt}
 use Rattle.fit.specs.Laid.{Laid}
-use Rattle.search.specs.declared.seek.Fixed.{Fixed}
-use Rattle.search.specs.declared.seek.Turn.{Turn}
-use Rattle.search.specs.declared.seek.Answer.{Answer}
-use Rattle.search.specs.declared.seek.Answer.the-variants as answers
-use Rattle.search.specs.declared.seek.Searched.{Searched}
+use Rattle.seeking.specs.declared.Fixed.{Fixed}
+use Rattle.seeking.specs.declared.Turn.{Turn}
+use Rattle.seeking.specs.declared.Answer.{Answer}
+use Rattle.seeking.specs.declared.Answer.the-variants as answers
+use Rattle.seeking.specs.declared.Searched.{Searched}
 
 abbrev pub judged : List ℕ → List ℕ → List ℕ → Fixed → MaskRow → Bool
 judged ps es fs fixed row = isSome (judgedAt ps es fs (fixed .functions) (fixed .firsts) row)

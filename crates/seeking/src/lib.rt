@@ -4,7 +4,7 @@ use fit::judge;
 use places::Place;
 use rows::next_row;
 ghost use Prim.Native.Nat.{_<_};
-ghost use Rattle.search.specs.Seeking.{Turned, Passed, Ended, Paused, Seekable, Seeks};
+ghost use Rattle.seeking.specs.Seeking.{Turned, Passed, Ended, Paused, Seekable, Seeks};
 
 // What stays the same from row to row: the set of functions, the nodes of their faces, and the first row, which `next_row` is lent.
 pub struct Fixed {

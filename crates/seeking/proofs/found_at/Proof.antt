@@ -1,9 +1,9 @@
 -- `found_at` meets its contract.
 use mathlib.Core.Path.{refl}
 use borrow.Author.Needs.{needs}
-use Rattle.search.proofs.SeekLaws.{passed-more, passed-last}
-use Rattle.search.proofs.seek.found_at.Statement.{statement}
-use Rattle.search.proofs.seek.found_at.Tie as tie
+use Rattle.seeking.proofs.SeekLaws.{passed-more, passed-last}
+use Rattle.seeking.proofs.found_at.Statement.{statement}
+use Rattle.seeking.proofs.found_at.Tie as tie
 
 at-requires : tie.Need-at-requires
 at-requires c κs = search needs

@@ -6,11 +6,11 @@ use lib.ListN.{length}
 use native.Mathlib.Omega.{arith}
 use borrow.Author.Tests.{not-true, not-false}
 use borrow.Author.Needs.{needs}
-use Rattle.search.specs.Seeking.{Seekable, Seeks}
-use Rattle.search.specs.declared.seek.Searched.{Searched}
-use Rattle.search.proofs.SeekLaws.{seeks-found, seeks-ended, seeks-paused, seeks-on, seekable-next}
-use Rattle.search.proofs.seek.seek.Statement.{statement}
-use Rattle.search.proofs.seek.seek.Tie as tie
+use Rattle.seeking.specs.Seeking.{Seekable, Seeks}
+use Rattle.seeking.specs.declared.Searched.{Searched}
+use Rattle.seeking.proofs.SeekLaws.{seeks-found, seeks-ended, seeks-paused, seeks-on, seekable-next}
+use Rattle.seeking.proofs.seek.Statement.{statement}
+use Rattle.seeking.proofs.seek.Tie as tie
 
 abbrev Inv-loop : tie.InvT-loop
 Inv-loop ps es fs ds fixed n scratch₀ at₀ left₀ scratch at left =

@@ -1,8 +1,8 @@
 -- `look_at` meets its contract: what is required of a row's turn is what `judge` and `next_row` require.
 use borrow.Author.Needs.{needs}
-use Rattle.search.proofs.SeekLaws.{seekable-ready, seekable-tables}
-use Rattle.search.proofs.seek.look_at.Statement.{statement}
-use Rattle.search.proofs.seek.look_at.Tie as tie
+use Rattle.seeking.proofs.SeekLaws.{seekable-ready, seekable-tables}
+use Rattle.seeking.proofs.look_at.Statement.{statement}
+use Rattle.seeking.proofs.look_at.Tie as tie
 
 judge-requires : tie.Need-judge-requires
 judge-requires c κs = seekable-ready _ _ _ _ _ _ _ (c .before .before .before .before .before .before .before .before .pre)

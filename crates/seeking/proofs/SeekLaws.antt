@@ -18,12 +18,12 @@ use Rattle.places.specs.declared.Place as code
 use Rattle.fit.specs.Laid.{Laid}
 use Rattle.fit.specs.Ready as fit
 use Rattle.fit.proofs.Readiness.{laid-ready}
-use Rattle.search.specs.Seeking.{judged, Grounded, Seekable, Turned, Passed, Ended, Paused, maskPlace, maskReply, Seeks}
-use Rattle.search.specs.declared.seek.Fixed.{Fixed}
-use Rattle.search.specs.declared.seek.Turn.{Turn}
-use Rattle.search.specs.declared.seek.Answer.{Answer}
-use Rattle.search.specs.declared.seek.Answer.the-variants as answers
-use Rattle.search.specs.declared.seek.Searched.{Searched}
+use Rattle.seeking.specs.Seeking.{judged, Grounded, Seekable, Turned, Passed, Ended, Paused, maskPlace, maskReply, Seeks}
+use Rattle.seeking.specs.declared.Fixed.{Fixed}
+use Rattle.seeking.specs.declared.Turn.{Turn}
+use Rattle.seeking.specs.declared.Answer.{Answer}
+use Rattle.seeking.specs.declared.Answer.the-variants as answers
+use Rattle.seeking.specs.declared.Searched.{Searched}
 
 module _ (ps es fs ds : List ℕ) (fixed : Fixed) (row : MaskRow) (scratch : List ℕ) (h : Seekable ps es fs ds fixed row scratch) where
   abbrev ground : Grounded ps es fs ds fixed scratch

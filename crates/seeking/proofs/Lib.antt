@@ -1,0 +1,2 @@
+-- Laws of judging rows one after the other.
+pub mod SeekLaws

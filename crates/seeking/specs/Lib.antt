@@ -1,0 +1,2 @@
+-- Judging rows one after the other.
+pub mod Seeking
