@@ -90,9 +90,6 @@ fn damaged(random: &mut Random, mut made: Made) -> Vec<u8> {
 
 /// Puts a term where it may not stand (8, 9), too deep (5), or with a number or use that it may not have (10, 12).
 fn misplace(random: &mut Random, made: &mut Made) {
-    if made.constraints.is_empty() {
-        return;
-    }
     let k = random.below(made.constraints.len());
     let (pattern, expression) = &mut made.constraints[k];
     let side = if random.once_in(2) { pattern } else { expression };
@@ -136,12 +133,9 @@ fn crowd(random: &mut Random, made: &mut Made) {
     }
 }
 
-/// Changes the head of a field, or puts in or takes out a whole one with the lengths around it left as they are.
+/// Changes the head of a field, puts in a whole one with the lengths around it left as they are, or adds bytes at the end.
 fn bend(random: &mut Random, mut bytes: Vec<u8>) -> Vec<u8> {
     let heads = heads(&bytes);
-    if heads.is_empty() {
-        return vec![random.below(256) as u8; random.between(1, 5)];
-    }
     let at = *random.pick(&heads);
     match random.below(5) {
         0 => bytes[at] = *random.pick(&[0, 1, 2, 3, 4, 5, 6, 7, 8, 9, 10, 11, 99, 255]),

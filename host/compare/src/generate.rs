@@ -14,7 +14,7 @@ const FIRST_BINDER: u16 = 1000;
 /// A problem and the filling that it was made with, which may or may not be a solution.
 #[derive(Clone, Debug)]
 pub struct Made {
-    /// The patterns and expressions.
+    /// The patterns and expressions, of one constraint at least.
     pub constraints: Vec<(Tree, Tree)>,
     /// What each metavariable was filled with.
     pub filling: Vec<Entry>,
@@ -76,9 +76,6 @@ pub fn problem(random: &mut Random) -> Made {
 
 /// Replaces a node of an expression by a copy of another node of one.
 fn change(random: &mut Random, constraints: &mut [(Tree, Tree)]) {
-    if constraints.is_empty() {
-        return;
-    }
     let from = random.below(constraints.len());
     let k = random.below(constraints[from].1.nodes());
     let copy = constraints[from].1.node_mut(k).clone();

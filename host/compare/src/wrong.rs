@@ -30,9 +30,9 @@ pub enum Wrong {
     WritesNothing,
     /// Changes the byte after the text.
     WritesTooFar,
-    /// Writes a text that is too long for the buffer, as far as it goes.
+    /// Changes the buffer although the text is too long for it.
     WritesWhenRefused,
-    /// Takes every row.
+    /// Takes every row for a solution row.
     WritesAnyRow,
     /// Passes every text.
     PassesAll,
