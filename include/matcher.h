@@ -11,8 +11,8 @@
  *         if (answer == MATCHER_FOUND) { .. matcher_write(problem, len, row, MATCHER_PLACE_WORDS, ..) .. }
  *     } while (answer == MATCHER_FOUND || answer == MATCHER_PAUSED);
  *
- * Every function takes any bytes, words and buffers. It answers 0 or a number from 256 on, or else a refusal, 1 to 20; of several that
- * apply the first is given, in the order in which the function's description names them. After a refusal no buffer is changed.
+ * Every function takes any bytes, words and buffers. It answers 0 or a number from 256 on, or else a refusal, 1 to 20 or 25; of several
+ * that apply the first is given, in the order in which the function's description names them. After a refusal no buffer is changed.
  * Every call takes the problem anew and keeps nothing, so that calls may run side by side; no memory is allocated.
  *
  * The caller owes what C cannot check: each pointer has as many elements as the length after it says (one, where there is none), is not
@@ -50,13 +50,13 @@ extern "C" {
 #define MATCHER_YES 256
 #define MATCHER_NO 257
 
-/* Refusals of a problem, by every function. The first that is met in reading is given, and 12 to 14 after reading. */
+/* Refusals of a problem, by every function. The first that is met in reading is given, 1 to 11 or 25, and 12 to 14 after reading. */
 #define MATCHER_PROBLEM_TOO_LONG 1         /* over 4,096 bytes */
 #define MATCHER_HEAD_CUT_OFF 2             /* only 1 or 2 bytes left where a field begins */
 #define MATCHER_LENGTH_PAST_END 3          /* a field's length past the enclosing end */
 #define MATCHER_TAG_OUT_OF_PLACE 4         /* a tag that has no place there, the cases of 8 and 9 aside */
 #define MATCHER_TOO_DEEP 5                 /* depth over 32 */
-#define MATCHER_FIXED_PART 6               /* fixed part too short or, for tags 1, 2, 5, too long; tag 3 empty */
+#define MATCHER_FIXED_PART 6               /* fixed part too short or, for tags 2, 5, too long; tag 1 not of 2 or 4 bytes; tag 3 empty */
 #define MATCHER_INNER_FIELDS 7             /* no inner field left where one is due, or bytes left after the last */
 #define MATCHER_PATTERN_IN_EXPRESSION 8    /* tag 5 or 6 in an expression */
 #define MATCHER_FUNCTION_IN_ARGUMENT 9     /* tag 6 in an argument */
@@ -65,6 +65,7 @@ extern "C" {
 #define MATCHER_BOTH_WAYS 12               /* a metavariable both as function and not */
 #define MATCHER_TOO_MANY_FUNCTIONS 13      /* over 8 functions */
 #define MATCHER_FACE_TOO_LARGE 14          /* a face over 64 nodes */
+#define MATCHER_SYMBOL_TOO_WIDE 25         /* a symbol's number below 65,536 in four bytes; met in reading, after 6 of the same field */
 
 /* Refusals of what else a function is given. */
 #define MATCHER_NO_ALLOWANCE 15            /* an allowance of 0 */
@@ -74,7 +75,7 @@ extern "C" {
 #define MATCHER_TEXT_TOO_LONG 19           /* a text over 8,192 bytes */
 #define MATCHER_TEXT_MALFORMED 20          /* a text that is not fields 8, 9, 11 with their contents; depth over 32; metavariable over 31 */
 
-/* The start of the problem into `place`: its first row, or past the last if there is none. MATCHER_OK, or refused: 1 to 14; 16 where
+/* The start of the problem into `place`: its first row, or past the last if there is none. MATCHER_OK, or refused: 1 to 14 or 25; 16 where
    `words` is not MATCHER_PLACE_WORDS. */
 uint32_t matcher_start(const uint8_t *problem, size_t len, uint64_t *place, size_t words);
 
@@ -82,17 +83,18 @@ uint32_t matcher_start(const uint8_t *problem, size_t len, uint64_t *place, size
    - MATCHER_FOUND: the row in `row`, and the place after it in `place`;
    - MATCHER_PAUSED: at least n rows were passed with no solution row among them, and `place` is the row after them;
    - MATCHER_END: there is none, and `place` is past the last.
-   `row` is written on MATCHER_FOUND only. Refused: 1 to 14; 15 if n is 0; 16 if `place` is no such place; 18 where `row_words` is not
+   `row` is written on MATCHER_FOUND only. Refused: 1 to 14 or 25; 15 if n is 0; 16 if `place` is no such place; 18 where `row_words` is not
    MATCHER_PLACE_WORDS, whatever the answer would have been. */
 uint32_t matcher_search(const uint8_t *problem, size_t len, uint64_t *place, size_t words, uint64_t *row, size_t row_words, uint32_t n);
 
 /* The text of the solution of `row` at the front of `out`, its length in `*written`, and no byte of `out` after it changed. MATCHER_OK,
-   or refused: 1 to 14; 16 if `row` is no such row, past the last included; 17 if it is not a solution row; 18 if `out` is too short. */
+   or refused: 1 to 14 or 25; 16 if `row` is no such row, past the last included; 17 if it is not a solution row; 18 if `out` is too
+   short. */
 uint32_t matcher_write(const uint8_t *problem, size_t len, const uint64_t *row, size_t words, uint8_t *out, size_t out_len,
                        uint64_t *written);
 
 /* Whether the filling that the text names is a solution of the problem: MATCHER_YES or MATCHER_NO. The text's fields may come in any
-   order and its bound names are free; a wrong, missing or double metavariable is a no. Refused: 1 to 14; 19 a text over 8,192 bytes;
+   order and its bound names are free; a wrong, missing or double metavariable is a no. Refused: 1 to 14 or 25; 19 a text over 8,192 bytes;
    20 a malformed one. */
 uint32_t matcher_check(const uint8_t *problem, size_t len, const uint8_t *text, size_t text_len);
 

@@ -40,7 +40,7 @@
 //!
 //! | tag | meaning | content |
 //! |---|---|---|
-//! | 1 | symbol | number, 2 bytes |
+//! | 1 | symbol | number, 2 bytes, or 4 where it is 65,536 or more |
 //! | 2 | variable | number, 2 bytes |
 //! | 3 | application | 1 or more terms |
 //! | 4 | binder | binder number, 2 bytes; bound variable, 2 bytes; one term |

@@ -5,7 +5,7 @@ use crate::refusal::Refusal;
 use crate::saved::{self, ResumeError};
 use crate::search::Search;
 
-/// A problem that is accepted: none of the refusals 1 to 14 applies to its bytes.
+/// A problem that is accepted: none of the refusals 1 to 14 and 25 applies to its bytes.
 #[derive(Clone, Debug, PartialEq, Eq)]
 pub struct Problem {
     bytes: Vec<u8>,

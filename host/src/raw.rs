@@ -55,7 +55,7 @@ extern "C" {
     fn matcher_check(problem: *const u8, len: usize, text: *const u8, text_len: usize) -> u32;
 }
 
-/// The start of the problem into `place`. [`OK`], or refused: 1 to 14; 16 where `place` has another length than
+/// The start of the problem into `place`. [`OK`], or refused: 1 to 14 or 25; 16 where `place` has another length than
 /// [`PLACE_WORDS`].
 pub fn start(problem: &[u8], place: &mut [u64]) -> u32 {
     // SAFETY: pointers and lengths are those of slices, never null; what is written to is borrowed by nobody else.
@@ -63,7 +63,7 @@ pub fn start(problem: &[u8], place: &mut [u64]) -> u32 {
 }
 
 /// The first solution row at or after `place`, looking at `n` rows before it pauses. [`FOUND`]: it is in `row`, and the
-/// place after it in `place`; [`PAUSED`]: `place` is a later row; [`END`]: `place` is past the last. Refused: 1 to 14; 15 if
+/// place after it in `place`; [`PAUSED`]: `place` is a later row; [`END`]: `place` is past the last. Refused: 1 to 14 or 25; 15 if
 /// `n` is 0; 16 if `place` is no such place; 18 where `row` has another length than [`PLACE_WORDS`].
 pub fn search(problem: &[u8], place: &mut [u64], row: &mut [u64], n: u32) -> u32 {
     // SAFETY: as in `start`.
@@ -81,7 +81,7 @@ pub fn search(problem: &[u8], place: &mut [u64], row: &mut [u64], n: u32) -> u32
 }
 
 /// The text of the solution of `row` at the front of `out`, its length in `written`; no byte of `out` after it changes.
-/// [`OK`], or refused: 1 to 14; 16 if `row` is no such row; 17 if it is not a solution row; 18 if `out` is too short.
+/// [`OK`], or refused: 1 to 14 or 25; 16 if `row` is no such row; 17 if it is not a solution row; 18 if `out` is too short.
 pub fn write(problem: &[u8], row: &[u64], out: &mut [u8], written: &mut u64) -> u32 {
     // SAFETY: as in `start`.
     unsafe {
@@ -97,7 +97,7 @@ pub fn write(problem: &[u8], row: &[u64], out: &mut [u8], written: &mut u64) -> 
     }
 }
 
-/// Whether the filling that the text names is a solution: [`YES`] or [`NO`]. Refused: 1 to 14; 19 a text over
+/// Whether the filling that the text names is a solution: [`YES`] or [`NO`]. Refused: 1 to 14 or 25; 19 a text over
 /// [`LARGEST_TEXT`] bytes; 20 a malformed one.
 pub fn check(problem: &[u8], text: &[u8]) -> u32 {
     // SAFETY: as in `start`.

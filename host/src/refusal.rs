@@ -5,10 +5,11 @@ use std::fmt;
 /// Makes the enum, its numbers and its words from one table, so that they cannot fall apart.
 macro_rules! refusals {
     ($($name:ident = $number:literal, $words:literal;)*) => {
-        /// Why a call is refused: document 01's table "Where each check is made". A refused call changes nothing.
+        /// Why a call is refused: document 01's table "Where each check is made", and 25 by its change T-05. A refused call
+        /// changes nothing.
         ///
         /// Of several reasons that apply the first one met is given: a problem is read field by field from the front (1 to
-        /// 11), then looked at as a whole (12 to 14), and only then is what else the call was given.
+        /// 11 and 25), then looked at as a whole (12 to 14), and only then is what else the call was given.
         #[derive(Clone, Copy, Debug, PartialEq, Eq, Hash)]
         #[repr(u8)]
         pub enum Refusal {
@@ -35,7 +36,7 @@ refusals! {
     LengthPastEnd = 3, "a field's length goes past the enclosing end";
     TagOutOfPlace = 4, "a tag has no place where it stands";
     TooDeep = 5, "a term stands deeper than 32";
-    FixedPart = 6, "a field's fixed part is too short, or too long for a symbol, variable or metavariable; or an application is empty";
+    FixedPart = 6, "a field's fixed part is too short, or too long for a variable or metavariable; a symbol has not 2 or 4 bytes; or an application is empty";
     InnerFields = 7, "no inner field is left where one is due, or bytes are left after the last";
     PatternInExpression = 8, "a metavariable or function application stands in an expression";
     FunctionInArgument = 9, "a function application stands in an argument";
@@ -50,6 +51,7 @@ refusals! {
     BufferTooShort = 18, "the buffer is too short";
     TextTooLong = 19, "the text has over 8,192 bytes";
     TextMalformed = 20, "the text is not values, bodies and open metavariables with their contents, at most 32 deep and numbered at most 31";
+    SymbolTooWide = 25, "a symbol's number below 65,536 has four bytes";
 }
 
 impl Refusal {
@@ -76,14 +78,16 @@ impl std::error::Error for Refusal {}
 mod tests {
     use super::Refusal;
 
-    /// The numbers run from 1 on without a gap, and each leads back to its refusal.
+    /// The numbers are 1 to 20 and 25, and each leads back to its refusal.
     #[test]
     fn numbers_lead_back() {
-        for (k, refusal) in Refusal::ALL.iter().enumerate() {
-            assert_eq!(usize::from(refusal.number()), k + 1);
-            assert_eq!(Refusal::numbered(k as u32 + 1), Some(*refusal));
+        let numbers: Vec<u32> = (1..=20).chain([25]).collect();
+        let refused: Vec<u32> = Refusal::ALL.iter().map(|refusal| refusal.number().into()).collect();
+        assert_eq!(refused, numbers);
+        for number in 0..300 {
+            let refusal = Refusal::numbered(number);
+            assert_eq!(refusal.is_some(), numbers.contains(&number), "{number}");
+            assert!(refusal.is_none_or(|refusal| u32::from(refusal.number()) == number));
         }
-        assert_eq!(Refusal::numbered(0), None);
-        assert_eq!(Refusal::numbered(Refusal::ALL.len() as u32 + 1), None);
     }
 }

@@ -10,9 +10,10 @@ use lib.Dec.{eqb}
 use borrow.Author.Tests.{ne-eqb}
 use Rattle.meaning.specs.Basics.{Bytes, choose}
 use Rattle.meaning.specs.Term.{Forest, Named, symbol, variable, application, binder, own, slot, metavariable, function, hole, size}
-use Rattle.meaning.specs.Field.{word, field, tagOf, fixedPart}
+use Rattle.meaning.specs.Field.{word, field, symbolBytes, tagOf, fixedPart}
 use Rattle.meaning.specs.Read.{inExpression}
 use Rattle.meaning.specs.Readable.{NodeFits}
+use Rattle.meaning.proofs.ByteLaws.{by-width, narrow-two, wide-four}
 use Rattle.tokens.specs.Token.{tagIn, payloadIn, levelOf, payloadOf}
 use Rattle.tokens.specs.Key.{lowerHalf, upperHalf}
 use Rattle.tokens.proofs.ProblemTokens.{tokenAt, tag-at, payload-at}
@@ -20,7 +21,7 @@ use Rattle.copying.specs.Fixed.{numberIn, numbersIn, fixedIn, headIn, aH
 
 -- The fixed part by the tag
 module _ (x g : ℕ) (is-tag : g ≡ tagIn x) where
-  pub fixed-symbol : g ≡ 1 → fixedIn x ≡ numberIn x
+  pub fixed-symbol : g ≡ 1 → fixedIn x ≡ symbolBytes (payloadIn x)
   unfolding fixedIn
   fixed-symbol e = let t : tagIn x ≡ 1 = sym is-tag ∙ e in rw t
 
@@ -37,6 +38,9 @@ module _ (x g : ℕ) (is-tag : g ≡ tagIn x) where
   fixed-none a b d = rw (← is-tag) (simp (ne-eqb g 1 a, ne-eqb g 2 b, ne-eqb g 4 d))
 
 -- How long it is
+pub symbol-long : (x n : ℕ) → fixedIn x ≡ symbolBytes (payloadIn x) → n ≡ payloadIn x → length (symbolBytes n) ≡ length (fixedIn x)
+symbol-long x n e p = rw (e, p)
+
 pub number-long : (x : ℕ) → fixedIn x ≡ numberIn x → 2 ≡ length (fixedIn x)
 unfolding word
 number-long x e = sym (ap length e)
@@ -52,10 +56,13 @@ choose-short : (b : Bool) (s t : Bytes) → length s ≤ 4 → length t ≤ 4 �
 choose-short true s t h g = h
 choose-short false s t h g = g
 
+symbol-short : (n : ℕ) → length (symbolBytes n) ≤ 4
+symbol-short n = by-width n (λ h. omega (arith, narrow-two n h)) (λ h. omega (arith, wide-four n h))
+
 pub fixed-short : (x : ℕ) → length (fixedIn x) ≤ 4
 unfolding fixedIn word
 fixed-short x =
-    choose-short (eqb (tagIn x) 1) _ _ (omega arith)
+    choose-short (eqb (tagIn x) 1) _ _ (symbol-short (payloadIn x))
     (choose-short (eqb (tagIn x) 2) _ _ (omega arith) (choose-short (eqb (tagIn x) 4) _ _ (omega arith) (omega arith)))
 
 -- The head and the fixed part, and a hole
@@ -80,17 +87,13 @@ module _ (sc : List ℕ) (l : Named) (c : Forest Named) where
     pub deep : length sc < 256
     pub small : suc (size c) < 65536
 
-low-half : (n : ℕ) → n < 65536 → n % 65536 ≡ n
-low-half n h = omega arith
-
 pub fixed-said : (sc : List ℕ) (l : Named) (c : Forest Named) → Node sc l c → fixedIn (tokenAt sc l c) ≡ fixedPart l
 unfolding payloadOf
 fixed-said sc l c h = go l (h .fits) (sym (tag-at sc l c (h .deep) (h .small))) (payload-at sc l c (h .deep) (h .small))
   where
     go : (m : Named) → NodeFits inExpression m c → tagOf m ≡ tagIn (tokenAt sc l c) → payloadIn (tokenAt sc l c) ≡ payloadOf sc m
         → fixedIn (tokenAt sc l c) ≡ fixedPart m
-    go (own (symbol n)) f t p =
-        fixed-symbol (tokenAt sc l c) 1 t refl ∙ ap (λ (k : ℕ). word (lowerHalf k)) p ∙ ap word (low-half n (f .0))
+    go (own (symbol n)) f t p = fixed-symbol (tokenAt sc l c) 1 t refl ∙ ap symbolBytes p
     go (own (variable x)) f t p =
         let e : (x + 65536 * levelOf sc x) % 65536 ≡ x = let small = f .0 in omega arith in
         fixed-variable (tokenAt sc l c) 2 t refl ∙ ap (λ (k : ℕ). word (lowerHalf k)) p ∙ ap word e

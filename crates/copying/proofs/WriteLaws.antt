@@ -1,15 +1,17 @@
 -- What the writers leave in the buffer, where a part of it is lent on and where not.
 --   headed   bytes before others, which were written first, into the part after them
 --   joined   bytes before others, which were written last, into the part after them
-use mathlib.Core.Path.{_≡_, refl, ap, _∙_}
-use Prim.Native.Nat.{ℕ, _+_, _-_, _/_, _%_, _≤_}
+use mathlib.Core.Path.{_≡_, refl, ap, sym, _∙_}
+use Prim.Native.Nat.{ℕ, _+_, _-_, _/_, _%_, _<_, _≤_}
 use native.Mathlib.Omega.{arith}
 use mathlib.Core.List.{[], _∷_, _++_, append-assoc, append-nil}
 use borrow.Rule.Slice.PartMut.{post-is, putMid}
 use lib.ListN.{drop, length, length-append, set, take}
 use lib.Seq.{drop-at, drop-drop, drop-length, length-take-le}
+use Rattle.meaning.specs.Limits.{firstWide}
 use Rattle.meaning.specs.Basics.{Bytes}
-use Rattle.meaning.specs.Field.{field, word}
+use Rattle.meaning.specs.Field.{field, symbolBytes, word}
+use Rattle.meaning.proofs.ByteLaws.{narrow-bytes, wide-bytes}
 use Rattle.tokens.specs.Token.{payloadIn, tagIn}
 use Rattle.slices.proofs.Slices.{rest-all, rows-joined}
 use Rattle.copying.specs.Fixed.{Wrote, aHole, fixedIn, headIn, numberIn, numbersIn}
@@ -33,25 +35,40 @@ pub hole-wrote : (o o′ : Bytes) → o′ ≡ 10 ∷ (word 0 ++ drop 3 o) → W
 unfolding aHole field word
 hole-wrote o o′ e = (refl, e)
 
--- The two numbers of a binder
-pub words-wrote : (x p : ℕ) (o q y : Bytes) → p ≡ payloadIn x → q ≡ word (p % 65536) ++ drop 2 o
-    → y ≡ word (p / 65536) ++ drop 2 (take (length q - 2) (drop 2 q)) → putMid 2 (length q - 2) q y ≡ numbersIn x ++ drop 4 o
+pub words-wrote : (m n : ℕ) (o q y : Bytes) → q ≡ word m ++ drop 2 o → y ≡ word n ++ drop 2 (take (length q - 2) (drop 2 q))
+    → putMid 2 (length q - 2) q y ≡ (word m ++ word n) ++ drop 4 o
 unfolding word
-words-wrote x p o q y e hq hy = rw (← e) (rows-joined (word (p % 65536)) (word (p / 65536)) o q y hq hy)
+words-wrote m n o q y hq hy = rows-joined (word m) (word n) o q y hq hy
+
+-- The returns of `write_symbol`
+module _ (n : ℕ) (o o′ : Bytes) where
+  pub narrow-wrote : n < firstWide → o′ ≡ word n ++ drop 2 o → o′ ≡ symbolBytes n ++ drop (length (symbolBytes n)) o
+  unfolding word
+  narrow-wrote h e = rw (narrow-bytes n h) e
+
+  pub wide-wrote : firstWide ≤ n → o′ ≡ (word (n / 65536) ++ word (n % 65536)) ++ drop 4 o
+      → o′ ≡ symbolBytes n ++ drop (length (symbolBytes n)) o
+  unfolding word
+  wide-wrote h e = rw (wide-bytes n h) e
 
 -- The returns of `write_fixed`
 module _ (x : ℕ) (o o′ : Bytes) where
   fixed-wrote : (bytes : Bytes) → fixedIn x ≡ bytes → o′ ≡ bytes ++ drop (length bytes) o → o′ ≡ fixedIn x ++ drop (length (fixedIn x)) o
   fixed-wrote bytes e h = rw e h
 
+  pub symbol-wrote : (n : ℕ) → fixedIn x ≡ symbolBytes (payloadIn x) → n ≡ payloadIn x
+      → o′ ≡ symbolBytes n ++ drop (length (symbolBytes n)) o → o′ ≡ fixedIn x ++ drop (length (fixedIn x)) o
+  symbol-wrote n e p h = fixed-wrote (symbolBytes n) (e ∙ ap symbolBytes (sym p)) h
+
   pub number-wrote : (p : ℕ) → fixedIn x ≡ numberIn x → p ≡ payloadIn x → o′ ≡ word (p % 65536) ++ drop 2 o
       → o′ ≡ fixedIn x ++ drop (length (fixedIn x)) o
   unfolding word
   number-wrote p e q h = fixed-wrote (numberIn x) e (rw (← q) h)
 
-  pub numbers-wrote : fixedIn x ≡ numbersIn x → o′ ≡ numbersIn x ++ drop 4 o → o′ ≡ fixedIn x ++ drop (length (fixedIn x)) o
+  pub numbers-wrote : (p : ℕ) → fixedIn x ≡ numbersIn x → p ≡ payloadIn x
+      → o′ ≡ (word (p % 65536) ++ word (p / 65536)) ++ drop 4 o → o′ ≡ fixedIn x ++ drop (length (fixedIn x)) o
   unfolding word
-  numbers-wrote e h = fixed-wrote (numbersIn x) e h
+  numbers-wrote p e q h = fixed-wrote (numbersIn x) e (rw (← q) h)
 
   pub none-wrote : fixedIn x ≡ [] → o′ ≡ o → o′ ≡ fixedIn x ++ drop (length (fixedIn x)) o
   none-wrote e h = fixed-wrote [] e h

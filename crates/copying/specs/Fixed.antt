@@ -1,5 +1,5 @@
 -- The bytes of one node, read back from its token: "a one-byte tag, a two-byte length, then that many content bytes".
---   fixedIn    the content before the inner fields: "number, 2 bytes", of a binder two numbers
+--   fixedIn    the content before the inner fields: "number, 2 bytes", of a binder two numbers, of a symbol 2 or 4 bytes (T-05)
 --   aHole      the bytes of a hole
 --   headIn     all that stands before n bytes of inner fields
 --   HeadRoom   what writing a field's head asks
@@ -11,11 +11,11 @@ use mathlib.Core.List.{[], _∷_, _++_}
 use lib.ListN.{length, drop}
 use lib.Dec.{eqb}
 use Rattle.meaning.specs.Basics.{Bytes, choose}
-use Rattle.meaning.specs.Field.{field, word}
+use Rattle.meaning.specs.Field.{field, symbolBytes, word}
 use Rattle.tokens.specs.Token.{tagIn, payloadIn}
 use Rattle.tokens.specs.Key.{lowerHalf, upperHalf}
 
--- The number of a symbol or of a variable
+-- The number of a variable
 abbrev pub numberIn : ℕ → Bytes
 numberIn x = word (lowerHalf (payloadIn x))
 
@@ -24,7 +24,11 @@ abbrev pub numbersIn : ℕ → Bytes
 numbersIn x = word (lowerHalf (payloadIn x)) ++ word (upperHalf (payloadIn x))
 
 unfoldable pub fixedIn : ℕ → Bytes
-fixedIn x = choose (eqb (tagIn x) 1) (numberIn x) (choose (eqb (tagIn x) 2) (numberIn x) (choose (eqb (tagIn x) 4) (numbersIn x) []))
+fixedIn x =
+    choose (eqb (tagIn x) 1) (symbolBytes (payloadIn x))
+    (choose (eqb (tagIn x) 2) (numberIn x)
+    (choose (eqb (tagIn x) 4) (numbersIn x)
+    []))
 
 -- "hole, length 0"
 unfoldable pub aHole : Bytes

@@ -1,6 +1,8 @@
 // Copies terms out of the table of expressions as bytes: "Bodies and values are copied from the problem with its bound names, lengths made
 // right inside out". The tail of the buffer is lent on to the inner terms' writer, then the head is written before what it wrote.
 use bodies::marked;
+use fields::limit::FIRST_WIDE;
+use fields::number::Symbol;
 use tokens::token::payload;
 use tokens::token::size;
 use tokens::token::tag;
@@ -8,8 +10,9 @@ ghost use mathlib.Core.Path.{_≡_};
 ghost use Prim.Native.Nat.{_<_, _≤_};
 ghost use mathlib.Core.List.{_∷_, _++_};
 ghost use lib.ListN.{length, drop};
-ghost use Rattle.meaning.specs.Field.{word};
-ghost use Rattle.copying.specs.Fixed.{numbersIn, fixedIn, aHole, HeadRoom, Wrote, NodeRoom, NodeWrote};
+ghost use Rattle.meaning.specs.Field.{symbolBytes, word};
+ghost use Rattle.tokens.specs.Token.{payloadIn};
+ghost use Rattle.copying.specs.Fixed.{fixedIn, aHole, HeadRoom, Wrote, NodeRoom, NodeWrote};
 ghost use Rattle.copying.specs.Copied.{Copies, Copied, CopiesTerm, CopiedTerm, CopiesTerms, CopiedTerms};
 ghost use Rattle.copying.specs.Measure.{Measurable, Measured};
 
@@ -35,14 +38,26 @@ fn write_word(n: u64, out: &mut [u8])
     out[1] = (n % 256) as u8;
 }
 
-// The two numbers of a binder.
-fn write_words(x: u64, out: &mut [u8])
-    requires { ⌜ 4 ≤ length (now out) ⌝ }
-    ensures { λ r. ⌜ now (out .exit) ≡ numbersIn x ++ drop 4 (now (out .entry)) ⌝ }
+// Two numbers in two bytes each.
+fn write_words(first: u64, second: u64, out: &mut [u8])
+    requires { ⌜ (first < 65536) × (second < 65536) × (4 ≤ length (now out)) ⌝ }
+    ensures { λ r. ⌜ now (out .exit) ≡ (word first ++ word second) ++ drop 4 (now (out .entry)) ⌝ }
 {
-    let load = payload(x);
-    write_word(load % 65536, out);
-    write_word(load / 65536, &mut out[2..]);
+    write_word(first, out);
+    write_word(second, &mut out[2..]);
+}
+
+// A symbol's number, in four bytes where two cannot say it.
+fn write_symbol(x: Symbol, out: &mut [u8])
+    requires { ⌜ length (symbolBytes (x .0)) ≤ length (now out) ⌝ }
+    ensures { λ r. ⌜ now (out .exit) ≡ symbolBytes (x .0) ++ drop (length (symbolBytes (x .0))) (now (out .entry)) ⌝ }
+{
+    let n = x.0;
+    if n < FIRST_WIDE {
+        write_word(n as u64, out);
+    } else {
+        write_words((n / 65536) as u64, (n % 65536) as u64, out);
+    }
 }
 
 fn write_hole(out: &mut [u8]) -> usize
@@ -53,12 +68,19 @@ fn write_hole(out: &mut [u8]) -> usize
     3
 }
 
+// The number of a symbol's token.
+fn symbol(x: u64) -> Symbol
+    ensures { λ r. ⌜ r .0 ≡ payloadIn x ⌝ }
+{
+    Symbol(payload(x) as u32)
+}
+
 // How long the fixed part of a node's content is. An application has none.
 fn fixed_length(x: u64) -> usize
     ensures { λ r. ⌜ r ≡ length (fixedIn x) ⌝ }
 {
     match tag(x) {
-        1 => 2,
+        1 => symbol(x).width(),
         2 => 2,
         4 => 4,
         _ => 0,
@@ -71,9 +93,12 @@ fn write_fixed(x: u64, out: &mut [u8])
     ensures { λ r. ⌜ now (out .exit) ≡ fixedIn x ++ drop (length (fixedIn x)) (now (out .entry)) ⌝ }
 {
     match tag(x) {
-        1 => write_word(payload(x) % 65536, out),
+        1 => write_symbol(symbol(x), out),
         2 => write_word(payload(x) % 65536, out),
-        4 => write_words(x, out),
+        4 => {
+            let load = payload(x);
+            write_words(load % 65536, load / 65536, out)
+        }
         _ => {}
     }
 }

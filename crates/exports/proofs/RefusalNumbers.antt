@@ -1,4 +1,4 @@
--- Every refusal that a C program is given has a number from 1 to 20: not 0, which is done, and none from 256 on, which are answers.
+-- Every refusal that a C program is given has a number from 1 to 20, or 25: not 0, which is done, and none from 256 on, which are answers.
 --   start-numbers, search-numbers, write-numbers, check-numbers   one for each exported function
 -- The rest goes through the definitions of reading in document 01's order.
 use mathlib.Core.Path.{_≡_, refl, subst}
@@ -7,12 +7,12 @@ use mathlib.Core.Bool.{Bool, true, false}
 use mathlib.Core.List.{List}
 use lib.ListN.{length, getD}
 use lib.Dec.{eqb, ltb}
-use Rattle.meaning.specs.Limits.{maxConstraints, maxDepth, maxFunctions, maxInput, maxText, metavariableCount}
+use Rattle.meaning.specs.Limits.{firstWide, maxConstraints, maxDepth, maxFunctions, maxInput, maxText, metavariableCount}
 use Rattle.meaning.specs.Basics.{Bytes, choose}
 use Rattle.meaning.specs.Problem.{Problem, functions}
 use Rattle.meaning.specs.Read.{Answer, after, got, refused, Context, inPattern, inArgument, inExpression, inBody, Kind, symbolKind}
 use Rattle.meaning.specs.Read.{variableKind, applicationKind, binderKind, metavariableKind, functionKind, holeKind, metavariableIn}
-use Rattle.meaning.specs.Read.{functionIn, holeIn, kindOf, wordAt, partsOf, headOf, Content, numbered, leaf, over, many, contentOf}
+use Rattle.meaning.specs.Read.{functionIn, holeIn, kindOf, wordAt, longAt, partsOf, headOf, Content, numbered, leaf, over, many, contentOf}
 use Rattle.meaning.specs.Read.{Reader, readExactly, readAll}
 use Rattle.meaning.specs.Read.{contextBelow, readContent, readTerm, readPair, constraintHead, readConstraints, readProblem}
 use Rattle.meaning.specs.Accept.{bothWays, overlarge, checkProblem, accept}
@@ -87,7 +87,10 @@ numbered-of m c = either (ltb m metavariableCount) _ _ (answer c) (refusal 10 re
 
 content-of : (k : Kind) (c : Bytes) → Refuses (contentOf k c)
 unfolding contentOf
-content-of symbolKind c = either (eqb (length c) 2) _ _ (answer _) (refusal 6 refl)
+content-of symbolKind c =
+    either (eqb (length c) 2) _ _ (answer _)
+    (either (eqb (length c) 4) _ _ (either (ltb (longAt c 0) firstWide) _ _ (refusal 25 refl) (answer _))
+    (refusal 6 refl))
 content-of variableKind c = either (eqb (length c) 2) _ _ (answer _) (refusal 6 refl)
 content-of applicationKind c = either (eqb (length c) 0) _ _ (refusal 6 refl) (answer _)
 content-of binderKind c = either (ltb (length c) 4) _ _ (refusal 6 refl) (answer _)

@@ -24,7 +24,7 @@ use Rattle.seeking.specs.declared.Answer as code
 use Rattle.seeking.specs.declared.Answer.the-variants as answers
 use Rattle.words.specs.Words.{placeWords, isPlaceLong, wordsOf, placeOfWords}
 
--- The start, into words that may be too few or too many for a place: 16, after 1 to 14
+-- The start, into words that may be too few or too many for a place: 16, after 1 to 14 and 25
 abbrev pub placeInto : List ℕ → PlaceValue → Answer PlaceValue
 placeInto words v = choose (isPlaceLong (length words)) (got v) (refused 16)
 

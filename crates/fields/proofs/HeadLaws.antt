@@ -12,6 +12,7 @@ use lib.Seq.{drop-drop}
 use borrow.Author.Tests.{ne-eqb, eq-eqb, lt-ltb, le-ltb}
 use Rattle.meaning.specs.Term.{Forest, nil, Named, NamedTerm, trees}
 use Rattle.meaning.specs.Basics.{Bytes}
+use Rattle.meaning.specs.Field.{symbolBytes}
 use Rattle.meaning.specs.Read.{Answer, refused, got, after, Context, inArgument, Head, wordAt, partsOf, kindOf, headOf, contentOf, Reader}
 use Rattle.meaning.specs.Read.{contextBelow, readExactly, readContent, readTerm}
 use Rattle.fields.specs.Heads.{labelOf, fixedOf, dueOf, contentWith, readFields, kindFrom, PartsDone, HeadDone, DueFits, ContentDone}
@@ -75,7 +76,7 @@ content-fields : (read : Context → Reader) (ctx : Context) (n : Node) (c : Byt
     → readContent read ctx (contentWith n c)
     ≡ after (readFields (dueOf n) (read (contextBelow (labelOf n 0) ctx)) (drop (fixedOf n) c)) (λ f. got (labelOf n (trees f), f))
 unfolding contentWith readFields contextBelow
-content-fields read ctx (nodes.Symbol x) c h = rw (none-due (read ctx) c 2 h)
+content-fields read ctx (nodes.Symbol x) c h = rw (none-due (read ctx) c (length (symbolBytes (x .0))) h)
 content-fields read ctx (nodes.Variable x) c h = rw (none-due (read ctx) c 2 h)
 content-fields read ctx nodes.Application c h = refl
 content-fields read ctx (nodes.Binder b x) c h = refl

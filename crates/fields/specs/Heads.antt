@@ -9,6 +9,7 @@ use lib.ListN.{length, take, drop}
 use Rattle.meaning.specs.Term.{Forest, symbol, variable, application, binder, own, slot, metavariable, function, hole, Named, NamedTerm}
 use Rattle.meaning.specs.Term.{trees}
 use Rattle.meaning.specs.Basics.{Bytes}
+use Rattle.meaning.specs.Field.{symbolBytes}
 use Rattle.meaning.specs.Read as read
 use Rattle.meaning.specs.Read.{Answer, refused, got, after, Reader, leaf, over, many, readExactly, readAll, contextBelow, readTerm}
 use Rattle.fields.specs.declared.field.Context.{Context}
@@ -67,7 +68,7 @@ labelOf (nodes.Function m) n = slot (function (m .0) 1)
 labelOf nodes.Hole n = slot (hole 0)
 
 abbrev pub fixedOf : Node → ℕ
-fixedOf (nodes.Symbol x) = 2
+fixedOf (nodes.Symbol x) = length (symbolBytes (x .0))
 fixedOf (nodes.Variable x) = 2
 fixedOf nodes.Application = 0
 fixedOf (nodes.Binder b x) = 4

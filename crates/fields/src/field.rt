@@ -2,7 +2,7 @@
 ghost use mathlib.Core.Path.{_≡_};
 ghost use Prim.Native.Nat.{_+_, _≤_};
 ghost use lib.ListN.{length};
-ghost use Rattle.meaning.specs.Read.{kindOf, wordAt};
+ghost use Rattle.meaning.specs.Read.{kindOf, longAt, wordAt};
 ghost use Rattle.fields.specs.Heads.{contextFrom, ruledFrom, PartsDone, HeadDone};
 
 // Where a term stands, which decides what its tag may be.
@@ -66,6 +66,14 @@ pub fn word(s: &[u8], at: usize) -> u16
     ensures { λ r. ⌜ r ≡ wordAt (now (s .entry)) at ⌝ }
 {
     (s[at] as u16) * 256 + (s[at + 1] as u16)
+}
+
+// The number in four bytes, high byte first.
+pub fn long(s: &[u8], at: usize) -> u32
+    requires { ⌜ at + 4 ≤ length (now s) ⌝ }
+    ensures { λ r. ⌜ r ≡ longAt (now (s .entry)) at ⌝ }
+{
+    (word(s, at) as u32) * 65536 + (word(s, at + 2) as u32)
 }
 
 // A field's tag and the length of its content.

@@ -3,7 +3,9 @@ use crate::field::Context;
 use crate::field::Head;
 use crate::field::Kind;
 use crate::field::head_of;
+use crate::field::long;
 use crate::field::word;
+use crate::limit::FIRST_WIDE;
 use crate::limit::METAVARIABLE_COUNT;
 use crate::number::Binder;
 use crate::number::Metavariable;
@@ -52,7 +54,7 @@ impl Node {
         ensures { λ r. ⌜ r ≡ fixedOf self ⌝ }
     {
         match self {
-            Node::Symbol(_) => 2,
+            Node::Symbol(x) => x.width(),
             Node::Variable(_) => 2,
             Node::Application => 0,
             Node::Binder(_, _) => 4,
@@ -82,14 +84,21 @@ pub enum Content {
     Refused(u8),
 }
 
-// The content rules, one for each tag: 6, then 10.
+// The content rules, one for each tag: 6, then 25 or 10.
 fn symbol_in(c: &[u8]) -> Content
     ensures { λ r. ⌜ ContentDone symbolKind (now (c .entry)) r ⌝ }
 {
     if c.len() == 2 {
-        Content::Node(Node::Symbol(Symbol(word(c, 0) as u32)))
+        return Content::Node(Node::Symbol(Symbol(word(c, 0) as u32)));
+    }
+    if c.len() != 4 {
+        return Content::Refused(6);
+    }
+    let n = long(c, 0);
+    if n < FIRST_WIDE {
+        Content::Refused(25)
     } else {
-        Content::Refused(6)
+        Content::Node(Node::Symbol(Symbol(n)))
     }
 }
 

@@ -4,15 +4,17 @@
 use mathlib.Core.Path.{_≡_, refl, ap, sym, _∙_, subst}
 use Prim.Native.Nat.{ℕ, _+_, _-_, _*_, _/_, _%_, _<_, _≤_}
 use mathlib.Core.Bool.{Bool, true, false}
-use mathlib.Core.List.{List, [], _∷_, _++_}
+use mathlib.Core.List.{List, [], _∷_, _++_, append-nil}
 use native.Mathlib.Omega.{arith}
-use lib.ListN.{length, take, drop, getD, length-append, take-append-drop}
+use native.Mathlib.Decide.{decLt}
+use lib.ListN.{length, take, drop, getD, length-append, length-drop, take-append-drop}
 use lib.Seq.{length-take-le, take-at, drop-at, drop-drop}
 use lib.Dec.{eqb, ltb}
-use borrow.Author.Tests.{ltb-false, le-ltb, ne-eqb}
+use borrow.Author.Tests.{ltb-false, lt-ltb, le-ltb, ne-eqb}
 use Rattle.meaning.specs.Basics.{choose, All, Bytes}
-use Rattle.meaning.specs.Field.{word, field}
-use Rattle.meaning.specs.Read.{Answer, refused, got, after, wordAt, Parts, partsOf}
+use Rattle.meaning.specs.Limits.{firstWide}
+use Rattle.meaning.specs.Field.{word, field, symbolBytes}
+use Rattle.meaning.specs.Read.{Answer, refused, got, after, wordAt, longAt, Parts, partsOf}
 use Rattle.meaning.proofs.Lists.{never, append-all, all-append}
 
 abbrev pub Byte : ℕ → Type 0
@@ -81,6 +83,47 @@ two-words (u ∷ v ∷ w ∷ x ∷ c) b h = (rw (word-of u v (b .1 .0), word-of 
 pub word-bytes : (n : ℕ) → n < 65536 → All Byte (word n)
 unfolding word
 word-bytes n h = (omega arith, (omega arith, tt))
+
+-- A symbol's number: two bytes, or four
+pub by-width : {C : Type 0} (n : ℕ) → (n < firstWide → C) → (firstWide ≤ n → C) → C
+by-width n f g = elim (decLt n firstWide) [ yes h ↦ f h | no h ↦ g (omega arith) ]
+
+pub narrow-bytes : (n : ℕ) → n < firstWide → symbolBytes n ≡ word n
+unfolding symbolBytes
+narrow-bytes n h = rw (lt-ltb n firstWide h)
+
+pub wide-bytes : (n : ℕ) → firstWide ≤ n → symbolBytes n ≡ word (n / 65536) ++ word (n % 65536)
+unfolding symbolBytes
+wide-bytes n h = rw (le-ltb n firstWide h)
+
+-- How many they are
+pub narrow-two : (n : ℕ) → n < firstWide → length (symbolBytes n) ≡ 2
+unfolding word
+narrow-two n h = rw (narrow-bytes n h)
+
+pub wide-four : (n : ℕ) → firstWide ≤ n → length (symbolBytes n) ≡ 4
+unfolding word
+wide-four n h = rw (wide-bytes n h)
+
+pub long-value : (n : ℕ) → n / 65536 * 65536 + n % 65536 ≡ n
+long-value n = omega arith
+
+pub exact-long : (c : Bytes) → All Byte c → length c ≡ 4
+    → (word (longAt c 0 / 65536) ++ word (longAt c 0 % 65536) ≡ c) × (longAt c 0 < 4294967296)
+exact-long c b h =
+    let w = two-words c b (omega arith) in
+    let high : longAt c 0 / 65536 ≡ wordAt c 0 = omega arith in
+    let low : longAt c 0 % 65536 ≡ wordAt c 2 = omega arith in
+    let rest : drop 4 c ≡ [] = none-left (drop 4 c) (simp length-drop (omega arith)) in
+    (rw (high, low) (rw (rest, append-nil) at (w .0)), omega arith)
+
+pub symbol-bytes : (n : ℕ) → n < 4294967296 → All Byte (symbolBytes n)
+unfolding firstWide
+symbol-bytes n h =
+    let high = word-bytes (n / 65536) (omega arith) in
+    let low = word-bytes (n % 65536) (omega arith) in
+    by-width n (λ g. rw (narrow-bytes n g) (word-bytes n g))
+    (λ g. rw (wide-bytes n g) (all-append Byte (word (n / 65536)) (word (n % 65536)) high low))
 
 -- Fields and the bytes after them
 pub field-some : (tag : ℕ) (c later : Bytes) → eqb (length (field tag c ++ later)) 0 ≡ false

@@ -3,13 +3,13 @@
 --   texts     the texts of a problem's solution rows, as bytes
 --   reads     reading of a text
 use mathlib.Core.List.{List, map}
-use Rattle.meaning.specs.Limits.{maxInput, maxConstraints, maxDepth, metavariableCount, maxFunctions, maxFaceNodes, maxText}
+use Rattle.meaning.specs.Limits.{maxInput, maxConstraints, maxDepth, firstWide, metavariableCount, maxFunctions, maxFaceNodes, maxText}
 use Rattle.meaning.specs.Problem.{Problem, placesOf, functions, metavariables}
 use Rattle.meaning.specs.Row.{Row, rowBody}
 use Rattle.meaning.specs.Rows.{rows}
 use Rattle.meaning.specs.Candidate.{candidate, solves, solutionRows}
 use Rattle.meaning.specs.Basics.{Bytes}
-use Rattle.meaning.specs.Field.{word, field, encode}
+use Rattle.meaning.specs.Field.{word, field, symbolBytes, encode}
 use Rattle.meaning.specs.Read.{Answer, metavariableIn, functionIn, holeIn, kindOf, partsOf, headOf, contentOf, readExactly, readAll}
 use Rattle.meaning.specs.Read.{contextBelow, readTerm, readPair, constraintHead, readConstraints, readProblem}
 use Rattle.meaning.specs.Accept.{bothWays, overlarge, checkProblem, accept}
@@ -17,13 +17,13 @@ use Rattle.meaning.specs.Text.{Item, entryOf, textOf, readNumbered, read
 use Rattle.meaning.specs.Encoded.{encodeText}
 
 unfoldable pub accepts : Bytes → Answer Problem
-unfolding maxInput maxConstraints maxDepth metavariableCount maxFunctions maxFaceNodes word field metavariableIn functionIn holeIn kindOf partsOf headOf contentOf readExactly readAll contextBelow readTerm readPair constraintHead readConstraints readProblem placesOf functions bothWays overlarge checkProblem accept
+unfolding maxInput maxConstraints maxDepth firstWide metavariableCount maxFunctions maxFaceNodes word field metavariableIn functionIn holeIn kindOf partsOf headOf contentOf readExactly readAll contextBelow readTerm readPair constraintHead readConstraints readProblem placesOf functions bothWays overlarge checkProblem accept
 accepts s = accept s
 
 unfoldable pub texts : Problem → List Bytes
-unfolding metavariableCount placesOf functions metavariables rows rowBody candidate solves solutionRows entryOf textOf word field encode encodeText
+unfolding firstWide metavariableCount placesOf functions metavariables rows rowBody candidate solves solutionRows entryOf textOf word field symbolBytes encode encodeText
 texts p = map (λ (r : Row). encodeText (textOf p r)) (solutionRows p)
 
 unfoldable pub reads : Bytes → Answer (List Item)
-unfolding maxText maxDepth metavariableCount word field metavariableIn functionIn holeIn kindOf partsOf headOf contentOf readExactly readAll contextBelow readTerm readNumbered readOpen readItem readItems readText
+unfolding maxText maxDepth firstWide metavariableCount word field metavariableIn functionIn holeIn kindOf partsOf headOf contentOf readExactly readAll contextBelow readTerm readNumbered readOpen readItem readItems readText
 reads s = readText s

@@ -15,7 +15,7 @@ use Rattle.meaning.specs.Accept.{accept}
 use Rattle.meaning.specs.Text.{textOf, readText}
 use Rattle.meaning.specs.Encoded.{encodeText}
 use Rattle.meaning.specs.Case.{Case, further}
-use Rattle.meaning.specs.Starred.{Starred, starred}
+use Rattle.meaning.specs.Starred.{Starred, starred, widths}
 use Rattle.meaning.proofs.Computed.{accepts, texts, reads}
 
 -- A problem has so many rows, and the texts of its solution rows, in row order, are those of the case
@@ -52,6 +52,11 @@ starred-hold = (
     ),
   ),
 )
+
+-- T-05: "Correctness and completeness of the list hold for problems with both widths"
+pub widths-hold : HoldsInBytes widths
+unfolding accepts texts reads
+widths-hold = (refl, (refl, refl), refl, refl)
 
 pub further-hold : All Holds further
 unfolding texts

@@ -1,26 +1,27 @@
 -- Reading and encoding one node of a term: its field's head, its kind, and what its content says before the inner fields.
 --   kind     which of the seven tags a field has; `kindTag` is its number, `Placed` says that it may stand there
 --   Opened   what the fixed part of a content says of the node, its bytes and its inner fields
-use mathlib.Core.Path.{_≡_, refl, ap, sym, subst}
-use Prim.Native.Nat.{ℕ, _+_, _<_, _≤_}
+use mathlib.Core.Path.{_≡_, refl, ap, sym, _∙_, subst}
+use Prim.Native.Nat.{ℕ, _+_, _/_, _%_, _<_, _≤_}
 use mathlib.Core.Bool.{true}
 use mathlib.Core.List.{_∷_, _++_, append-nil}
 use native.Mathlib.Omega.{arith}
 use lib.ListN.{length, getD, length-append}
 use lib.Dec.{eqb, ltb}
 use borrow.Author.Tests.{ltb-true, ltb-false, lt-ltb, le-ltb, eqb-true, eqb-false, ne-eqb}
-use Rattle.meaning.specs.Limits.{metavariableCount}
+use Rattle.meaning.specs.Limits.{firstWide, metavariableCount}
 use Rattle.meaning.specs.Basics.{All, Bytes}
 use Rattle.meaning.specs.Term.{Forest, nil, cons, graft, one, trees, symbol, variable, application, binder, own, slot, metavariable}
 use Rattle.meaning.specs.Term.{function, hole, Named, NamedTerm}
-use Rattle.meaning.specs.Field.{word, field, tagOf, fixedPart, encode}
+use Rattle.meaning.specs.Field.{word, field, tagOf, symbolBytes, fixedPart, encode}
 use Rattle.meaning.specs.Read.{got, Context, inPattern, inArgument, inExpression, inBody, Kind, symbolKind, variableKind}
 use Rattle.meaning.specs.Read.{applicationKind, binderKind, metavariableKind, functionKind, holeKind, metavariableIn, functionIn}
-use Rattle.meaning.specs.Read.{holeIn, kindOf, partsOf, Head, headOf, Content, leaf, over, many, contentOf}
+use Rattle.meaning.specs.Read.{holeIn, kindOf, wordAt, longAt, partsOf, Head, headOf, Content, leaf, over, many, contentOf}
 use Rattle.meaning.specs.Readable.{MetavariableAt, FunctionAt, HoleAt, NodeFits}
 use Rattle.meaning.proofs.Lists.{all-append}
 use Rattle.meaning.proofs.ByteLaws.{Byte, got-is, refused-not, by-got, unless-got, when-got, by-choice, none-left, one-byte}
 use Rattle.meaning.proofs.ByteLaws.{first-byte, exact-word, two-words, word-value, word-bytes, parts-field, field-parts, field-some}
+use Rattle.meaning.proofs.ByteLaws.{by-width, narrow-bytes, wide-bytes, long-value, exact-long, symbol-bytes}
 
 -- Forests: the bytes of the trees one after the other
 pub encode-graft : (t : NamedTerm) (f : Forest Named) → encode (graft t f) ≡ encode (one t) ++ encode f
@@ -189,11 +190,15 @@ field-head ctx tag k c later e = rw (field-some tag c later, field-parts tag c l
 -- A content that is read says what its bytes are
 pub content-opened : (ctx : Context) (k : Kind) (c : Bytes) (x : Content) → All Byte c → Placed ctx k → contentOf k c ≡ got x
     → Opened ctx (kindTag k) c x
-unfolding contentOf
+unfolding contentOf firstWide
 content-opened ctx symbolKind c x b p e =
-    let r = when-got (eqb (length c) 2) 6 _ e in
-    let w = exact-word c b (eqb-true (length c) 2 (r .0)) in
-    subst (Opened ctx 1 c) (got-is (r .1)) (refl, w .0, (w .1, refl))
+    by-choice (eqb (length c) 2) _ _ e (λ t e.
+    let w = exact-word c b (eqb-true (length c) 2 t) in
+    subst (Opened ctx 1 c) (got-is e) (refl, narrow-bytes (wordAt c 0) (w .1) ∙ w .0, (omega arith, refl))) (λ _ e.
+    let r = when-got (eqb (length c) 4) 6 _ e in
+    let q = unless-got (ltb (longAt c 0) firstWide) 25 _ (r .1) in
+    let w = exact-long c b (eqb-true (length c) 4 (r .0)) in
+    subst (Opened ctx 1 c) (got-is (q .1)) (refl, wide-bytes (longAt c 0) (ltb-false (longAt c 0) firstWide (q .0)) ∙ w .0, (w .1, refl)))
 content-opened ctx variableKind c x b p e =
     let r = when-got (eqb (length c) 2) 6 _ e in
     let w = exact-word c b (eqb-true (length c) 2 (r .0)) in
@@ -222,11 +227,18 @@ content-opened ctx (holeKind i) c x b p e =
     let some : length c ≡ 0 = eqb-true (length c) 0 (r .0) in
     subst (Opened ctx 10 c) (got-is (r .1)) (refl, sym (none-left c (omega arith)), (p .0, p .1, refl))
 
+symbol-on : (n : ℕ) (c : Forest Named) → c ≡ nil → contentOf symbolKind (symbolBytes n ++ encode c) ≡ got (leaf (own (symbol n)))
+unfolding contentOf encode word
+symbol-on n c e =
+    by-width n
+    (λ h. rw (e, narrow-bytes n h, word-value n))
+    (λ h. rw (e, wide-bytes n h, word-value (n / 65536), word-value (n % 65536), long-value n, le-ltb n firstWide h))
+
 -- The content of a node that fits is read as that node
 pub content-on : (ctx : Context) (l : Named) (c : Forest Named) → NodeFits ctx l c
     → contentOf (kindOn l) (fixedPart l ++ encode c) ≡ got (contentOn l c)
 unfolding contentOf encode word
-content-on ctx (own (symbol n)) c fits = rw (fits .1, word-value n)
+content-on ctx (own (symbol n)) c fits = symbol-on n c (fits .1)
 content-on ctx (own (variable x)) c fits = rw (fits .1, word-value x)
 content-on ctx (own (application n)) c fits = rw (ne-eqb (length (encode c)) 0 (λ e. omega (arith, some-bytes c (omega arith))))
 content-on ctx (own (binder b x)) c fits =
@@ -238,7 +250,7 @@ content-on ctx (slot (hole i)) c fits = rw (fits .2)
 -- A node that fits has bytes before its inner fields
 pub fixed-bytes : (ctx : Context) (l : Named) (c : Forest Named) → NodeFits ctx l c → All Byte (fixedPart l)
 unfolding metavariableCount
-fixed-bytes ctx (own (symbol n)) c fits = word-bytes n (fits .0)
+fixed-bytes ctx (own (symbol n)) c fits = symbol-bytes n (fits .0)
 fixed-bytes ctx (own (variable x)) c fits = word-bytes x (fits .0)
 fixed-bytes ctx (own (application n)) c fits = tt
 fixed-bytes ctx (own (binder b x)) c fits = all-append Byte (word b) (word x) (word-bytes b (fits .0)) (word-bytes x (fits .1))

@@ -149,6 +149,31 @@ atLimits =
 abbrev pub IsAccepted : Bytes → Type 0
 IsAccepted s = (p : Problem) × (accept s ≡ got p)
 
+-- T-05: a symbol of these four bytes
+abbrev longSymbol : ℕ → ℕ → ℕ → ℕ → Bytes
+longSymbol a b c d = field 1 (a ∷ b ∷ c ∷ d ∷ [])
+
+abbrev pub widthRefusals : List Refusal
+widthRefusals =
+    -- a symbol of no byte and of 5, a variable of 4
+    by 6 (withPattern (field 1 []))
+    ∷ by 6 (withPattern (field 1 (0 ∷ 1 ∷ 0 ∷ 0 ∷ 0 ∷ [])))
+    ∷ by 6 (withPattern (field 2 (0 ∷ 1 ∷ 0 ∷ 0 ∷ [])))
+    -- 0 and 65,535 in four bytes, in a pattern, in an argument and in an expression
+    ∷ by 25 (withPattern (longSymbol 0 0 0 0))
+    ∷ by 25 (withPattern (functionField 0 (longSymbol 0 0 255 255)))
+    ∷ by 25 (constraintField symbolField (longSymbol 0 0 255 255))
+    -- before an unknown tag that follows, and before the 7 of the constraint around it; after the depth
+    ∷ by 25 (constraintField (longSymbol 0 0 0 5) (field 8 []))
+    ∷ by 25 (field 7 (longSymbol 0 0 0 5))
+    ∷ by 5 (withPattern (deep 32 (longSymbol 0 0 0 5)))
+    ∷ []
+
+-- 65,535 in two bytes, 65,536 and 4,294,967,295 in four
+abbrev pub atWidths : List Bytes
+atWidths =
+    withPattern (field 1 (255 ∷ 255 ∷ [])) ∷ withPattern (longSymbol 0 1 0 0) ∷ withPattern (longSymbol 255 255 255 255) ∷ []
+
 -- Texts that are refused
 abbrev value : ℕ → Bytes → Bytes
 value m term = field 8 (m ∷ term)
@@ -280,6 +305,19 @@ refusals-hold = (
     ),
   ),
 )
+
+pub widths-refused : All IsRefused widthRefusals
+unfolding accepts
+widths-refused = (refl, (refl, (refl, (refl, (refl, (refl, (refl, (refl, (refl, tt)))))))))
+
+pub widths-accepted : All IsAccepted atWidths
+unfolding accepts
+widths-accepted = ((_, refl), ((_, refl), ((_, refl), tt)))
+
+-- "25 when a 4-byte number is below 65,536 (20 in a text)"
+pub widths-refused-text : IsRefusedText (by 20 (value 1 (longSymbol 0 0 255 255)))
+unfolding reads
+widths-refused-text = refl
 
 pub text-refusals-hold : All IsRefusedText textRefusals
 unfolding reads

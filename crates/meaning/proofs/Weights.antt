@@ -16,7 +16,7 @@ use Rattle.meaning.specs.Shift.{shiftLabel}
 use Rattle.meaning.specs.Lower.{lowerTerm}
 use Rattle.meaning.specs.Problem.{Problem, namedPatterns, namedExpressions}
 use Rattle.meaning.specs.Face.{Face, agrees, walk}
-use Rattle.meaning.specs.Field.{word, tagOf, fixedPart, field, encode, encodeConstraint, encodeProblem}
+use Rattle.meaning.specs.Field.{word, tagOf, symbolBytes, fixedPart, field, encode, encodeConstraint, encodeProblem}
 use Rattle.meaning.proofs.Lockstep.{agrees-eq}
 use Rattle.meaning.proofs.ShiftLaws.{shift-lower-term}
 use Rattle.meaning.proofs.ByteLaws.{field-length}
@@ -26,7 +26,7 @@ use Rattle.meaning.proofs.Lists.{never}
 
 -- A field's tag, length and fixed part
 abbrev pub labelWeight : {X B : Type 0} → Label X B → ℕ
-labelWeight (own (symbol n)) = 5
+labelWeight (own (symbol n)) = 3 + length (symbolBytes n)
 labelWeight (own (variable x)) = 5
 labelWeight (own (application n)) = 3
 labelWeight (own (binder b x)) = 7

@@ -1,4 +1,5 @@
--- The checks after reading, and acceptance: "A problem is accepted when none of 1 to 14 applies."
+-- The checks after reading, and acceptance: "A problem is accepted when none of 1 to 14 applies."; T-05, of 25, which reading gives:
+-- "a problem refused so isn't accepted".
 use mathlib.Core.Bool.{Bool, _&&_, not}
 use lib.ListN.{length}
 use lib.Dec.{ltb}

@@ -264,6 +264,17 @@ secondApplication = record {
       ∷ [];
 }
 
+-- T-05: (P(X), f(s, t)), (X, s) with s symbol 65,541, in four bytes, and t symbol 5, its low half: they are not equal
+abbrev pub bothWidths : Case
+bothWidths = record {
+  problem = con (P X) (app (sym 65541 ∷ sym 5 ∷ [])) ∷ con X (sym 65541) ∷ [];
+  rowCount = 4;
+  texts =
+      (bodyP (app (box ∷ sym 5 ∷ [])) ∷ isX (sym 65541) ∷ [])
+      ∷ (bodyP (app (sym 65541 ∷ sym 5 ∷ [])) ∷ isX (sym 65541) ∷ [])
+      ∷ [];
+}
+
 abbrev pub further : List Case
 further =
     outsideSpelling ∷ lowestSpelling ∷ conjunction ∷ twoDifferences ∷ tableFirst ∷ tableSecond ∷ tableThird

@@ -38,7 +38,7 @@ replyValue (refusedCall r) = refusedCall r
 
 -- "A call takes the problem, a place and an allowance n"
 pub data SearchCall (s : Bytes) (v : PlaceValue) (n : ℕ) : HostReply → Type 0 where
-  -- 1 to 14
+  -- 1 to 14, 25
   notAccepted : (r : ℕ) → accept s ≡ refused r → SearchCall s v n (refusedCall r)
   -- "15 n is 0"
   noAllowance : (p : Problem) → accept s ≡ got p → n ≡ 0 → SearchCall s v n (refusedCall 15)
@@ -55,7 +55,7 @@ rowText p r = encodeText (textOf p r)
 -- Writing, by the answer (the text's length, or the refusal) and the whole buffer after: "a successful write puts the text at the
 -- buffer's front, returns its length, and changes no byte after it"; on a refusal "the output buffer and open search stay"
 pub data WriteCall (s : Bytes) (v : PlaceValue) (buffer : Bytes) : Answer ℕ → Bytes → Type 0 where
-  -- 1 to 14
+  -- 1 to 14, 25
   notAccepted : (r : ℕ) → accept s ≡ refused r → WriteCall s v buffer (refused r) buffer
   -- "16 no such row, past the last included"
   noSuchRow : (p : Problem) → accept s ≡ got p → ((r : Row) → Names p v (at r) → ⊥) → WriteCall s v buffer (refused 16) buffer
@@ -69,6 +69,6 @@ pub data WriteCall (s : Bytes) (v : PlaceValue) (buffer : Bytes) : Answer ℕ �
       → solves p r ≡ true → length (rowText p r) ≤ length buffer
       → WriteCall s v buffer (got (length (rowText p r))) (rowText p r ++ drop (length (rowText p r)) buffer)
 
--- "The checker takes a problem and a text .. and says yes or no": 1 to 14, then 19 and 20
+-- "The checker takes a problem and a text .. and says yes or no": 1 to 14 and 25, then 19 and 20
 unfoldable pub checkCall : Bytes → Bytes → Answer Bool
 checkCall s text = after (accept s) (λ p. after (readText text) (λ is. got (passes p is)))

@@ -4,7 +4,9 @@
 use Prim.Native.Nat.{ℕ, _/_, _%_}
 use mathlib.Core.List.{[], _∷_, _++_}
 use lib.ListN.{length}
-use Rattle.meaning.specs.Basics.{Bytes, each}
+use lib.Dec.{ltb}
+use Rattle.meaning.specs.Limits.{firstWide}
+use Rattle.meaning.specs.Basics.{Bytes, choose, each}
 use Rattle.meaning.specs.Term.{Forest, Named, application, binder, cons, function, hole, metavariable, nil, one, own, slot, symbol}
 use Rattle.meaning.specs.Term.{variable}
 use Rattle.meaning.specs.Problem.{Constraint, Problem}
@@ -25,9 +27,13 @@ tagOf (slot (metavariable m)) = 5
 tagOf (slot (function f n)) = 6
 tagOf (slot (hole i)) = 10
 
+-- A symbol's number: four bytes just where two cannot say it
+unfoldable pub symbolBytes : ℕ → Bytes
+symbolBytes n = choose (ltb n firstWide) (word n) (word (n / 65536) ++ word (n % 65536))
+
 -- The content before the inner fields
 abbrev pub fixedPart : Named → Bytes
-fixedPart (own (symbol n)) = word n
+fixedPart (own (symbol n)) = symbolBytes n
 fixedPart (own (variable x)) = word x
 fixedPart (own (application n)) = []
 fixedPart (own (binder b x)) = word b ++ word x

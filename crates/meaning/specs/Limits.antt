@@ -1,4 +1,4 @@
--- The limits of document 01, each named once.
+-- The limits of document 01, as the change requests that have landed leave them, each named once.
 use Prim.Native.Nat.{ℕ}
 
 -- "of at most 4,096 bytes" (refusal 1)
@@ -12,6 +12,10 @@ maxConstraints = 16
 -- "a term directly inside another has one more, at most 32" (refusals 5 and 20)
 unfoldable pub maxDepth : ℕ
 maxDepth = 32
+
+-- "25 when a 4-byte number is below 65,536" (T-05): the first number of a symbol that has four bytes
+unfoldable pub firstWide : ℕ
+firstWide = 65536
 
 -- "number 0 to 31": how many metavariables there can be (refusals 10 and 20)
 unfoldable pub metavariableCount : ℕ

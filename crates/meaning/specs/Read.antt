@@ -8,7 +8,7 @@ use Prim.Native.Nat.{ℕ, zero, suc, _+_, _-_, _*_}
 use mathlib.Core.List.{[], _∷_}
 use lib.ListN.{length, take, drop, getD}
 use lib.Dec.{eqb, ltb}
-use Rattle.meaning.specs.Limits.{maxConstraints, maxDepth, maxInput, metavariableCount}
+use Rattle.meaning.specs.Limits.{firstWide, maxConstraints, maxDepth, maxInput, metavariableCount}
 use Rattle.meaning.specs.Basics.{Bytes, choose}
 use Rattle.meaning.specs.Term.{Forest, Named, NamedTerm, application, binder, function, graft, hole, metavariable, nil, own, slot}
 use Rattle.meaning.specs.Term.{symbol, trees, variable}
@@ -75,6 +75,10 @@ kindOf ctx tag =
 abbrev pub wordAt : Bytes → ℕ → ℕ
 wordAt s at = getD s at 0 * 256 + getD s (at + 1) 0
 
+-- The four bytes at a position, likewise
+abbrev pub longAt : Bytes → ℕ → ℕ
+longAt s at = wordAt s at * 65536 + wordAt s (at + 2)
+
 pub record Parts : Type 0 where
   pub tag : ℕ
   pub content : Bytes
@@ -111,9 +115,16 @@ pub data Content : Type 0 where
 abbrev pub numbered : ℕ → Content → Answer Content
 numbered m c = choose (ltb m metavariableCount) (got c) (refused 10)
 
--- "6 fixed part too short or, for tags 1, 2, 5, too long; tag 3 empty"
+-- T-05: "Tag 1 may now have 4 content bytes, and a symbol's number is then 32 bits wide"; "25 when a 4-byte number is below 65,536"
+abbrev pub wideSymbol : ℕ → Answer Content
+wideSymbol n = choose (ltb n firstWide) (refused 25) (got (leaf (own (symbol n))))
+
+-- "6 fixed part too short or, for tags 1, 2, 5, too long; tag 3 empty"; T-05: "Refusal 6 allows 2 or 4 bytes for tag 1"
 unfoldable pub contentOf : Kind → Bytes → Answer Content
-contentOf symbolKind c = choose (eqb (length c) 2) (got (leaf (own (symbol (wordAt c 0))))) (refused 6)
+contentOf symbolKind c =
+    choose (eqb (length c) 2) (got (leaf (own (symbol (wordAt c 0)))))
+    (choose (eqb (length c) 4) (wideSymbol (longAt c 0))
+    (refused 6))
 contentOf variableKind c = choose (eqb (length c) 2) (got (leaf (own (variable (wordAt c 0))))) (refused 6)
 contentOf applicationKind c = choose (eqb (length c) 0) (refused 6) (got (many c))
 contentOf binderKind c = choose (ltb (length c) 4) (refused 6) (got (over (own (binder (wordAt c 0) (wordAt c 2))) 1 (drop 4 c)))

@@ -41,8 +41,12 @@ HoleAt inBody = Unit {0}
 abbrev pub TwoBytes : ℕ → Type 0
 TwoBytes n = n < 65536
 
+-- T-05: "a symbol's number is then 32 bits wide"
+abbrev pub FourBytes : ℕ → Type 0
+FourBytes n = n < 4294967296
+
 abbrev pub NodeFits : Context → Named → Forest Named → Type 0
-NodeFits ctx (own (symbol n)) c = TwoBytes n × (c ≡ nil)
+NodeFits ctx (own (symbol n)) c = FourBytes n × (c ≡ nil)
 NodeFits ctx (own (variable x)) c = TwoBytes x × (c ≡ nil)
 NodeFits ctx (own (application n)) c = (n ≡ trees c) × (0 < n)
 NodeFits ctx (own (binder b x)) c = TwoBytes b × TwoBytes x × (trees c ≡ 1)

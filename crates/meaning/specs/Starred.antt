@@ -1,10 +1,10 @@
--- The starred examples of document 01 as bytes, each written out by hand from the format of fields.
+-- The starred examples of document 01 as bytes, and one of T-05, each written out by hand from the format of fields.
 --   hex       bytes as document 01 prints them: so many bytes, and the number whose hexadecimal digits they are
 --   Starred   a case with the bytes of its problem and of its solutions' texts
 use Prim.Native.Nat.{ℕ, zero, suc, _/_, _%_, _^_}
 use mathlib.Core.List.{List, [], _∷_, _++_}
 use Rattle.meaning.specs.Basics.{Bytes}
-use Rattle.meaning.specs.Case.{Case, boundValue, noConstraint, notCaught, onePlusOne, oneSymbol, twoApplications, twoValues}
+use Rattle.meaning.specs.Case.{Case, bothWidths, boundValue, noConstraint, notCaught, onePlusOne, oneSymbol, twoApplications, twoValues}
 use Rattle.meaning.specs.Case.{underBinder, unusedVariable}
 
 abbrev pub hex : ℕ → ℕ → Bytes
@@ -72,3 +72,14 @@ starred =
           ∷ [];
     }
     ∷ []
+
+-- T-05: symbols of both widths in one problem
+abbrev pub widths : Starred
+widths = record {
+  case = bothWidths;
+  input = hex 26 0x070017060005000500010103000C010004000100050100020005 ++ hex 14 0x07000B0500010101000400010005;
+  written =
+      hex 26 0x09000C000300080A000001000200050800080101000400010005
+      ∷ hex 30 0x0900100003000C0100040001000501000200050800080101000400010005
+      ∷ [];
+}

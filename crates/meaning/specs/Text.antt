@@ -50,7 +50,7 @@ entryOf p r m = choose (isFunction p m) (writtenBody p r m) (writtenValue p (loo
 unfoldable pub textOf : Problem → Row → List Item
 textOf p r = map (λ m. (m, entryOf p r m)) (metavariables p)
 
--- Reading a text: 19, then 20 for whatever is not as above
+-- Reading a text: 19, then 20 for whatever is not as above; T-05, of 25: "20 in a text"
 abbrev pub orTwenty : {A : Type 0} → Answer A → Answer A
 orTwenty (refused r) = refused 20
 orTwenty (got a) = got a

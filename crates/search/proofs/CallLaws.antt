@@ -73,7 +73,7 @@ refuses-answers s place n number r h c =
     let e = refusal-leaves number place r h in
     record { call = subst (SearchCall s (valueOf place) n) (sym (e .0)) c; leaves = e .1 }
 
--- 1 to 14
+-- 1 to 14, 25
 pub answers-refused : (s : Bytes) (place : code.Place) (n number : ℕ) (r : Searched) → accept s ≡ refused number → Refuses number place r
     → Answers s place n r
 answers-refused s place n number r e h = refuses-answers s place n number r h (notAccepted number e)

@@ -21,7 +21,7 @@ pub struct Turn {
 }
 
 pub enum Answer {
-    // "15 n is 0; 16 no such place", and 1 to 14
+    // "15 n is 0; 16 no such place", and 1 to 14, 25
     Refused(u8),
     Found,
     End,

@@ -7,12 +7,12 @@ use native.Mathlib.Omega.{arith}
 use lib.ListN.{length, take, drop, getD, length-take, length-drop}
 use lib.Dec.{eqb, ltb}
 use borrow.Author.Tests.{ltb-false}
-use Rattle.meaning.specs.Limits.{metavariableCount}
+use Rattle.meaning.specs.Limits.{firstWide, metavariableCount}
 use Rattle.meaning.specs.Term.{Forest, nil, graft, one, size, trees, application, own, Named, NamedTerm}
 use Rattle.meaning.specs.Basics.{Bytes}
 use Rattle.meaning.specs.Read.{Answer, refused, got, after, Context, Kind, symbolKind, variableKind, applicationKind, binderKind}
-use Rattle.meaning.specs.Read.{metavariableKind, functionKind, holeKind, Parts, Head, wordAt, partsOf, kindOf, headWith, headOf, Content}
-use Rattle.meaning.specs.Read.{leaf, over, many, contentOf, Reader, contextBelow, readExactly, readAll, readContent, readTerm}
+use Rattle.meaning.specs.Read.{metavariableKind, functionKind, holeKind, Parts, Head, wordAt, longAt, partsOf, kindOf, headWith, headOf}
+use Rattle.meaning.specs.Read.{Content, leaf, over, many, contentOf, Reader, contextBelow, readExactly, readAll, readContent, readTerm}
 use Rattle.meaning.specs.Read.{constraintHead}
 use Rattle.meaning.proofs.ByteLaws.{got-is, refused-not, by-choice}
 use Rattle.fields.specs.Heads.{readFields}
@@ -108,7 +108,11 @@ InContent k (many s) = length s ≤ k
 
 content-in : (kind : Kind) (c : Bytes) (x : Content) → contentOf kind c ≡ got x → InContent (length c) x
 unfolding contentOf InContent
-content-in symbolKind c x h = by-choice (eqb (length c) 2) _ (refused 6) h (λ b e. rw (← got-is e) tt) (λ b e. refused-got e)
+content-in symbolKind c x h =
+    by-choice (eqb (length c) 2) _ _ h (λ b e. rw (← got-is e) tt)
+    (λ b e. by-choice (eqb (length c) 4) _ (refused 6) e
+    (λ b2 e2. by-choice (ltb (longAt c 0) firstWide) (refused 25) _ e2 (λ b3 e3. refused-got e3) (λ b3 e3. rw (← got-is e3) tt))
+    (λ b2 e2. refused-got e2))
 content-in variableKind c x h = by-choice (eqb (length c) 2) _ (refused 6) h (λ b e. rw (← got-is e) tt) (λ b e. refused-got e)
 content-in applicationKind c x h =
     by-choice (eqb (length c) 0) (refused 6) _ h (λ b e. refused-got e) (λ b e. rw (← got-is e) (omega arith))

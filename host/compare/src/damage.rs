@@ -74,7 +74,7 @@ fn everywhere(subject: &dyn Subject, problem: &[u8], refusal: u32) -> Result<(),
 
 /// The bytes of the problem with one fault or more, most often.
 fn damaged(random: &mut Random, mut made: Made) -> Vec<u8> {
-    match random.below(4) {
+    match random.below(5) {
         0 => {
             misplace(random, &mut made);
             tree::problem(&made.constraints)
@@ -84,6 +84,11 @@ fn damaged(random: &mut Random, mut made: Made) -> Vec<u8> {
             tree::problem(&made.constraints)
         }
         2 => bend(random, tree::problem(&made.constraints)),
+        3 => {
+            let mut bytes = tree::problem(&made.constraints);
+            tree::spell_wide(random, &mut bytes);
+            bytes
+        }
         _ => scatter(random, tree::problem(&made.constraints)),
     }
 }
@@ -135,7 +140,7 @@ fn crowd(random: &mut Random, made: &mut Made) {
 
 /// Changes the head of a field, puts in a whole one with the lengths around it left as they are, or adds bytes at the end.
 fn bend(random: &mut Random, mut bytes: Vec<u8>) -> Vec<u8> {
-    let heads = heads(&bytes);
+    let heads = tree::heads(&bytes);
     let at = *random.pick(&heads);
     match random.below(5) {
         0 => bytes[at] = *random.pick(&[0, 1, 2, 3, 4, 5, 6, 7, 8, 9, 10, 11, 99, 255]),
@@ -148,22 +153,6 @@ fn bend(random: &mut Random, mut bytes: Vec<u8>) -> Vec<u8> {
         _ => bytes.extend(vec![random.below(8) as u8; random.between(1, 3)]),
     }
     bytes
-}
-
-/// Where the fields of a problem begin that was made as one.
-fn heads(bytes: &[u8]) -> Vec<usize> {
-    let mut heads = Vec::new();
-    let mut at = 0;
-    while at < bytes.len() {
-        heads.push(at);
-        at += match bytes[at] {
-            3 | 7 => 3,
-            4 => 7,
-            6 => 4,
-            _ => 3 + usize::from(bytes[at + 2]),
-        };
-    }
-    heads
 }
 
 /// Changes single bytes, or cuts the end off.

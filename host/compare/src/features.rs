@@ -2,12 +2,13 @@
 
 use crate::generate::Made;
 use crate::tree::Tree;
+use std::collections::BTreeSet;
 
 /// A feature's name, and whether a problem has it.
 type Feature = (&'static str, fn(&Made) -> bool);
 
 /// All that the random problems must have, each often.
-pub const FEATURES: [Feature; 7] = [
+pub const FEATURES: [Feature; 9] = [
     ("several constraints", |made| made.constraints.len() > 1),
     ("several functions", |made| distinct(calls(made)) > 1),
     ("a function applied again", |made| {
@@ -25,16 +26,22 @@ pub const FEATURES: [Feature; 7] = [
     ("equal subterms under a binder", |made| {
         made.constraints.iter().any(|(_, e)| repeats_under_a_binder(e))
     }),
+    ("symbols of both widths", |made| {
+        let symbols = symbols(made);
+        symbols.iter().any(|s| *s < FIRST_WIDE) && symbols.iter().any(|s| *s >= FIRST_WIDE)
+    }),
+    ("symbols that share their low half", |made| {
+        let symbols = symbols(made);
+        let low_halves: BTreeSet<u32> = symbols.iter().map(|s| s % FIRST_WIDE).collect();
+        low_halves.len() < symbols.len()
+    }),
 ];
 
-/// All nodes of a term.
-fn nodes(term: &Tree) -> Vec<&Tree> {
-    let inner = term.inner().into_iter().flat_map(nodes);
-    std::iter::once(term).chain(inner).collect()
-}
+/// The first number of a symbol that has four bytes.
+const FIRST_WIDE: u32 = 65_536;
 
 fn pattern_nodes(made: &Made) -> impl Iterator<Item = &Tree> {
-    made.constraints.iter().flat_map(|(pattern, _)| nodes(pattern))
+    made.constraints.iter().flat_map(|(pattern, _)| pattern.all())
 }
 
 fn calls(made: &Made) -> Vec<u8> {
@@ -46,6 +53,14 @@ fn calls(made: &Made) -> Vec<u8> {
 fn metas(made: &Made) -> Vec<u8> {
     pattern_nodes(made)
         .filter_map(|node| if let Tree::Meta(m) = node { Some(*m) } else { None })
+        .collect()
+}
+
+/// The different symbols of its expressions.
+fn symbols(made: &Made) -> BTreeSet<u32> {
+    let nodes = made.constraints.iter().flat_map(|(_, expression)| expression.all());
+    nodes
+        .filter_map(|node| if let Tree::Symbol(s) = node { Some(*s) } else { None })
         .collect()
 }
 
@@ -65,17 +80,17 @@ fn shadows(term: &Tree, above: &[u16]) -> bool {
 
 fn binds_over_a_call(term: &Tree) -> bool {
     let under =
-        |node: &&Tree| matches!(node, Tree::Bind(..)) && nodes(node).iter().any(|n| matches!(n, Tree::Call(..)));
-    nodes(term).iter().any(under)
+        |node: &&Tree| matches!(node, Tree::Bind(..)) && node.all().iter().any(|n| matches!(n, Tree::Call(..)));
+    term.all().iter().any(under)
 }
 
 /// Whether two nodes of more than a letter are spelled alike under one binder.
 fn repeats_under_a_binder(term: &Tree) -> bool {
-    nodes(term)
+    term.all()
         .into_iter()
         .filter(|node| matches!(node, Tree::Bind(..)))
         .any(|binder| {
-            let large: Vec<&Tree> = nodes(binder).into_iter().filter(|node| node.nodes() > 1).collect();
+            let large: Vec<&Tree> = binder.all().into_iter().filter(|node| node.nodes() > 1).collect();
             large.iter().enumerate().any(|(k, node)| large[..k].contains(node))
         })
 }

@@ -2,7 +2,8 @@
 //!
 //! A filling is made up first, then patterns, and the expressions are the filled patterns with other bound names; in some
 //! problems a name is caught on the way, or a node is changed after it, so that near misses come up as often as solutions.
-//! Letters are few, so that subterms are equal, functions come again and bound names shadow each other.
+//! Letters are few, so that subterms are equal, functions come again and bound names shadow each other. In half of the
+//! problems symbols have numbers of both widths, around their limits, some with the same low half.
 
 use crate::random::Random;
 use crate::tree::{Entry, Tree};
@@ -88,6 +89,7 @@ fn change(random: &mut Random, constraints: &mut [(Tree, Tree)]) {
 struct Maker<'r> {
     random: &'r mut Random,
     style: Style,
+    both_widths: bool,
     functions: Vec<u8>,
     plain: Vec<u8>,
     next_binder: u16,
@@ -104,9 +106,11 @@ impl<'r> Maker<'r> {
         };
         let functions = draw(random, style.functions);
         let plain = draw(random, style.plain);
+        let both_widths = random.once_in(2);
         Maker {
             random,
             style,
+            both_widths,
             functions,
             plain,
             next_binder: FIRST_BINDER,
@@ -153,9 +157,19 @@ impl<'r> Maker<'r> {
         self.random.below(self.style.variables) as u16
     }
 
+    /// A symbol of those that the style has. In both widths each of these stands for five, some with the same low half.
+    fn symbol(&mut self) -> u32 {
+        let k = self.random.below(self.style.symbols) as u32;
+        if self.both_widths {
+            *self.random.pick(&[k, 65_535 - k, 65_536 + k, 131_072 + k, u32::MAX - k])
+        } else {
+            k
+        }
+    }
+
     fn letter(&mut self) -> Tree {
         if self.random.once_in(2) {
-            Tree::Symbol(self.random.below(self.style.symbols) as u32)
+            Tree::Symbol(self.symbol())
         } else {
             Tree::Variable(self.variable())
         }

@@ -24,7 +24,7 @@ pub fn random(subject: &dyn Subject, seeds: Range<u64>) -> Result<Tally, String>
         let fillings = fillings(random, &made, &read);
         fillings
             .into_iter()
-            .try_for_each(|filling| compare(subject, &problem, &read, &changed(random, filling), tally))
+            .try_for_each(|filling| compare(subject, &problem, &read, &changed(random, filling, tally), tally))
     })
 }
 
@@ -78,7 +78,7 @@ fn fillings(random: &mut Random, made: &Made, read: &Problem) -> Vec<Vec<Entry>>
 }
 
 /// The bytes of a filling after up to two changes.
-fn changed(random: &mut Random, mut entries: Vec<Entry>) -> Vec<u8> {
+fn changed(random: &mut Random, mut entries: Vec<Entry>, tally: &mut Tally) -> Vec<u8> {
     for _ in 0..random.between(0, 2) {
         change(random, &mut entries);
     }
@@ -90,6 +90,7 @@ fn changed(random: &mut Random, mut entries: Vec<Entry>) -> Vec<u8> {
         }
         1 => bytes.truncate(random.below(bytes.len() + 1)),
         2 if random.once_in(4) => bytes.resize(LARGEST_TEXT + random.below(2), 0),
+        3 => tally.add("spelled too wide", usize::from(tree::spell_wide(random, &mut bytes))),
         _ => (),
     }
     bytes
@@ -171,9 +172,11 @@ fn replace_node(random: &mut Random, term: &mut Tree) {
     let from = random.below(term.nodes());
     let copy = term.node_mut(from).clone();
     let to = random.below(term.nodes());
-    *term.node_mut(to) = match random.below(4) {
-        0 => Tree::Hole,
-        1 => Tree::Variable(random.below(3) as u16),
-        _ => copy,
+    *term.node_mut(to) = match (random.below(4), copy) {
+        (0, _) => Tree::Hole,
+        (1, _) => Tree::Variable(random.below(3) as u16),
+        // another number with the same low half, of either width
+        (2, Tree::Symbol(s)) => Tree::Symbol(s ^ 65_536),
+        (_, copy) => copy,
     };
 }

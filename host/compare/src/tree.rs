@@ -1,5 +1,7 @@
 //! Terms as trees, and the fields of problems and texts that are made of them.
 
+use crate::random::Random;
+
 /// A term of a problem or of a text.
 #[derive(Clone, Debug, PartialEq, Eq)]
 pub enum Tree {
@@ -43,15 +45,13 @@ pub fn field(tag: u8, content: &[u8]) -> Vec<u8> {
 }
 
 impl Tree {
-    /// Its bytes, by document 01's table of fields.
+    /// Its bytes, by document 01's table of fields; a symbol has four bytes where two cannot say its number.
     pub fn bytes(&self) -> Vec<u8> {
         match self {
-            Tree::Symbol(s) => field(
-                1,
-                &u16::try_from(*s)
-                    .expect("a symbol's number has two bytes")
-                    .to_be_bytes(),
-            ),
+            Tree::Symbol(s) => match u16::try_from(*s) {
+                Ok(narrow) => field(1, &narrow.to_be_bytes()),
+                Err(_) => field(1, &s.to_be_bytes()),
+            },
             Tree::Variable(v) => field(2, &v.to_be_bytes()),
             Tree::Apply(terms) => field(3, &terms.iter().flat_map(Tree::bytes).collect::<Vec<u8>>()),
             Tree::Bind(b, v, body) => field(4, &[&b.to_be_bytes()[..], &v.to_be_bytes(), &body.bytes()].concat()),
@@ -77,6 +77,12 @@ impl Tree {
             Tree::Bind(_, _, term) | Tree::Call(_, term) => vec![term],
             _ => vec![],
         }
+    }
+
+    /// All its nodes, from the top, left to right.
+    pub fn all(&self) -> Vec<&Tree> {
+        let inner = self.inner().into_iter().flat_map(Tree::all);
+        std::iter::once(self).chain(inner).collect()
     }
 
     /// How many nodes it has.
@@ -151,7 +157,7 @@ fn read(bytes: &[u8]) -> Tree {
     let (tag, content) = fields(bytes).next().expect("a term has a field");
     let number = |at: usize| u16::from_be_bytes([content[at], content[at + 1]]);
     match tag {
-        1 => Tree::Symbol(u32::from(number(0))),
+        1 => Tree::Symbol(content.iter().fold(0, |n, byte| n << 8 | u32::from(*byte))),
         2 => Tree::Variable(number(0)),
         3 => Tree::Apply(fields(content).map(|(tag, inner)| read(&field(tag, inner))).collect()),
         4 => Tree::Bind(number(0), number(2), Box::new(read(&content[4..]))),
@@ -169,4 +175,37 @@ fn fields(bytes: &[u8]) -> impl Iterator<Item = (u8, &[u8])> {
         rest = later;
         Some((head[0], content))
     })
+}
+
+/// Where the fields begin, inner ones too, of a problem or a text that was made as one.
+pub fn heads(bytes: &[u8]) -> Vec<usize> {
+    let mut heads = Vec::new();
+    let mut at = 0;
+    while at < bytes.len() {
+        heads.push(at);
+        at += match bytes[at] {
+            3 | 7 => 3,
+            4 => 7,
+            6 | 8 | 9 => 4,
+            _ => 3 + usize::from(bytes[at + 2]),
+        };
+    }
+    heads
+}
+
+/// Where the high halves of four-byte symbols stand in a problem or a text that was made as one.
+pub fn high_halves(bytes: &[u8]) -> Vec<usize> {
+    let wide = |at: &usize| bytes[*at..].starts_with(&[1, 0, 4]);
+    heads(bytes).into_iter().filter(wide).map(|at| at + 3).collect()
+}
+
+/// Leaves a symbol its four bytes and only the low half of its number; false where none has four.
+pub fn spell_wide(random: &mut Random, bytes: &mut [u8]) -> bool {
+    let wide = high_halves(bytes);
+    if wide.is_empty() {
+        return false;
+    }
+    let at = *random.pick(&wide);
+    bytes[at..at + 2].fill(0);
+    true
 }

@@ -1,6 +1,7 @@
 //! Wrong matchers, document 01's useless ones among them: a comparison that lets one pass says nothing about it.
 
 use crate::subject::{Proved, Subject, PAST, UNTOUCHED};
+use crate::tree::{self, Entry, Tree};
 use matcher::raw::{self, END, FOUND, NO, OK, PAUSED, PLACE_WORDS, YES};
 
 /// A way to be wrong.
@@ -42,11 +43,17 @@ pub enum Wrong {
     ReadsAnyText,
     /// Gives one refusal in place of another.
     RefusesOtherwise,
+    /// Takes four bytes for a symbol's number that two can say.
+    TakesAnyWidth,
+    /// Compares symbols of four bytes by their low half.
+    ComparesLowHalves,
+    /// Writes every symbol in two bytes.
+    WritesLowHalves,
 }
 
 impl Wrong {
     /// All of them.
-    pub const ALL: [Wrong; 18] = [
+    pub const ALL: [Wrong; 21] = [
         Wrong::Refuses,
         Wrong::Ends,
         Wrong::EndsAtOnce,
@@ -65,12 +72,44 @@ impl Wrong {
         Wrong::PassesNone,
         Wrong::ReadsAnyText,
         Wrong::RefusesOtherwise,
+        Wrong::TakesAnyWidth,
+        Wrong::ComparesLowHalves,
+        Wrong::WritesLowHalves,
     ];
 }
 
 /// Whether the answer is a refusal.
 fn refuses(answer: u32) -> bool {
     (1..256).contains(&answer)
+}
+
+/// An accepted problem with one high half for all symbols of four bytes; any other bytes as they are.
+fn low_halves(problem: &[u8]) -> Vec<u8> {
+    let mut bytes = problem.to_vec();
+    if Proved.start(problem, &mut UNTOUCHED.clone()) == OK {
+        for at in tree::high_halves(problem) {
+            bytes[at..at + 2].copy_from_slice(&[0, 1]);
+        }
+    }
+    bytes
+}
+
+/// A written text with the low half of every symbol, in two bytes.
+fn narrowed(text: &[u8]) -> Vec<u8> {
+    let mut entries = tree::read_text(text);
+    for entry in &mut entries {
+        if let Entry::Value(_, term) | Entry::Body(_, term) = entry {
+            narrow(term);
+        }
+    }
+    tree::text(&entries)
+}
+
+fn narrow(term: &mut Tree) {
+    if let Tree::Symbol(s) = term {
+        *s %= 65_536;
+    }
+    term.inner_mut().into_iter().for_each(narrow);
 }
 
 impl Subject for Wrong {
@@ -83,6 +122,7 @@ impl Subject for Wrong {
                 OK
             }
             Wrong::RefusesOtherwise if answer == 9 => 4,
+            Wrong::TakesAnyWidth if answer == 25 => OK,
             _ => answer,
         }
     }
@@ -94,7 +134,10 @@ impl Subject for Wrong {
             Wrong::PausesEarly => n.min(2),
             _ => n,
         };
-        let answer = Proved.search(problem, place, row, allowed);
+        let answer = match self {
+            Wrong::ComparesLowHalves => Proved.search(&low_halves(problem), place, row, allowed),
+            _ => Proved.search(problem, place, row, allowed),
+        };
         match self {
             Wrong::Refuses => 4,
             Wrong::Ends | Wrong::EndsAtOnce if answer == FOUND || answer == PAUSED => {
@@ -148,6 +191,13 @@ impl Subject for Wrong {
             Wrong::WritesWhenRefused if answer == 18 && !out.is_empty() => {
                 out[0] = 8;
                 18
+            }
+            Wrong::WritesLowHalves if answer == OK => {
+                let text = narrowed(&out[..length]);
+                out.copy_from_slice(&before);
+                out[..text.len()].copy_from_slice(&text);
+                *written = text.len() as u64;
+                OK
             }
             Wrong::WritesAnyRow if answer == 17 => {
                 *written = 0;

@@ -44,7 +44,8 @@ fn lists_of_calls_agree() {
 
 #[test]
 fn damaged_problems_agree() {
-    let mut cases: Vec<(String, usize)> = (1..=14).map(|refusal| (format!("refused {refusal}"), 50)).collect();
+    let refusals = (1..=14).chain([25]);
+    let mut cases: Vec<(String, usize)> = refusals.map(|refusal| (format!("refused {refusal}"), 50)).collect();
     cases.push(("problems".to_string(), 3_000));
     let cases: Vec<(&str, usize)> = cases.iter().map(|(case, least)| (&case[..], *least)).collect();
     met(damage::random(&Proved, 200_000..230_000), &cases);
@@ -52,7 +53,13 @@ fn damaged_problems_agree() {
 
 #[test]
 fn checked_texts_agree() {
-    let cases = [("yes", 5_000), ("no", 5_000), ("refused 19", 50), ("refused 20", 1_000)];
+    let cases = [
+        ("yes", 5_000),
+        ("no", 5_000),
+        ("refused 19", 50),
+        ("refused 20", 1_000),
+        ("spelled too wide", 500),
+    ];
     met(texts::random(&Proved, 300_000..305_000), &cases);
 }
 

@@ -42,10 +42,19 @@ fn tag_of(term: &Term) -> u8 {
 /// What comes before the inner fields.
 fn fixed_part(term: &Term) -> Vec<u8> {
     match term {
-        Term::Symbol(number) => (*number as u16).to_be_bytes().to_vec(),
+        Term::Symbol(number) => symbol(*number),
         Term::Variable(name) => name.number().to_be_bytes().to_vec(),
         Term::Binder(number, name, _) => [*number, name.number()].map(u16::to_be_bytes).concat(),
         Term::Metavariable(meta) | Term::Function(meta, _) => vec![meta.number()],
         Term::Application(_) | Term::Hole => Vec::new(),
+    }
+}
+
+/// A symbol's number in its one spelling, which is that of the problem: two
+/// bytes where they are enough, else four.
+fn symbol(number: u32) -> Vec<u8> {
+    match u16::try_from(number) {
+        Ok(narrow) => narrow.to_be_bytes().to_vec(),
+        Err(_) => number.to_be_bytes().to_vec(),
     }
 }

@@ -1,7 +1,8 @@
 //! Accepted problems and what can be asked of them.
 //!
-//! Document 01: "A problem is accepted when none of 1 to 14 applies." "A row is
-//! a solution row if some solution has these bodies; that solution is then the
+//! Document 01: "A problem is accepted when none of 1 to 14 applies." T-05, of
+//! its 25: "a problem refused so isn't accepted". Document 01: "A row is a
+//! solution row if some solution has these bodies; that solution is then the
 //! only one, up to bound names."
 
 use crate::faces::{faces, Face};
@@ -38,7 +39,8 @@ pub struct Problem {
 }
 
 impl Problem {
-    /// Reads a problem. A refusal is one of document 01's numbers 1 to 14.
+    /// Reads a problem. A refusal is one of document 01's numbers 1 to 14, or
+    /// T-05's 25.
     pub fn read(bytes: &[u8]) -> Result<Problem, u8> {
         let constraints = read::constraints(bytes)?;
         let patterns = || constraints.iter().flat_map(|c| c.pattern.nodes());

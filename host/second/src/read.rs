@@ -2,7 +2,8 @@
 //!
 //! Document 01: "Reading goes field by field in input order: the head, the
 //! content's fixed part, the inner fields each in full, then 7; the first
-//! failure met is the refusal, numbers in the order printed."
+//! failure met is the refusal, numbers in the order printed." T-05's 25 is
+//! "checked with the content after 6".
 
 use crate::refusal::*;
 use crate::term::{Meta, Name, Term};
@@ -48,7 +49,7 @@ pub struct Constraint {
     pub expression: Term,
 }
 
-/// Reads all constraints of a problem: refusals 1 to 11.
+/// Reads all constraints of a problem: refusals 1 to 11 and 25.
 pub fn constraints(mut input: &[u8]) -> Result<Vec<Constraint>, u8> {
     if input.len() > MAX_INPUT {
         return Err(INPUT_TOO_LONG);
@@ -94,7 +95,7 @@ pub fn term(input: &mut &[u8], part: Part, depth: usize) -> Result<Term, u8> {
         return Err(TOO_DEEP);
     }
     match tag {
-        tag::SYMBOL => Ok(Term::Symbol(number(content)?.into())),
+        tag::SYMBOL => Ok(Term::Symbol(symbol(content)?)),
         tag::VARIABLE => Ok(Term::Variable(Name::Given(number(content)?))),
         tag::APPLICATION => application(content, part, depth),
         tag::BINDER => binder(content, part, depth),
@@ -114,6 +115,17 @@ fn admit(tag: u8, part: Part) -> Result<(), u8> {
         (tag::METAVARIABLE | tag::FUNCTION, Part::Expression | Part::Body) => Err(META_IN_EXPRESSION),
         (tag::FUNCTION, Part::Argument) => Err(FUNCTION_IN_ARGUMENT),
         _ => Err(MISPLACED_TAG),
+    }
+}
+
+/// A content that is a symbol's number of two or four bytes and nothing else.
+/// T-05: "25 when a 4-byte number is below 65,536", so that no number has two
+/// spellings.
+fn symbol(content: &[u8]) -> Result<u32, u8> {
+    match *content {
+        [0, 0, _, _] => Err(SPELLED_TOO_WIDE),
+        [a, b, c, d] => Ok(u32::from_be_bytes([a, b, c, d])),
+        _ => Ok(number(content)?.into()),
     }
 }
 

@@ -1,4 +1,5 @@
-//! The refusals, by document 01's table "Where each check is made".
+//! The refusals, by document 01's table "Where each check is made", and 25 by
+//! request T-05.
 
 /// 1: the input is over 4,096 bytes.
 pub const INPUT_TOO_LONG: u8 = 1;
@@ -10,7 +11,7 @@ pub const PAST_END: u8 = 3;
 pub const MISPLACED_TAG: u8 = 4;
 /// 5: the depth is over 32.
 pub const TOO_DEEP: u8 = 5;
-/// 6: the fixed part is too short or too long, or an application is empty.
+/// 6: the fixed part has a wrong length for its tag, or an application is empty.
 pub const BAD_CONTENT: u8 = 6;
 /// 7: no inner field is left where one is due, or bytes are left.
 pub const BAD_COUNT: u8 = 7;
@@ -36,3 +37,5 @@ pub const NO_SOLUTION_ROW: u8 = 17;
 pub const TEXT_TOO_LONG: u8 = 19;
 /// 20: the text's fields are not as they should be.
 pub const BAD_TEXT: u8 = 20;
+/// 25: a symbol's number below 65,536 has four bytes.
+pub const SPELLED_TOO_WIDE: u8 = 25;

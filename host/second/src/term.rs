@@ -53,7 +53,7 @@ impl Meta {
 /// A pattern, an expression or a body.
 #[derive(Debug, Clone, PartialEq, Eq)]
 pub enum Term {
-    /// A symbol with its number.
+    /// A symbol with its number, which has 32 bits by T-05.
     Symbol(u32),
     /// A variable, bound or free.
     Variable(Name),

@@ -1,14 +1,23 @@
 -- `copying::write_fixed` meets its contract: one return for each tag.
 use mathlib.Core.Path.{refl}
 use native.Mathlib.Omega.{arith}
-use Rattle.copying.proofs.FixedLaws.{fixed-symbol, fixed-variable, fixed-binder, fixed-none, number-long, numbers-long}
-use Rattle.copying.proofs.WriteLaws.{number-wrote, numbers-wrote, none-wrote}
+use Rattle.copying.proofs.FixedLaws.{fixed-symbol, fixed-variable, fixed-binder, fixed-none, symbol-long, number-long, numbers-long}
+use Rattle.copying.proofs.WriteLaws.{symbol-wrote, number-wrote, numbers-wrote, none-wrote}
 use borrow.Author.Needs.{needs}
 use Rattle.copying.proofs.write_fixed.Statement.{statement}
 use Rattle.copying.proofs.write_fixed.Tie as tie
 
 tag-requires : tie.Need-tag-requires
 tag-requires c κs = search needs
+
+symbol-requires : tie.Need-symbol-requires
+symbol-requires c κs = search needs
+
+write-symbol-requires : tie.Need-write-symbol-requires
+write-symbol-requires c κs =
+    let met = c .before .before in
+    let fixed = fixed-symbol _ _ (met .before .tag .ensures) (met .match .keys1) in
+    omega (arith, symbol-long _ _ fixed (c .before .symbol .ensures), met .before .before .before .pre)
 
 payload-requires : tie.Need-payload-requires
 payload-requires c κs = search needs
@@ -17,23 +26,19 @@ write-word-requires : tie.Need-write-word-requires
 write-word-requires c κs =
     let met = c .before .before in (
       search needs,
-      omega (arith, number-long _ (fixed-symbol _ _ (met .before .tag .ensures) (met .match .keys1)), met .before .before .before .pre),
+      omega (arith, number-long _ (fixed-variable _ _ (met .before .tag .ensures) (met .match .keys2)), met .before .before .before .pre),
     )
 
 payload-requires-2 : tie.Need-payload-requires-2
 payload-requires-2 c κs = search needs
 
-write-word-requires-2 : tie.Need-write-word-requires-2
-write-word-requires-2 c κs =
-    let met = c .before .before in (
-      search needs,
-      omega (arith, number-long _ (fixed-variable _ _ (met .before .tag .ensures) (met .match .keys2)), met .before .before .before .pre),
-    )
-
 write-words-requires : tie.Need-write-words-requires
 write-words-requires c κs =
-    let met = c .before in
-    omega (arith, numbers-long _ (fixed-binder _ _ (met .before .tag .ensures) (met .match .keys3)), met .before .before .before .pre)
+    let met = c .before .before in (
+      search needs,
+      search needs,
+      omega (arith, numbers-long _ (fixed-binder _ _ (met .before .tag .ensures) (met .match .keys3)), met .before .before .before .pre),
+    )
 
 same-length : tie.Need-same-length
 same-length c = search needs
@@ -42,8 +47,8 @@ returns : tie.Need-returns
 returns c =
     let met = c .before .before .before .before .before in
     let s = met .before .before .before in
-    number-wrote (s .args .x) (s .args .out .now) _ _ (fixed-symbol _ _ (met .before .tag .ensures) (met .match .keys1))
-    (c .before .before .before .before .payload .ensures) (c .before .before .write-word .ensures)
+    symbol-wrote (s .args .x) (s .args .out .now) _ _ (fixed-symbol _ _ (met .before .tag .ensures) (met .match .keys1))
+    (c .before .before .before .before .symbol .ensures) (c .before .before .write-symbol .ensures)
 
 same-length-2 : tie.Need-same-length-2
 same-length-2 c = search needs
@@ -53,17 +58,17 @@ returns-2 c =
     let met = c .before .before .before .before .before in
     let s = met .before .before .before in
     number-wrote (s .args .x) (s .args .out .now) _ _ (fixed-variable _ _ (met .before .tag .ensures) (met .match .keys2))
-    (c .before .before .before .before .payload2 .ensures) (c .before .before .write-word2 .ensures)
+    (c .before .before .before .before .payload .ensures) (c .before .before .write-word .ensures)
 
 same-length-3 : tie.Need-same-length-3
 same-length-3 c = search needs
 
 returns-3 : tie.Need-returns-3
 returns-3 c =
-    let met = c .before .before .before .before in
+    let met = c .before .before .before .before .before in
     let s = met .before .before .before in
-    numbers-wrote (s .args .x) (s .args .out .now) _ (fixed-binder _ _ (met .before .tag .ensures) (met .match .keys3))
-    (c .before .before .write-words .ensures)
+    numbers-wrote (s .args .x) (s .args .out .now) _ _ (fixed-binder _ _ (met .before .tag .ensures) (met .match .keys3))
+    (c .before .before .before .before .payload2 .ensures) (c .before .before .write-words .ensures)
 
 returns-4 : tie.Need-returns-4
 returns-4 c =
@@ -76,10 +81,11 @@ write-fixed-spec =
     tie.close
     (tie.spec
     tag-requires
+    symbol-requires
+    write-symbol-requires
     payload-requires
     write-word-requires
     payload-requires-2
-    write-word-requires-2
     write-words-requires
     same-length
     returns

@@ -4,9 +4,6 @@ use borrow.Author.Needs.{needs}
 use Rattle.copying.proofs.write_words.Statement.{statement}
 use Rattle.copying.proofs.write_words.Tie as tie
 
-payload-requires : tie.Need-payload-requires
-payload-requires c κs = search needs
-
 write-word-requires : tie.Need-write-word-requires
 write-word-requires c κs = search needs
 
@@ -28,16 +25,14 @@ same-length c = search needs
 returns : tie.Need-returns
 returns c =
     let first = c .before .before .before .before .before .before in
-    let load = first .before .before in
-    let s = load .before .before in
-    words-wrote (s .args .x) _ (s .args .out .now) _ _ (load .payload .ensures) (first .write-word .ensures)
+    let s = first .before .before .before in
+    words-wrote (s .args .first) (s .args .second) (s .args .out .now) _ _ (first .write-word .ensures)
     (c .before .before .write-word2 .ensures)
 
 pub write-words-spec : {M : Type 1} → statement M
 write-words-spec =
     tie.close
     (tie.spec
-    payload-requires
     write-word-requires
     sub-write-word
     part-write-word-start

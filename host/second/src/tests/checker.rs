@@ -103,6 +103,20 @@ fn each_constraint_counts() {
 }
 
 #[test]
+fn symbols_differ_by_their_whole_number() {
+    // 65,541 and 5 have the same low half.
+    assert!(says("?1 = s65541", &["8 1 s65541"]));
+    assert!(!says("?1 = s65541", &["8 1 s5"]));
+    assert!(!says("?1 = s5", &["8 1 s65541"]));
+    let text = "?0{?1} = (s65541 s5)";
+    assert!(says(text, &["9 0 (_ s5)", "8 1 s65541"]));
+    assert!(says(text, &["9 0 (s65541 _)", "8 1 s5"]));
+    assert!(!says(text, &["9 0 (_ _)", "8 1 s5"]));
+    assert!(!says(text, &["9 0 (_ _)", "8 1 s65541"]));
+    assert!(!says(text, &["9 0 (s5 s65541)", "11 1"]));
+}
+
+#[test]
 fn a_large_filling_gets_a_no() {
     // The filled pattern would have more than a million nodes.
     let holes = format!("({})", vec!["_"; 200].join(" "));

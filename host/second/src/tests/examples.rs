@@ -1,4 +1,4 @@
-//! The examples of documents 01 and 001.
+//! The examples of documents 01 and 001, and some with T-05's wide symbols.
 //!
 //! Symbols: 0 to 5 and 9 are the digits, 10 `+`, 11 `=`, 12 `∧`, 13 `≠`, 14 `<`,
 //! 15 `→`, 16 `^`, 17 `-`, 18 the wrapper w, 19 `∨`, 20 `·`. Binder 0 is ∀ and
@@ -12,6 +12,12 @@ fn solution_rows(text: &str) -> Vec<Vec<Vec<usize>>> {
     let solutions = problem(text).solutions(usize::MAX).expect("no limit");
     let list = |row: Row| row.into_iter().map(|set| set.into_iter().collect());
     solutions.into_iter().map(|s| list(s.row).collect()).collect()
+}
+
+/// The texts of all solutions.
+fn written(problem: &Problem) -> Vec<Vec<u8>> {
+    let solutions = problem.solutions(usize::MAX).expect("no limit");
+    solutions.into_iter().map(|s| s.text).collect()
 }
 
 #[test]
@@ -52,6 +58,64 @@ fn function_of_a_metavariable_at_a_symbol() {
     assert_eq!(readings.functions(), [0]);
     assert_eq!(readings.metavariables(), [0, 1]);
     assert_eq!((readings.pattern_nodes(), readings.expression_nodes()), (2, 1));
+}
+
+/// (P(X), s) as above, s now symbol 65,541 or 4,294,967,295.
+#[test]
+fn function_of_a_metavariable_at_a_wide_symbol() {
+    for number in ["00010005", "FFFFFFFF"] {
+        let in_place = |digits: &str| hex(&digits.replace("NUMBER", number));
+        let input = in_place("07000F 06000500 05000101 010004NUMBER");
+        let texts = [
+            in_place("090004 00 0A0000 080008 01 010004NUMBER"),
+            in_place("090008 00 010004NUMBER 0B0001 01"),
+        ];
+        let readings = Problem::read(&input).unwrap();
+        assert_eq!(written(&readings), texts);
+        assert!(texts.iter().all(|text| readings.check(text) == Ok(true)));
+    }
+}
+
+/// (P(X), e), e an application of symbols 5, 65,541 and 5 again. The first two
+/// have the same low half, but only the first and the last are equal.
+#[test]
+fn symbols_of_both_widths() {
+    let input = hex("07001C 06000500 05000101 030011 0100020005 01000400010005 0100020005");
+    let mixed = Problem::read(&input).unwrap();
+    assert_eq!(mixed.to_string(), "?0{?1} = (s5 s65541 s5)");
+    let rows: [&[usize]; 6] = [&[0], &[1, 3], &[1], &[2], &[3], &[]];
+    let rows = rows.map(|nodes| vec![nodes.iter().copied().collect::<Choice>()]);
+    assert_eq!(mixed.rows(6), Some(rows.to_vec()));
+    let texts = [
+        "090004 00 0A0000 080015 01 030011 0100020005 01000400010005 0100020005",
+        "090011 00 03000D 0A0000 01000400010005 0A0000 080006 01 0100020005",
+        "090013 00 03000F 0A0000 01000400010005 0100020005 080006 01 0100020005",
+        "090011 00 03000D 0100020005 0A0000 0100020005 080008 01 01000400010005",
+        "090013 00 03000F 0100020005 01000400010005 0A0000 080006 01 0100020005",
+        "090015 00 030011 0100020005 01000400010005 0100020005 0B0001 01",
+    ];
+    let texts = texts.map(hex);
+    assert_eq!(written(&mixed), texts);
+    for (row, text) in rows.iter().zip(&texts) {
+        assert_eq!(mixed.write(row), Ok(text.clone()));
+        assert_eq!(mixed.check(text), Ok(true));
+    }
+}
+
+#[test]
+fn symbols_differ_by_their_whole_number() {
+    // 65,541 and 131,077 have the low half 5, 65,536 and 65,541 the same high.
+    for other in ["s5", "s131077", "s65536"] {
+        assert!(!problem(&format!("s65541 = {other}")).shapes_agree());
+        assert_eq!(solutions(&format!("(?0 ?0) = (s65541 {other})")), [""; 0]);
+        let only_the_body = format!("?0: ({other} {other})");
+        assert_eq!(solutions(&format!("?0{{s65541}} = ({other} {other})")), [only_the_body]);
+    }
+    assert!(problem("s65541 = s65541").shapes_agree());
+    assert_eq!(solutions("(?0 ?0) = (s65541 s65541)"), ["?0: s65541"]);
+    let below = "?0{s65541} = [b0 v1 (s5 s65541 v1)]";
+    let expected = ["?0: [b0 v1 (s5 _ v1)]", "?0: [b0 v1 (s5 s65541 v1)]"];
+    assert_eq!(solutions(below), expected);
 }
 
 #[test]

@@ -56,10 +56,12 @@ fn term(random: &mut Random, sort: Sort, depth: u32) -> Term {
     }
 }
 
+/// Symbols of both widths; 0 and 65,536 have the same low half.
+const SYMBOLS: [u32; 3] = [0, 1, 65_536];
+
 fn leaf(random: &mut Random) -> Term {
     match random.below(5) {
-        0 => Term::Symbol(random.below(2)),
-        1 => Term::Symbol(0),
+        0..=1 => Term::Symbol(SYMBOLS[random.below(3) as usize]),
         _ => Term::Variable(Name::Given(random.below(2) as u16)),
     }
 }
@@ -256,7 +258,7 @@ fn nothing_found_is_lost() {
 #[test]
 fn whatever_bytes_come_nothing_breaks() {
     let mut random = Random(0x1234_5678_9ABC_DEF1);
-    let (mut accepted, mut refused) = (0, 0);
+    let (mut accepted, mut refused, mut too_wide) = (0, 0, 0);
     let readings = problem("(?0{?1} ?2) = ([b0 v1 (v1 s2)] s3)");
     for _ in 0..20_000 {
         let mut bytes = problem_bytes(&mut random);
@@ -270,6 +272,7 @@ fn whatever_bytes_come_nothing_breaks() {
                 problem.solutions(20);
                 assert_eq!(problem.check(&bytes), Err(20));
             }
+            Err(25) => too_wide += 1,
             Err(number) => {
                 refused += 1;
                 assert!((1..=14).contains(&number));
@@ -280,5 +283,6 @@ fn whatever_bytes_come_nothing_breaks() {
         }
         let _ = readings.check(&bytes[3..]);
     }
-    assert!(accepted > 1_000 && refused > 1_000, "{accepted} {refused}");
+    let seen = [accepted, refused, too_wide];
+    assert!(accepted > 1_000 && refused > 1_000 && too_wide > 20, "{seen:?}");
 }

@@ -1,4 +1,4 @@
-//! Refusals 1 to 14, 19 and 20.
+//! Refusals 1 to 14, 19, 20 and 25.
 
 use super::notation::{bytes, hex, problem, term};
 use crate::encode;
@@ -86,10 +86,14 @@ fn refusal_5_too_deep() {
 
 #[test]
 fn refusal_6_bad_content() {
+    assert_eq!(refusal_of("070003 010000"), 6);
     assert_eq!(refusal_of("070004 01000100"), 6);
     assert_eq!(refusal_of("070006 010003000000"), 6);
+    assert_eq!(refusal_of("070008 0100050000000000"), 6);
+    assert_eq!(refusal_of("070008 0100050001000000"), 6);
     assert_eq!(refusal_of("070004 02000100"), 6);
     assert_eq!(refusal_of("070007 02000400000000"), 6);
+    assert_eq!(refusal_of("070007 02000400010000"), 6);
     assert_eq!(refusal_of("070003 030000"), 6);
     assert_eq!(refusal_of("070006 040003000000"), 6);
     assert_eq!(refusal_of("070003 050000"), 6);
@@ -210,9 +214,20 @@ fn refusal_20_bad_text() {
         "09000A 00 060006 00 010002 0001", // a function in a body
         "090005 00 0A0001 00",             // a hole with content
         "090004 00 030000",                // an empty application
+        "080004 01 010000",                // a symbol without number
+        "080005 01 010001 00",             // a symbol of one byte
+        "080007 01 010003 000001",         // a symbol of three bytes
+        "090009 00 010005 0001000000",     // a symbol of five bytes
+        "080008 01 010004 0000FFFF",       // 65,535 in four bytes
+        "090008 00 010004 00000001",       // 1 in four bytes
+        "080008 01 020004 00010000",       // a variable of four bytes
     ];
     for fault in faults {
         assert_eq!(any.check(&hex(fault)), Err(20), "{fault}");
+    }
+    // Both widths of a symbol are well-formed.
+    for good in ["080006 01 010002 FFFF", "080008 01 010004 00010000"] {
+        assert_eq!(any.check(&hex(good)), Ok(false), "{good}");
     }
     // A later field's fault counts, also where the earlier ones say no.
     assert_eq!(any.check(&hex("0B0001 07 09")), Err(20));
@@ -230,4 +245,84 @@ fn refusal_20_text_too_deep() {
         assert_eq!(any.check(&field(32)), Ok(false));
         assert_eq!(any.check(&field(33)), Err(20));
     }
+}
+
+/// A problem whose pattern and expression are this symbol.
+fn twice(symbol: &str) -> Vec<u8> {
+    let symbol = encode::field(tag::SYMBOL, &hex(symbol));
+    encode::field(tag::CONSTRAINT, &symbol.repeat(2))
+}
+
+#[test]
+fn refusal_25_a_symbol_spelled_too_wide() {
+    for wide in ["00000000", "00000001", "000000FF", "00000100", "0000FFFF"] {
+        assert_eq!(refusal(&twice(wide)), 25, "{wide}");
+    }
+    for good in ["0000", "FFFF", "00010000", "01000000", "FFFFFFFF"] {
+        assert_eq!(refusal(&twice(good)), 0, "{good}");
+    }
+    let number = |digits| Problem::read(&twice(digits)).unwrap().to_string();
+    assert_eq!(number("FFFF"), "s65535 = s65535");
+    assert_eq!(number("00010000"), "s65536 = s65536");
+    assert_eq!(number("12345678"), "s305419896 = s305419896");
+    assert_eq!(number("FFFFFFFF"), "s4294967295 = s4294967295");
+    // In an expression, an argument, an application and a binder.
+    assert_eq!(refusal_of("07000C 0100020001 0100040000FFFF"), 25);
+    assert_eq!(refusal_of("070010 060008 00 0100040000FFFF 0100020001"), 25);
+    assert_eq!(refusal_of("070014 03000C 0100020001 0100040000FFFF 0100020001"), 25);
+    assert_eq!(refusal_of("070013 04000B 00000000 0100040000FFFF 0100020001"), 25);
+}
+
+/// A problem whose symbols 4,294,967,295 are made 0, in four bytes still.
+fn narrowed(text: &str) -> Vec<u8> {
+    let zero = |byte| if byte == 0xFF { 0 } else { byte };
+    bytes(text).into_iter().map(zero).collect()
+}
+
+#[test]
+fn refusal_25_before_what_is_met_later() {
+    // With 65,536 as NUMBER the later fault shows.
+    let faults = [
+        ("070008 010004 NUMBER 00", 2),                                  // the next head is cut
+        ("07000A 010004 NUMBER 010001", 3),                              // the next length is past the end
+        ("07000A 010004 NUMBER 070000", 4),                              // the next tag has no place
+        ("07000A 010004 NUMBER 010000", 6),                              // the next symbol has no number
+        ("070007 010004 NUMBER", 7),                                     // no expression
+        ("07000D 0100020001 010004 NUMBER 00", 7),                       // a byte left in the constraint
+        ("07000F 04000C 00000000 010004 NUMBER 00", 7),                  // a byte left in the binder
+        ("07000C 060009 00 010004 NUMBER 00", 7),                        // a byte left after the argument
+        ("07000B 010004 NUMBER 05000100", 8),                            // a metavariable as expression
+        ("070011 06000E 00 03000A 010004 NUMBER 060000", 9),             // a function in the argument
+        ("07000E 03000B 010004 NUMBER 05000120", 10),                    // a metavariable over 31
+        ("07000C 010004 NUMBER 0100020001 FF0000", 4),                   // a bad tag after the constraint
+        ("070017 03000F 010004 NUMBER 0600050005000100 0100020001", 12), // P(P)
+    ];
+    for (fault, later) in faults {
+        assert_eq!(refusal_of(&fault.replace("NUMBER", "00010000")), later, "{fault}");
+        assert_eq!(refusal_of(&fault.replace("NUMBER", "0000FFFF")), 25, "{fault}");
+    }
+    let large = format!("?0{{s4294967295}} = ({})", vec!["s1"; 64].join(" "));
+    assert_eq!((refusal_in(&large), refusal(&narrowed(&large))), (14, 25));
+}
+
+#[test]
+fn refusal_25_after_what_is_met_earlier() {
+    let faults = [
+        ("070006 010004 0000FF", 3),                                // its own length is past the end
+        ("010004 0000FFFF", 4),                                     // its own tag has no place
+        ("07000D 03000A 010000 0100040000FFFF", 6),                 // the symbol before has no number
+        ("070014 04000A 00000000 0100020001 00 0100040000FFFF", 7), // a byte left in the binder before
+        ("070013 0100020001 03000B 05000100 0100040000FFFF", 8),    // a metavariable before
+        ("07000B 060008 20 0100040000FFFF", 10),                    // the function around is over 31
+    ];
+    for (fault, earlier) in faults {
+        assert_eq!(refusal_of(fault), earlier, "{fault}");
+    }
+    // Its own depth belongs to the head.
+    let deep = |depth| narrowed(&format!("s1 = {}", nested(depth, "s4294967295")));
+    assert_eq!((refusal(&deep(32)), refusal(&deep(33))), (25, 5));
+    // The whole input, and a 17th constraint around it.
+    let wide = twice("00000000");
+    assert_eq!(refusal(&[&wide[..], &[0; 4096]].concat()), 1);
+    assert_eq!(refusal(&[bytes("s1 = s1").repeat(16), wide].concat()), 11);
 }

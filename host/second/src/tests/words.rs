@@ -36,6 +36,25 @@ fn heads_are_checked_first() {
 }
 
 #[test]
+fn symbols_have_two_or_four_bytes() {
+    for kind in [Kind::Pattern, Kind::Expression, Kind::Body] {
+        assert_eq!(read_term(kind, &hex("010002 FFFF")), Ok((5, 1)));
+        assert_eq!(read_term(kind, &hex("010004 00010000")), Ok((7, 1)));
+        assert_eq!(read_term(kind, &hex("010004 0000FFFF")), Err(25));
+        assert_eq!(read_term(kind, &hex("010003 000000")), Err(6));
+    }
+}
+
+#[test]
+fn each_number_has_one_spelling() {
+    let spelled = |text| encode::term(&term(text));
+    assert_eq!(spelled("s0"), hex("010002 0000"));
+    assert_eq!(spelled("s65535"), hex("010002 FFFF"));
+    assert_eq!(spelled("s65536"), hex("010004 00010000"));
+    assert_eq!(spelled("s4294967295"), hex("010004 FFFFFFFF"));
+}
+
+#[test]
 fn the_first_term_has_depth_1() {
     let nested = |depth: usize| format!("{}s1{}", "(".repeat(depth - 1), ")".repeat(depth - 1));
     let [deep, deeper] = [32, 33].map(|depth| encode::term(&term(&nested(depth))));
