@@ -36,7 +36,7 @@ refusals! {
     LengthPastEnd = 3, "a field's length goes past the enclosing end";
     TagOutOfPlace = 4, "a tag has no place where it stands";
     TooDeep = 5, "a term stands deeper than 32";
-    FixedPart = 6, "a field's fixed part is too short, or too long for a variable or metavariable; a symbol has not 2 or 4 bytes; or an application is empty";
+    FixedPart = 6, "a field's fixed part has a length that its tag does not allow, or an application is empty";
     InnerFields = 7, "no inner field is left where one is due, or bytes are left after the last";
     PatternInExpression = 8, "a metavariable or function application stands in an expression";
     FunctionInArgument = 9, "a function application stands in an argument";

@@ -3,7 +3,8 @@
 --   texts     the texts of a problem's solution rows, as bytes
 --   reads     reading of a text
 use mathlib.Core.List.{List, map}
-use Rattle.meaning.specs.Limits.{maxInput, maxConstraints, maxDepth, firstWide, metavariableCount, maxFunctions, maxFaceNodes, maxText}
+use Rattle.meaning.specs.Limits.{maxInput, maxConstraints, maxDepth, firstWide, metavariableCount, maxFunctions}
+use Rattle.meaning.specs.Limits.{maxFaceNodes, maxText}
 use Rattle.meaning.specs.Problem.{Problem, placesOf, functions, metavariables}
 use Rattle.meaning.specs.Row.{Row, rowBody}
 use Rattle.meaning.specs.Rows.{rows}

@@ -170,6 +170,14 @@ tag-byte (slot (metavariable m)) = omega arith
 tag-byte (slot (function f n)) = omega arith
 tag-byte (slot (hole i)) = omega arith
 
+-- A symbol's bytes are read as it, whichever their number
+symbol-on : (n : ℕ) (c : Forest Named) → c ≡ nil → contentOf symbolKind (symbolBytes n ++ encode c) ≡ got (leaf (own (symbol n)))
+unfolding contentOf encode word
+symbol-on n c e =
+    by-width n
+    (λ h. rw (e, narrow-bytes n h, word-value n))
+    (λ h. rw (e, wide-bytes n h, word-value (n / 65536), word-value (n % 65536), long-value n, le-ltb n firstWide h))
+
 -- The main theorems. A head that is read was a field of its kind's tag, which has a place there
 pub head-field : (ctx : Context) (s : Bytes) (h : Head) → All Byte s → headOf ctx s ≡ got h
     → (field (kindTag (h .kind)) (h .content) ++ h .later ≡ s) × Placed ctx (h .kind)
@@ -226,13 +234,6 @@ content-opened ctx (holeKind i) c x b p e =
     let r = when-got (eqb (length c) 0) 6 _ e in
     let some : length c ≡ 0 = eqb-true (length c) 0 (r .0) in
     subst (Opened ctx 10 c) (got-is (r .1)) (refl, sym (none-left c (omega arith)), (p .0, p .1, refl))
-
-symbol-on : (n : ℕ) (c : Forest Named) → c ≡ nil → contentOf symbolKind (symbolBytes n ++ encode c) ≡ got (leaf (own (symbol n)))
-unfolding contentOf encode word
-symbol-on n c e =
-    by-width n
-    (λ h. rw (e, narrow-bytes n h, word-value n))
-    (λ h. rw (e, wide-bytes n h, word-value (n / 65536), word-value (n % 65536), long-value n, le-ltb n firstWide h))
 
 -- The content of a node that fits is read as that node
 pub content-on : (ctx : Context) (l : Named) (c : Forest Named) → NodeFits ctx l c

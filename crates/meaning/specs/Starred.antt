@@ -4,8 +4,8 @@
 use Prim.Native.Nat.{ℕ, zero, suc, _/_, _%_, _^_}
 use mathlib.Core.List.{List, [], _∷_, _++_}
 use Rattle.meaning.specs.Basics.{Bytes}
-use Rattle.meaning.specs.Case.{Case, bothWidths, boundValue, noConstraint, notCaught, onePlusOne, oneSymbol, twoApplications, twoValues}
-use Rattle.meaning.specs.Case.{underBinder, unusedVariable}
+use Rattle.meaning.specs.Case.{Case, bothWidths, boundValue, noConstraint, notCaught, onePlusOne, oneSymbol, twoApplications}
+use Rattle.meaning.specs.Case.{twoValues, underBinder, unusedVariable}
 
 abbrev pub hex : ℕ → ℕ → Bytes
 hex zero digits = []

@@ -56,10 +56,11 @@ fn metas(made: &Made) -> Vec<u8> {
         .collect()
 }
 
-/// The different symbols of its expressions.
+/// The different symbols of its expressions and patterns.
 fn symbols(made: &Made) -> BTreeSet<u32> {
-    let nodes = made.constraints.iter().flat_map(|(_, expression)| expression.all());
-    nodes
+    let expressions = made.constraints.iter().flat_map(|(_, expression)| expression.all());
+    expressions
+        .chain(pattern_nodes(made))
         .filter_map(|node| if let Tree::Symbol(s) = node { Some(*s) } else { None })
         .collect()
 }
@@ -79,8 +80,7 @@ fn shadows(term: &Tree, above: &[u16]) -> bool {
 }
 
 fn binds_over_a_call(term: &Tree) -> bool {
-    let under =
-        |node: &&Tree| matches!(node, Tree::Bind(..)) && node.all().iter().any(|n| matches!(n, Tree::Call(..)));
+    let under = |node: &&Tree| matches!(node, Tree::Bind(..)) && node.all().iter().any(|n| matches!(n, Tree::Call(..)));
     term.all().iter().any(under)
 }
 

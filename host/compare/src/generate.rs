@@ -2,8 +2,9 @@
 //!
 //! A filling is made up first, then patterns, and the expressions are the filled patterns with other bound names; in some
 //! problems a name is caught on the way, or a node is changed after it, so that near misses come up as often as solutions.
-//! Letters are few, so that subterms are equal, functions come again and bound names shadow each other. In half of the
-//! problems symbols have numbers of both widths, around their limits, some with the same low half.
+//! Letters are few, so that subterms are equal, functions come again and bound names shadow each other. In two of three
+//! problems symbols have numbers near the limits of two and four bytes, most often of both widths, many with the same low
+//! half.
 
 use crate::random::Random;
 use crate::tree::{Entry, Tree};
@@ -89,7 +90,8 @@ fn change(random: &mut Random, constraints: &mut [(Tree, Tree)]) {
 struct Maker<'r> {
     random: &'r mut Random,
     style: Style,
-    both_widths: bool,
+    /// Which pair of [`widths`] each symbol stands for; none where all have two bytes.
+    widths: Option<usize>,
     functions: Vec<u8>,
     plain: Vec<u8>,
     next_binder: u16,
@@ -106,11 +108,11 @@ impl<'r> Maker<'r> {
         };
         let functions = draw(random, style.functions);
         let plain = draw(random, style.plain);
-        let both_widths = random.once_in(2);
+        let widths = (!random.once_in(3)).then(|| random.below(widths(0).len()));
         Maker {
             random,
             style,
-            both_widths,
+            widths,
             functions,
             plain,
             next_binder: FIRST_BINDER,
@@ -157,13 +159,11 @@ impl<'r> Maker<'r> {
         self.random.below(self.style.variables) as u16
     }
 
-    /// A symbol of those that the style has. In both widths each of these stands for five, some with the same low half.
     fn symbol(&mut self) -> u32 {
         let k = self.random.below(self.style.symbols) as u32;
-        if self.both_widths {
-            *self.random.pick(&[k, 65_535 - k, 65_536 + k, 131_072 + k, u32::MAX - k])
-        } else {
-            k
+        match self.widths {
+            None => k,
+            Some(pair) => *self.random.pick(&widths(k)[pair]),
         }
     }
 
@@ -271,6 +271,17 @@ impl<'r> Maker<'r> {
             .find(|name| !taken.contains(name))
             .expect("a term has fewer variables than there are names")
     }
+}
+
+/// Pairs of numbers for the k-th symbol, near the limits of two and four bytes: of one width or of both, all but the last
+/// with the same low half.
+fn widths(k: u32) -> [[u32; 2]; 4] {
+    [
+        [k, 65_536 + k],
+        [65_536 + k, 131_072 + k],
+        [65_535 - k, u32::MAX - k],
+        [65_535 - k, 65_536 + k],
+    ]
 }
 
 /// What the filling gives a metavariable.

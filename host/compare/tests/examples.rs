@@ -1,4 +1,5 @@
-//! Document 01's examples, worked out by hand: what the proved matcher lists, and what the second implementation lists.
+//! Document 01's examples, and one of T-05, worked out by hand: what the proved matcher lists, and what the second
+//! implementation lists.
 
 use compare::tree::{self, Entry, Tree};
 use matcher::{Problem, Refusal};
@@ -237,4 +238,24 @@ fn limits() {
     refused(&vec![(meta(X), s(1)); 17], Refusal::TooManyConstraints);
     refused(&[(call(P, meta(P)), s(1))], Refusal::BothWays);
     refused(&[(call(P, call(Q, meta(X))), s(1))], Refusal::FunctionInArgument);
+}
+
+/// T-05: 65,541 has four bytes and the low half 5, but is not 5.
+#[test]
+fn both_widths() {
+    for wide in [65_541, 4_294_901_765] {
+        let problem = [(call(P, meta(X)), Tree::Apply(vec![s(wide), s(5)])), (meta(X), s(wide))];
+        let solution = |first: Tree| vec![body(P, Tree::Apply(vec![first, s(5)])), value(X, s(wide))];
+        lists(&problem, &[solution(hole()), solution(s(wide))]);
+        lists(&[(s(wide), s(5))], &[]);
+    }
+    for number in [65_535, 65_536, u32::MAX] {
+        lists(&[(meta(X), s(number))], &[vec![value(X, s(number))]]);
+    }
+    let mut bytes = tree::problem(&[(meta(X), s(65_541))]);
+    for at in tree::high_halves(&bytes) {
+        bytes[at..at + 2].fill(0);
+    }
+    assert_eq!(Problem::new(&bytes), Err(Refusal::SymbolTooWide));
+    assert_eq!(second::Problem::read(&bytes).err(), Some(25));
 }
