@@ -159,6 +159,11 @@ checked-same q p e =
 pub encode-read : (s : Bytes) (p : Problem) → All (λ b. b < 256) s → readProblem s ≡ got p → encodeProblem p ≡ s
 encode-read s p b e = problem-faithful s p b e .1 .0
 
+-- So no two inputs are read as one problem: a symbol's number, too, has one spelling
+pub one-spelling : (s t : Bytes) (p : Problem) → All (λ b. b < 256) s → All (λ b. b < 256) t → readProblem s ≡ got p → readProblem t ≡ got p
+    → s ≡ t
+one-spelling s t p b c e f = sym (encode-read s p b e) ∙ encode-read t p c f
+
 pub read-within : (s : Bytes) (p : Problem) → All (λ b. b < 256) s → readProblem s ≡ got p → WithinLimits p
 read-within s p b e =
     let r = problem-faithful s p b e in
