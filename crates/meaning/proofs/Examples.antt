@@ -53,7 +53,8 @@ starred-hold = (
   ),
 )
 
--- T-05: "Correctness and completeness of the list hold for problems with both widths"
+-- T-05: one problem with symbols of both widths, some with the same low half. That the list is right for all such problems is no example:
+-- it is the theorems of `Solutions`, which speak of no width
 pub widths-hold : HoldsInBytes widths
 unfolding accepts texts reads
 widths-hold = (refl, (refl, refl), refl, refl)
