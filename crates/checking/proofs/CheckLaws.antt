@@ -9,14 +9,16 @@ use lib.ListN.{length, take}
 use lib.Seq.{length-take-le}
 use borrow.Author.Tests.{not-true, not-false}
 use Rattle.meaning.specs.Basics.{All, Bytes, isSome}
-use Rattle.meaning.specs.Problem.{Problem}
+use Rattle.meaning.specs.Problem.{Problem, bothWays}
+use Rattle.meaning.specs.Filling.{Filling}
 use Rattle.meaning.specs.Face.{Face, faces}
 use Rattle.meaning.specs.Read.{Answer, got, refused}
 use Rattle.meaning.specs.Accept.{accept}
 use Rattle.meaning.specs.Text.{Item, readText, said}
 use Rattle.meaning.specs.Passing.{kinds, known, meets, once, openUnneeded, passes, unneededOpen}
 use Rattle.meaning.specs.Entry.{checkCall}
-use Rattle.meaning.proofs.Lists.{is-some}
+use Rattle.meaning.proofs.Lists.{by-test, is-some}
+use Rattle.meaning.proofs.OneWay.{faces-one-way, faces-walk, walk-faces}
 use Rattle.tokens.specs.Token.{Table}
 use Rattle.tokens.proofs.ProblemTokens.{pattern-table}
 use Rattle.metavariables.specs.declared.Occurring.{Occurring}
@@ -125,16 +127,23 @@ module _ (ps ts : List ℕ) (o : Occurring) (s : Said) where
               ∙ ap (λ (b : Bool). b && (openUnneeded p (said is) && unneededOpen p (said is))) (not-false right q));
         }
 
--- Each filled pattern equals its expression
-no-faces : (o : Option (List Face)) → isSome o ≡ false → o ≡ none
-no-faces none e = refl
-no-faces (some xs) e = absurd (true≢false e)
+-- No letter is used both ways, and each filled pattern equals its expression
+is-none : (o : Option (List Face)) → isSome o ≡ false → o ≡ none
+is-none none e = refl
+is-none (some xs) e = absurd (true≢false e)
+
+-- A problem without faces uses a letter both ways, or its shapes disagree
+faceless : (p : Problem) (σ : Filling) → faces p ≡ none → not (bothWays p) && meets p σ ≡ false
+faceless p σ e =
+    by-test (bothWays p)
+    (λ b. ap (λ (x : Bool). not x && meets p σ) b)
+    (λ b. ap (λ (x : Bool). not x && meets p σ) b ∙ meets-disagree p σ (sym (walk-faces p b) ∙ e))
 
 module _ (ps es fs ts : List ℕ) (a : Standing) (s : Said) where
   pub met-never : not (a .agree) ≡ true → Met ps es fs ts a s false
   met-never q = record {
     judged = λ p is d.
-        sym (meets-disagree p (said is) (no-faces (faces p) (sym (d .laid .agree) ∙ not-true (a .agree) q)));
+        sym (faceless p (said is) (is-none (faces p) (sym (d .laid .agree) ∙ not-true (a .agree) q)));
   }
 
   module _ (agree : not (a .agree) ≡ false) where
@@ -150,7 +159,7 @@ module _ (ps es fs ts : List ℕ) (a : Standing) (s : Said) where
           patterns = laid .patterns;
           expressions = laid .expressions;
           found = found;
-          agree = shapes;
+          agree = faces-walk (d .problem) found shapes;
           recorded = laid .recorded found shapes;
           items = d .items;
           says = d .decided .says;
@@ -165,16 +174,23 @@ module _ (ps es fs ts : List ℕ) (a : Standing) (s : Said) where
           let laid = d .laid in
           let (found, shapes) = is-some (faces p) (sym (laid .agree) ∙ not-false (a .agree) agree) in
           e ∙ ap₂ (λ (x y : List ℕ). filledAt x y (take (a .faces) fs) ts s) (laid .patterns) (laid .expressions)
-          ∙ filled-means p (laid .accepted) (take (a .faces) fs) found shapes (laid .recorded found shapes) ts is s (d .says);
+          ∙ filled-means p (laid .accepted) (take (a .faces) fs) found (faces-walk p found shapes) (laid .recorded found shapes) ts is s
+          (d .says)
+          ∙ sym (ap (λ (b : Bool). not b && meets p (said is)) (faces-one-way p (ap isSome shapes)));
     }
 
   -- The whole decision
-  regroup : (a b c d e f : Bool) → a && (b && (c && (d && (e && f)))) ≡ (a && (b && (c && (d && e)))) && f
-  regroup true true true true e f = refl
-  regroup true true true false e f = refl
-  regroup true true false d e f = refl
-  regroup true false c d e f = refl
-  regroup false b c d e f = refl
+  and-false : (b : Bool) → b && false ≡ false
+  and-false true = refl
+  and-false false = refl
+
+  regroup : (z a b c d e f : Bool) → z && (a && (b && (c && (d && (e && f))))) ≡ (a && (b && (c && (d && e)))) && (z && f)
+  regroup true true true true true e f = refl
+  regroup true true true true false e f = refl
+  regroup true true true false d e f = refl
+  regroup true true false c d e f = refl
+  regroup true false b c d e f = refl
+  regroup false a b c d e f = sym (and-false (a && (b && (c && (d && e)))))
 
   decided-told : (p : Problem) (is : List Item) → Decided p is ps es fs ts a s → Told p is (take (a .patterns) ps) ts (a .occurring) s
   decided-told p is d =
@@ -186,22 +202,26 @@ module _ (ps es fs ts : List ℕ) (a : Standing) (s : Said) where
   decidable-told holes scratch d = decided-told (d .problem) (d .items) (d .decided)
 
   module _ (found : Bool) (h : FieldsJudged (take (a .patterns) ps) ts (a .occurring) s found) where
-    parts : (p : Problem) (is : List Item) → Decided p is ps es fs ts a s → passes p is ≡ found && meets p (said is)
+    abbrev meant : Problem → List Item → Bool
+    meant p is = not (bothWays p) && meets p (said is)
+
+    parts : (p : Problem) (is : List Item) → Decided p is ps es fs ts a s → passes p is ≡ found && meant p is
     unfolding passes
     parts p is d =
-        regroup (once is) (known p is) (kinds p (said is)) (openUnneeded p (said is)) (unneededOpen p (said is)) (meets p (said is))
-        ∙ ap (λ (b : Bool). b && meets p (said is)) (sym (h .judged p is (decided-told p is d)))
+        regroup (not (bothWays p)) (once is) (known p is) (kinds p (said is)) (openUnneeded p (said is)) (unneededOpen p (said is))
+        (meets p (said is))
+        ∙ ap (λ (b : Bool). b && meant p is) (sym (h .judged p is (decided-told p is d)))
 
     pub passed-never : not found ≡ true → Passed ps es fs ts a s false
     passed-never q = record {
       judged = λ p is d.
-          sym (parts p is d ∙ ap (λ (b : Bool). b && meets p (said is)) (not-true found q));
+          sym (parts p is d ∙ ap (λ (b : Bool). b && meant p is) (not-true found q));
     }
 
     pub passed-met : (r : Bool) → not found ≡ false → Met ps es fs ts a s r → Passed ps es fs ts a s r
     passed-met r q m = record {
       judged = λ p is d.
-          m .judged p is d ∙ sym (parts p is d ∙ ap (λ (b : Bool). b && meets p (said is)) (not-false found q));
+          m .judged p is d ∙ sym (parts p is d ∙ ap (λ (b : Bool). b && meant p is) (not-false found q));
     }
 
 -- Yes or no

@@ -2,15 +2,15 @@
 --   Told        a problem's patterns and metavariables, and what a text says of these
 --   Decided     the same of the whole problem: its tables and its faces
 --   ..Judged    the part of the decision that looks at fields alone
---   Met         each filled pattern equals its expression
+--   Met         no letter is used both ways, and each filled pattern equals its expression
 --   Passed      the whole decision
 use mathlib.Core.Path.{_≡_}
 use Prim.Native.Nat.{ℕ, _≤_}
-use mathlib.Core.Bool.{Bool, true, false, _&&_}
+use mathlib.Core.Bool.{Bool, true, false, _&&_, not}
 use mathlib.Core.List.{List}
 use lib.ListN.{length}
 use Rattle.meaning.specs.Basics.{Bytes}
-use Rattle.meaning.specs.Problem.{Problem}
+use Rattle.meaning.specs.Problem.{Problem, bothWays}
 use Rattle.meaning.specs.Read.{Answer, after, got, refused}
 use Rattle.meaning.specs.Readable.{Accepted}
 use Rattle.meaning.specs.Text.{Item, readText, said}
@@ -58,7 +58,7 @@ pub record Decidable (ps es fs ts : List ℕ) (a : Standing) (s : Said) (holes s
   pub argumentRoom : length ps ≤ length scratch
 
 pub record Met (ps es fs ts : List ℕ) (a : Standing) (s : Said) (r : Bool) : Type 0 where
-  pub judged : (p : Problem) (is : List Item) → Decided p is ps es fs ts a s → r ≡ meets p (said is)
+  pub judged : (p : Problem) (is : List Item) → Decided p is ps es fs ts a s → r ≡ not (bothWays p) && meets p (said is)
 
 pub record Passed (ps es fs ts : List ℕ) (a : Standing) (s : Said) (r : Bool) : Type 0 where
   pub judged : (p : Problem) (is : List Item) → Decided p is ps es fs ts a s → r ≡ passes p is

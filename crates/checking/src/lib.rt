@@ -1,6 +1,6 @@
 // The checker: "takes a problem and a text, fields in any order, bound names free, and says yes or no". Each part of the decision is a
 // function of its own: no metavariable twice, none that does not occur, the right kind of field for each, open just where no value is
-// needed, and each filled pattern equal to its expression.
+// needed, and, if the problem has rows, each filled pattern equal to its expression.
 use accept::Standing;
 use accept::Verdict;
 use accept::accept;
@@ -61,7 +61,8 @@ fn fields_right(occurring: Occurring, ps: &[u64], ts: &[u64], said: Said) -> boo
     open_right(occurring, ps, ts, said)
 }
 
-// "each filled pattern equals its expression"; where shapes disagree none does.
+// "each filled pattern equals its expression"; where shapes disagree none does, and where a letter is used both ways "the checker says no
+// to every well-formed text" (T-09).
 fn constraints_met(
     a: Standing,
     ps: &[u64],

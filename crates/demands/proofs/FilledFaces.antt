@@ -7,7 +7,7 @@ use Rattle.meaning.specs.Basics.{each, All, AllO, _∈_}
 use Rattle.meaning.specs.Term.{one, Slot, metavariable, function, hole, Term}
 use Rattle.meaning.specs.Problem.{Problem, patterns, expressions, applications, applied}
 use Rattle.meaning.specs.Filling.{fill, plug, Entry, body, Filling, bodyOr, fillHandler, filled, IsBody}
-use Rattle.meaning.specs.Face.{Face, faces}
+use Rattle.meaning.specs.Face.{Face, walkOf}
 use Rattle.meaning.specs.Value.{sourceAt, sourceOf}
 use Rattle.meaning.specs.Agree.{Satisfied}
 use Rattle.meaning.proofs.Lists.{all-mem, mem-all, join-in, join-out}
@@ -20,7 +20,7 @@ use Rattle.demands.proofs.SlotKinds.{NoHole, pattern-face}
 use Rattle.demands.proofs.Answers.{each-some-in, each-some-out, all-each, each-all}
 use Rattle.demands.proofs.Holding.{Holds, slot-holds, holds-slot, filledArguments, application-in, application-out}
 
-module _ (p : Problem) (c : Proper p) (xs : List Face) (defined : faces p ≡ some xs) (σ : Filling) (b : ℕ → Term)
+module _ (p : Problem) (c : Proper p) (xs : List Face) (defined : walkOf p ≡ some xs) (σ : Filling) (b : ℕ → Term)
     (agree : (f : ℕ) → f ∈ applied (patterns p) → σ f ≡ body (b f)) where
   -- What a face's slot is filled to, by what it is
   abbrev filledAs : Face → Slot → Term

@@ -2,15 +2,15 @@
 use mathlib.Core.Path.{_≡_, ap, sym, _∙_, subst}
 use mathlib.Core.Logic.{_⊎_, inl, inr, _↔_}
 use Prim.Native.Nat.{ℕ}
-use mathlib.Core.Bool.{true}
+use mathlib.Core.Bool.{false, true}
 use mathlib.Core.List.{List}
 use mathlib.Core.Option.{Option, none, some}
 use Rattle.meaning.specs.Basics.{All, AllO, _∈_, andThen, orNone}
 use Rattle.meaning.specs.Term.{one, function, Term}
-use Rattle.meaning.specs.Problem.{Problem, patterns, expressions, plain, applications, applied, functions}
+use Rattle.meaning.specs.Problem.{Problem, bothWays, patterns, expressions, plain, applications, applied, functions}
 use Rattle.meaning.specs.Shift.{ClosedTerm}
 use Rattle.meaning.specs.Filling.{value, fillHandler, filled, IsBody}
-use Rattle.meaning.specs.Face.{Face, faces, isApplication}
+use Rattle.meaning.specs.Face.{Face, faces, isApplication, walkOf}
 use Rattle.meaning.specs.Row.{Row, IsRow, rowBody}
 use Rattle.meaning.specs.Value.{Source, sourcesIn, sources, lookup}
 use Rattle.meaning.specs.Rows.{rows}
@@ -21,10 +21,11 @@ use Rattle.meaning.proofs.ShiftLaws.{test-closed, closed-test}
 use Rattle.meaning.proofs.ChoiceLaws.{rows-are}
 use Rattle.meaning.proofs.Proper.{Proper, accepted-proper, same-places, applied-functions, functions-applied}
 use Rattle.meaning.proofs.Slots.{faced-applied}
-use Rattle.meaning.proofs.Sources.{Walked, walked}
+use Rattle.meaning.proofs.Sources.{Walked}
+use Rattle.meaning.proofs.OneWay.{faces-one-way, faces-walk, one-way-means}
 use Rattle.meaning.proofs.Candidate.{lookup-cases, candidate-function, candidate-plain}
 use Rattle.meaning.proofs.RowBodies.{application-is}
-use Rattle.meaning.proofs.Solutions.{row-body-shape, passes-meets, passes-from, candidate-solution, solution-closed}
+use Rattle.meaning.proofs.Solutions.{row-body-shape, passes-meets, passes-walk, passes-faces, passes-from, candidate-solution, solution-closed}
 use Rattle.meaning.proofs.TextLaws.{by-kind}
 use Rattle.demands.specs.Demand.{lowestIn, lowestDemands}
 use Rattle.demands.specs.Fit.{Suits, applicationsOf, facedBy, FitsTogether}
@@ -67,8 +68,8 @@ module _ (p : Problem) (accepted : Accepted p) (r : Row) (isRow : IsRow p r) whe
 
   -- A SOLUTION ROW FITS
   module _ (e : solves p r ≡ true) where
-    w : Walked (fillHandler (candidate p r)) 0 0 (patterns p) (expressions p)
-    w = walked (fillHandler (candidate p r)) 0 0 (patterns p) (expressions p) (passes-meets p r e)
+    abbrev w : Walked (fillHandler (candidate p r)) 0 0 (patterns p) (expressions p)
+    w = passes-walk p r e
 
     entry-closed : (m : ℕ) → isClosedEntry (candidate p r m) ≡ true
     entry-closed = solution-closed p (candidate p r) (candidate-solution p r proper isRow e)
@@ -79,7 +80,7 @@ module _ (p : Problem) (accepted : Accepted p) (r : Row) (isRow : IsRow p r) whe
 
     body-suits : (f : ℕ) (t : Term) → t ∈ facedBy p f → Suits (rowBody p r f) t
     body-suits f t q =
-        let (x, n, m, z, d) = faced-by p (w .found) (w .defined) f t q in
+        let (x, n, m, z, d) = faced-by p (w .found) (passes-faces p r e) f t q in
         subst (Suits (rowBody p r f)) (sym d)
         (meets-suits p proper (w .found) (w .defined) (candidate p r) (rowBody p r) (candidate-function p r) (passes-meets p r e)
         f n x m z)
@@ -89,7 +90,7 @@ module _ (p : Problem) (accepted : Accepted p) (r : Row) (isRow : IsRow p r) whe
     holding =
         let (ds, d, h) = all-some (Holds (candidate p r)) (lowestIn (rowBody p r) (w .found))
         (meets-demands p proper (w .found) (w .defined) (candidate p r) (rowBody p r) (candidate-function p r) (passes-meets p r e)) in
-        (ds, ap (λ (o : Option (List Face)). andThen o (lowestIn (rowBody p r))) (w .defined) ∙ d, h)
+        (ds, ap (λ (o : Option (List Face)). andThen o (lowestIn (rowBody p r))) (passes-faces p r e) ∙ d, h)
 
     solves-fits : FitsTogether p r
     unfolding rowBody
@@ -102,23 +103,31 @@ module _ (p : Problem) (accepted : Accepted p) (r : Row) (isRow : IsRow p r) whe
           (ap isClosedEntry (sym (all-mem (Holds (candidate p r)) d (holding .0) (holding .2) q)) ∙ entry-closed (d .number)));
     }
 
+  one-way : bothWays p ≡ false
+  one-way = faces-one-way p (isRow .agree)
+
   -- A ROW THAT FITS IS A SOLUTION ROW
   module _ (x : FitsTogether p r) where
     found : (xs : List Face) × (faces p ≡ some xs) × (lowestIn (rowBody p r) xs ≡ some (x .list))
     unfolding lowestDemands
     found = then-some (faces p) (lowestIn (rowBody p r)) (x .list) (x .demanded)
 
+    found-walk : walkOf p ≡ some (found .0)
+    found-walk = faces-walk p (found .0) (found .1)
+
     sourced : x .list ≡ sources p r
     sourced = demands-are-sources p r (x .list) (x .demanded)
 
     demand-plain : (d : Source) → d ∈ x .list → d .number ∈ plain (patterns p)
     demand-plain d q =
-        source-plain p proper (rowBody p r) (found .0) (found .1) d
+        source-plain p proper (rowBody p r) (found .0) found-walk d
         (subst (λ (l : List Source). d ∈ l)
         (sourced ∙ ap (λ (o : Option (List Face)). sourcesIn (rowBody p r) (orNone o)) (found .1)) q)
 
     plain-value : (m : ℕ) → m ∈ plain (patterns p) → candidate p r m ≡ given (lookup m (x .list))
-    plain-value m q = candidate-plain p r m (λ a. proper .separate m a q) q ∙ ap (λ (l : List Source). given (lookup m l)) (sym sourced)
+    plain-value m q =
+        candidate-plain p r m (λ a. one-way-means p (proper .smallApplied) .0 one-way m a q) q
+        ∙ ap (λ (l : List Source). given (lookup m l)) (sym sourced)
 
     held : (d : Source) → d ∈ x .list → Holds (candidate p r) d
     held d q =
@@ -132,12 +141,12 @@ module _ (p : Problem) (accepted : Accepted p) (r : Row) (isRow : IsRow p r) whe
     suiting : (f n : ℕ) (y : Face) → y ∈ found .0 → y .what ≡ function f n → Suits (rowBody p r f) (y .term)
     unfolding rowBody
     suiting f n y q z =
-        x .alone f (applied-functions p proper f (faced-applied p proper (found .0) (found .1) f n y q z)) .suits (y .term)
+        x .alone f (applied-functions p proper f (faced-applied p proper (found .0) found-walk f n y q z)) .suits (y .term)
         (by-faced p (found .0) (found .1) f y n q z)
 
     fits-meets : filled (candidate p r) (patterns p) ≡ expressions p
     fits-meets =
-        demands-meet p proper (found .0) (found .1) (candidate p r) (rowBody p r) (candidate-function p r) body-shape suiting
+        demands-meet p proper (found .0) found-walk (candidate p r) (rowBody p r) (candidate-function p r) body-shape suiting
         (subst (AllO (Holds (candidate p r))) (sym (found .2)) (mem-all (Holds (candidate p r)) (x .list) held))
 
     function-closed : (f : ℕ) → f ∈ applied (patterns p) → isClosedEntry (candidate p r f) ≡ true
@@ -152,7 +161,7 @@ module _ (p : Problem) (accepted : Accepted p) (r : Row) (isRow : IsRow p r) whe
 
     fits-solves : solves p r ≡ true
     fits-solves =
-        passes-from p r fits-meets
+        passes-from p r one-way fits-meets
         (λ m q. by-kind p m q (function-closed m) (λ a b. plain-closed m b (lookup-cases m (x .list))))
 
 -- THE TEST OF A ROW

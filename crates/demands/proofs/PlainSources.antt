@@ -9,7 +9,7 @@ use Rattle.meaning.specs.Basics.{each, upTo, _∈_, andThen, orNone}
 use Rattle.meaning.specs.Term.{nil, cons, one, trees, own, slot, Slot, metavariable, function, hole, Nameless, Terms, Term}
 use Rattle.meaning.specs.Problem.{Problem, patterns, expressions, plain}
 use Rattle.meaning.specs.Filling.{argument}
-use Rattle.meaning.specs.Face.{Face, walk, faces}
+use Rattle.meaning.specs.Face.{Face, walk, walkOf}
 use Rattle.meaning.specs.Value.{Source, sourceOf, lowestHole, fromHole, fromApplication, sourcesIn}
 use Rattle.meaning.specs.Lower.{lowerTerm}
 use Rattle.meaning.proofs.Lists.{mem-each, each-mem, each-append, upTo-mem}
@@ -64,7 +64,7 @@ hole-plain k t (some h) s q = go (lowerTerm (h .under) (h .term)) q
     go (some u) r = walk-plain k (h .node) (one t) (one u) (walk k (h .node) (one t) (one u)) refl s r
 
 -- EVERY SOURCE of a row is one of a metavariable that is no function
-module _ (p : Problem) (c : Proper p) (b : ℕ → Term) (xs : List Face) (defined : faces p ≡ some xs) where
+module _ (p : Problem) (c : Proper p) (b : ℕ → Term) (xs : List Face) (defined : walkOf p ≡ some xs) where
   slot-source-plain : (x : Face) → x ∈ xs → (z : Slot) → x .what ≡ z
       → (s : Source) → s ∈ fromApplication b x z → s .number ∈ plain (patterns p)
   slot-source-plain x i (metavariable m) e s q = absurd (List·Memᴰ·not-nil q)

@@ -1,9 +1,10 @@
--- Every refusal that a C program is given has a number from 1 to 20, or 25: not 0, which is done, and none from 256 on, which are answers.
+-- Every refusal that a C program is given has a number from 1 to 20, or 25: not 0, which is done, none from 256 on, which are answers, and
+-- not 12, which is withdrawn.
 --   start-numbers, search-numbers, write-numbers, check-numbers   one for each exported function
 -- The rest goes through the definitions of reading in document 01's order.
 use mathlib.Core.Path.{_≡_, refl, subst}
 use Prim.Native.Nat.{ℕ, zero, suc, _-_}
-use mathlib.Core.Bool.{Bool, true, false}
+use mathlib.Core.Bool.{Bool, true, false, false≢true}
 use mathlib.Core.List.{List}
 use lib.ListN.{length, getD}
 use lib.Dec.{eqb, ltb}
@@ -15,7 +16,7 @@ use Rattle.meaning.specs.Read.{variableKind, applicationKind, binderKind, metav
 use Rattle.meaning.specs.Read.{functionIn, holeIn, kindOf, wordAt, longAt, partsOf, headOf, Content, numbered, leaf, over, many, contentOf}
 use Rattle.meaning.specs.Read.{Reader, readExactly, readAll}
 use Rattle.meaning.specs.Read.{contextBelow, readContent, readTerm, readPair, constraintHead, readConstraints, readProblem}
-use Rattle.meaning.specs.Accept.{bothWays, overlarge, checkProblem, accept}
+use Rattle.meaning.specs.Accept.{overlarge, checkProblem, accept}
 use Rattle.meaning.specs.Text.{orTwenty, readItems, readText}
 use Rattle.meaning.specs.Row.{Row}
 use Rattle.meaning.specs.Search.{found, end, paused, refusedCall, Place, Reply, Keeps, finds, ends, pauses}
@@ -158,10 +159,9 @@ problem s = either (ltb maxInput (length s)) _ _ (refusal 1 refl) (constraints m
 checked : (p : Problem) → Refuses (checkProblem p)
 unfolding checkProblem
 checked p =
-    either (bothWays p) _ _ (refusal 12 refl)
-    (either (ltb maxFunctions (length (functions p))) _ _ (refusal 13 refl)
+    either (ltb maxFunctions (length (functions p))) _ _ (refusal 13 refl)
     (either (overlarge p) _ _ (refusal 14 refl)
-    (answer p)))
+    (answer p))
 
 accepted : (s : Bytes) → Refuses (accept s)
 unfolding accept
@@ -189,6 +189,10 @@ is-refusal (refusal r e) = e
 
 not-accepted : (s : Bytes) (r : ℕ) → accept s ≡ refused r → isRefusal r ≡ true
 not-accepted s r e = is-refusal (subst (λ (a : Answer Problem). Refuses a) e (accepted s))
+
+-- T-09: 12 "stays unused"
+pub never-twelve : (s : Bytes) → accept s ≡ refused 12 → ⊥
+never-twelve s e = false≢true (not-accepted s 12 e)
 
 kept : {solved : Row → Bool} (n : ℕ) {from : List Row} {reply : Reply Row (Place Row)} → Keeps solved n from reply
     → RefusesReply (replyValue reply)

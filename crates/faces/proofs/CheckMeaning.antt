@@ -1,5 +1,5 @@
--- What the checks on the token tables say of a problem: `meaning`'s refusals 12 to 14, in its order.
-use mathlib.Core.Path.{_≡_, refl, ap, ap₂, sym, _∙_, subst}
+-- What the checks on the token tables say of a problem: `meaning`'s refusals 13 and 14, in its order, and its faces.
+use mathlib.Core.Path.{_≡_, refl, ap, sym, _∙_, subst}
 use mathlib.Core.Logic.{_↔_}
 use mathlib.Core.Bool.{Bool, true, false, _&&_, not}
 use mathlib.Core.List.{List, [], _∷_, map}
@@ -10,13 +10,13 @@ use lib.ListN.{length, take, drop}
 use lib.Seq.{take-at}
 use lib.Dec.{ltb}
 use Rattle.meaning.specs.Limits.{maxFunctions, maxFaceNodes}
-use Rattle.meaning.specs.Basics.{choose, every, orNone, isSome}
+use Rattle.meaning.specs.Basics.{choose, every, guard, orNone, isSome}
 use Rattle.meaning.specs.Term.{one, size}
-use Rattle.meaning.specs.Problem.{Problem, functions}
-use Rattle.meaning.specs.Face.{Face, faces, firstFace}
+use Rattle.meaning.specs.Problem.{Problem, bothWays, functions}
+use Rattle.meaning.specs.Face.{Face, faces, firstFace, walkOf}
 use Rattle.meaning.specs.Row.{faceTerm}
 use Rattle.meaning.specs.Read.{refused, got}
-use Rattle.meaning.specs.Accept.{bothWays, overlarge, checkProblem}
+use Rattle.meaning.specs.Accept.{overlarge, checkProblem}
 use Rattle.meaning.specs.Readable.{WithinLimits}
 use Rattle.meaning.proofs.Lists.{by-test, choose-true, choose-false}
 use Rattle.tokens.specs.Token.{patternTokens, expressionTokens}
@@ -24,9 +24,9 @@ use Rattle.faces.specs.declared.check.Checked.{Checked}
 use Rattle.faces.specs.declared.check.Checked.the-variants as checked
 use Rattle.faces.specs.FlatWalk.{flatWalk}
 use Rattle.lockstep.specs.Recorded.{Both}
-use Rattle.faces.specs.Recorded.{Recorded}
+use Rattle.faces.specs.Recorded.{Means, Recorded}
 use Rattle.faces.specs.First.{firstNode, anyLarge}
-use Rattle.faces.specs.Check.{largeIn, afterWalk, verdict, CheckedBy}
+use Rattle.faces.specs.Check.{largeIn, facesIn, afterWalk, verdict, CheckedBy}
 use Rattle.faces.specs.Verdict.{answerOf, Told, Says}
 use Rattle.metavariables.proofs.SurveyMeaning.{functions-in, both-in}
 use Rattle.faces.proofs.WalkMeaning.{walk-means}
@@ -52,49 +52,57 @@ module _ (p : Problem) (w : WithinLimits p) where
       (λ (o : Option (List Face)). isSome o && not
       (every (λ f. not (ltb maxFaceNodes (size (one (faceTerm (firstFace f (orNone o)) f))))) (functions p))) e
 
+  -- What is recorded on the tables are the problem's faces: both are none where a letter is used both ways
+  guarded : (b : Bool) (o : Option (List ℕ)) (x : Option (List Face)) → Both (Recorded p) o x → Both (Recorded p) (guard b o) (guard b x)
+  guarded true o x h = h
+  guarded false o x h = tt
+
+  pub faces-mean : Means p (facesIn (patternTokens p) (expressionTokens p)) (faces p)
+  unfolding facesIn faces
+  faces-mean =
+      subst
+      (λ (b : Bool). Means p (guard (not b) (flatWalk (patternTokens p) (expressionTokens p))) (guard (not (bothWays p)) (walkOf p)))
+      (sym (both-in p w))
+      (guarded (not (bothWays p)) (flatWalk (patternTokens p) (expressionTokens p)) (walkOf p) (walk-means p w))
+
   -- The checks of `meaning`, one after the other
-  refused-12 : bothWays p ≡ true → checkProblem p ≡ refused 12
+  refused-13 : ltb maxFunctions (length (functions p)) ≡ true → checkProblem p ≡ refused 13
   unfolding checkProblem
-  refused-12 e = choose-true _ _ e
+  refused-13 e = choose-true _ _ e
 
-  module _ (apart : bothWays p ≡ false) where
-    refused-13 : ltb maxFunctions (length (functions p)) ≡ true → checkProblem p ≡ refused 13
+  module _ (few : ltb maxFunctions (length (functions p)) ≡ false) where
+    refused-14 : overlarge p ≡ true → checkProblem p ≡ refused 14
     unfolding checkProblem
-    refused-13 e = choose-false _ _ apart ∙ choose-true _ _ e
+    refused-14 e = choose-false _ _ few ∙ choose-true _ _ e
 
-    module _ (few : ltb maxFunctions (length (functions p)) ≡ false) where
-      refused-14 : overlarge p ≡ true → checkProblem p ≡ refused 14
-      unfolding checkProblem
-      refused-14 e = choose-false _ _ apart ∙ choose-false _ _ few ∙ choose-true _ _ e
-
-      passed : overlarge p ≡ false → checkProblem p ≡ got p
-      unfolding checkProblem
-      passed e = choose-false _ _ apart ∙ choose-false _ _ few ∙ choose-false _ _ e
+    passed : overlarge p ≡ false → checkProblem p ≡ got p
+    unfolding checkProblem
+    passed e = choose-false _ _ few ∙ choose-false _ _ e
 
   module _ (old new : List ℕ) (r : Checked) (c : CheckedBy (patternTokens p) (expressionTokens p) old new r) where
     -- The verdict, with the tests of `meaning`
-    decided : r ≡ choose (bothWays p) (checked.Refused 12) (choose (ltb maxFunctions (length (functions p))) (checked.Refused 13)
-        (afterWalk (patternTokens p) (expressionTokens p) (flatWalk (patternTokens p) (expressionTokens p))))
+    decided : r ≡ choose (ltb maxFunctions (length (functions p))) (checked.Refused 13)
+        (afterWalk (patternTokens p) (expressionTokens p) (facesIn (patternTokens p) (expressionTokens p)))
     unfolding verdict
     decided =
         c .answer
-        ∙ ap₂ (λ (b : Bool) (fs : List ℕ). choose b (checked.Refused 12) (choose (ltb maxFunctions (length fs)) (checked.Refused 13)
+        ∙ ap (λ (fs : List ℕ). choose (ltb maxFunctions (length fs)) (checked.Refused 13)
         (afterWalk (patternTokens p) (expressionTokens p)
-        (flatWalk (patternTokens p) (expressionTokens p))))) (both-in p w) (functions-in p w)
+        (facesIn (patternTokens p) (expressionTokens p)))) (functions-in p w)
 
-    module _ (apart : bothWays p ≡ false) (few : ltb maxFunctions (length (functions p)) ≡ false) where
-      after : (o : Option (List ℕ)) → flatWalk (patternTokens p) (expressionTokens p) ≡ o
+    module _ (few : ltb maxFunctions (length (functions p)) ≡ false) where
+      after : (o : Option (List ℕ)) → facesIn (patternTokens p) (expressionTokens p) ≡ o
           → r ≡ afterWalk (patternTokens p) (expressionTokens p) o
-      after o e = decided ∙ choose-false _ _ apart ∙ choose-false _ _ few ∙ ap (afterWalk (patternTokens p) (expressionTokens p)) e
+      after o e = decided ∙ choose-false _ _ few ∙ ap (afterWalk (patternTokens p) (expressionTokens p)) e
 
-      told : (ns : List ℕ) (xs : List Face) → flatWalk (patternTokens p) (expressionTokens p) ≡ some ns → faces p ≡ some xs
+      told : (ns : List ℕ) (xs : List Face) → facesIn (patternTokens p) (expressionTokens p) ≡ some ns → faces p ≡ some xs
           → Recorded p ns xs
           → overlarge p ≡ false → r ≡ checked.Faces (length ns) → Told p new (length ns)
       told ns xs e a q small y =
           let front : take (length ns) new ≡ ns = ap (take (length ns)) (c .recorded ns e y)
           ∙ take-at ns (drop (length ns) old) (length ns) refl in
           record {
-            passes = passed apart few small;
+            passes = passed few small;
             found = xs;
             agree = a;
             count = same-long ns xs q;
@@ -107,9 +115,9 @@ module _ (p : Problem) (w : WithinLimits p) where
           same-long (m ∷ ms) [] h = absurd h
           same-long (m ∷ ms) (y ∷ ys) h = ap suc (same-long ms ys (h .1))
 
-      walked : (o : Option (List ℕ)) (x : Option (List Face)) → flatWalk (patternTokens p) (expressionTokens p) ≡ o → faces p ≡ x
+      walked : (o : Option (List ℕ)) (x : Option (List Face)) → facesIn (patternTokens p) (expressionTokens p) ≡ o → faces p ≡ x
           → Both (Recorded p) o x → Says p new r
-      walked none none e a q = subst (Says p new) (sym (after none e)) (passed apart few (not-large a), a)
+      walked none none e a q = subst (Says p new) (sym (after none e)) (passed few (not-large a), a)
       walked none (some xs) e a q = absurd q
       walked (some ns) none e a q = absurd q
       walked (some ns) (some xs) e a q = by-test (overlarge p) over under
@@ -118,7 +126,7 @@ module _ (p : Problem) (w : WithinLimits p) where
           answer = after (some ns) e ∙ ap (λ (b : Bool). choose b (checked.Refused 14) (checked.Faces (length ns))) (large-in ns xs q a)
 
           over : overlarge p ≡ true → Says p new r
-          over y = subst (Says p new) (sym (answer ∙ choose-true _ _ y)) (refused-14 apart few y)
+          over y = subst (Says p new) (sym (answer ∙ choose-true _ _ y)) (refused-14 few y)
 
           under : overlarge p ≡ false → Says p new r
           under y =
@@ -128,11 +136,9 @@ module _ (p : Problem) (w : WithinLimits p) where
     -- THE THEOREM: the code's answer is `meaning`'s, and with faces they are recorded
     pub check-means : Says p new r
     check-means =
-        by-test (bothWays p)
-        (λ y. subst (Says p new) (sym (decided ∙ choose-true _ _ y)) (refused-12 y))
-        (λ n. by-test (ltb maxFunctions (length (functions p)))
-        (λ y. subst (Says p new) (sym (decided ∙ choose-false _ _ n ∙ choose-true _ _ y)) (refused-13 n y))
-        (λ m. walked n m (flatWalk (patternTokens p) (expressionTokens p)) (faces p) refl refl (walk-means p w)))
+        by-test (ltb maxFunctions (length (functions p)))
+        (λ y. subst (Says p new) (sym (decided ∙ choose-true _ _ y)) (refused-13 y))
+        (λ n. walked n (facesIn (patternTokens p) (expressionTokens p)) (faces p) refl refl faces-mean)
 
     -- The same answer, and when there are no rows
     pub check-answer : checkProblem p ≡ answerOf p r

@@ -12,7 +12,7 @@ use Rattle.meaning.specs.Limits.{maxDepth}
 use Rattle.meaning.specs.Term.{trees, nodeAt, Terms}
 use Rattle.meaning.specs.Problem.{Problem, namedPatterns, namedExpressions, patterns, expressions}
 use Rattle.meaning.specs.Scope.{enter, namelessLabel}
-use Rattle.meaning.specs.Face.{Face, faces}
+use Rattle.meaning.specs.Face.{Face, walkOf}
 use Rattle.meaning.specs.Read.{inPattern, inExpression}
 use Rattle.meaning.specs.Readable.{WithinLimits}
 use Rattle.meaning.proofs.Proper.{patterns-readable, expressions-readable}
@@ -58,20 +58,20 @@ module _ (p : Problem) (w : WithinLimits p) where
       (patterns-readable p w) (patterns-room p w)
 
   -- THE THEOREM: the walk on the tables fails just where a shape disagrees, and else records the faces in order
-  pub walk-means : Means p (flatWalk (patternTokens p) (expressionTokens p)) (faces p)
+  pub walk-means : Means p (flatWalk (patternTokens p) (expressionTokens p)) (walkOf p)
   walk-means =
       let at0 : (u : Terms) → Looks (λ i. nodeAt i u) 0 u = λ u m h. ap (λ (i : ℕ). nodeAt i u) (zero-add m) in
-      subst (λ (o : Option (List ℕ)). Means p o (faces p)) (sym table-walk)
+      subst (λ (o : Option (List ℕ)). Means p o (walkOf p)) (sym table-walk)
       (seen-both (λ i. nodeAt i (patterns p)) (λ j. nodeAt j (expressions p)) (λ i. depthIn (at (patternTokens p) i)) [] 0 0 0 0
       (patterns p) (expressions p)
       (nameless-closed [] (namedPatterns p)) (nameless-closed [] (namedExpressions p)) (at0 (patterns p)) (at0 (expressions p))
       pattern-deep
       (omega (arith, nodes-few p w, relabel-size enter namelessLabel [] (namedPatterns p))))
 
-  pub walk-none : (flatWalk (patternTokens p) (expressionTokens p) ≡ none) ↔ (faces p ≡ none)
-  walk-none = both-none (Recorded p) (flatWalk (patternTokens p) (expressionTokens p)) (faces p) walk-means
+  pub walk-none : (flatWalk (patternTokens p) (expressionTokens p) ≡ none) ↔ (walkOf p ≡ none)
+  walk-none = both-none (Recorded p) (flatWalk (patternTokens p) (expressionTokens p)) (walkOf p) walk-means
 
-  pub walk-some : (xs : List Face) → faces p ≡ some xs
+  pub walk-some : (xs : List Face) → walkOf p ≡ some xs
       → (ns : List ℕ) × (flatWalk (patternTokens p) (expressionTokens p) ≡ some ns) × Recorded p ns xs
   walk-some xs q =
       both-some (Recorded p) (flatWalk (patternTokens p) (expressionTokens p)) xs

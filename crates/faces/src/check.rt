@@ -1,4 +1,4 @@
-// The checks after reading, in document 01's order: 12, 13, the walk, and 14 if all shapes agree.
+// The checks after reading, in document 01's order: 13, then, unless a letter is used both ways, the walk, and 14 if all shapes agree.
 use crate::first::any_large;
 use crate::first::first_faces;
 use crate::walk::walk;
@@ -18,7 +18,7 @@ ghost use Rattle.faces.specs.Check.{CheckedBy};
 
 pub enum Checked {
     Refused(u8),
-    // A shape disagrees: the problem is accepted and has no rows.
+    // A letter is used both ways, or a shape disagrees: the problem is accepted and has no rows.
     NoRows,
     // The problem is accepted; how many faces were recorded.
     Faces(usize),
@@ -39,11 +39,11 @@ pub fn check(ps: &[u64], es: &[u64], out: &mut [u64]) -> Checked
 {
     let found = survey(ps);
     let functions = found.functions;
-    if both_ways(functions, found.plain) {
-        return Checked::Refused(12);
-    }
     if function_count(functions) > MAX_FUNCTIONS {
         return Checked::Refused(13);
+    }
+    if both_ways(functions, found.plain) {
+        return Checked::NoRows;
     }
     match walk(ps, es, out) {
         Shapes::Disagree => Checked::NoRows,

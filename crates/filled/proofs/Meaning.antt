@@ -13,7 +13,7 @@ use Rattle.meaning.specs.Term.{nodeAt, slot, Slot, metavariable, function, hole
 use Rattle.meaning.specs.Problem.{Problem, patterns, expressions, namedExpressions}
 use Rattle.meaning.specs.Filling.{fill, Filling, fillHandler, filled}
 use Rattle.meaning.specs.Same.{sameTerms}
-use Rattle.meaning.specs.Face.{Face, faces}
+use Rattle.meaning.specs.Face.{Face, walkOf}
 use Rattle.meaning.specs.Agree.{Satisfied}
 use Rattle.meaning.specs.Field.{tagOf}
 use Rattle.meaning.specs.Read.{inExpression}
@@ -63,7 +63,7 @@ module _ (p : Problem) (accepted : Accepted p) (ts : List ℕ) (is : List Item) 
   proper = accepted-proper p accepted
 
   -- One recorded face
-  module _ (xs : List Face) (agree : faces p ≡ some xs) (n : ℕ) (x : Face) (among : x ∈ xs)
+  module _ (xs : List Face) (agree : walkOf p ≡ some xs) (n : ℕ) (x : Face) (among : x ∈ xs)
       (recorded : Records (λ i. nodeAt i (patterns p)) (λ j. nodeAt j (expressions p)) (λ i. depthIn (at ps i)) n x) where
     -- What it faces stands under as many binders as its slot
     spotted : Spotted es 0 x
@@ -122,7 +122,7 @@ module _ (p : Problem) (accepted : Accepted p) (ts : List ℕ) (is : List Item) 
         go (hole i) e h = absurd h
 
   -- All of them
-  all-told : (ns : List ℕ) (found : List Face) → faces p ≡ some found → Recorded p ns found
+  all-told : (ns : List ℕ) (found : List Face) → walkOf p ≡ some found → Recorded p ns found
       → Decides ((ms : List ℕ) → some ns ≡ some ms → All (Slotted ps es ts s) ms) (filledAt ps es ns ts s)
       (filled (said is) (patterns p) ≡ expressions p)
   unfolding filledAt
@@ -132,7 +132,7 @@ module _ (p : Problem) (accepted : Accepted p) (ts : List ℕ) (is : List Item) 
       (subst (Both (Recorded p) (some ns)) (sym agree) recorded) (λ xs e n x q r. slot-told xs e n x q r)
 
 -- THE MEANING
-pub filled-means : (p : Problem) → Accepted p → (ns : List ℕ) (found : List Face) → faces p ≡ some found → Recorded p ns found
+pub filled-means : (p : Problem) → Accepted p → (ns : List ℕ) (found : List Face) → walkOf p ≡ some found → Recorded p ns found
     → (ts : List ℕ) (is : List Item) (s : Said)
     → SaidBy ts is s → filledAt (patternTokens p) (expressionTokens p) ns ts s ≡ meets p (said is)
 filled-means p accepted ns found agree recorded ts is s by =
@@ -141,7 +141,7 @@ filled-means p accepted ns found agree recorded ts is s by =
     same-truth (filledAt (patternTokens p) (expressionTokens p) ns ts s) (meets p (said is)) (λ t. e .1 (d .into t)) (λ t. d .back (e .0 t))
 
 -- "If they disagree anywhere", no filling meets the constraints
-pub meets-disagree : (p : Problem) (σ : Filling) → faces p ≡ none → meets p σ ≡ false
+pub meets-disagree : (p : Problem) (σ : Filling) → walkOf p ≡ none → meets p σ ≡ false
 meets-disagree p σ e =
     not-T (λ t. subst (AllO (Satisfied (fillHandler σ))) e
     (walk-in (fillHandler σ) 0 0 (patterns p) (expressions p) (sameTerms-eq (filled σ (patterns p)) (expressions p) t)))

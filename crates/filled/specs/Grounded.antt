@@ -6,8 +6,7 @@ use mathlib.Core.List.{List}
 use mathlib.Core.Option.{some}
 use lib.ListN.{length}
 use Rattle.meaning.specs.Problem.{Problem}
-use Rattle.meaning.specs.Face.{Face}
-use Rattle.meaning.specs.Face as face
+use Rattle.meaning.specs.Face.{Face, walkOf}
 use Rattle.meaning.specs.Text.{Item}
 use Rattle.meaning.specs.Readable.{Accepted}
 use Rattle.tokens.specs.Token.{patternTokens, expressionTokens}
@@ -21,7 +20,7 @@ pub record Grounded (ps es faces ts : List ℕ) (s : Said) (holes scratch : List
   pub patterns : ps ≡ patternTokens problem
   pub expressions : es ≡ expressionTokens problem
   pub found : List Face
-  pub agree : face.faces problem ≡ some found
+  pub agree : walkOf problem ≡ some found
   pub recorded : Recorded problem faces found
   pub items : List Item
   pub says : SaidBy ts items s

@@ -22,6 +22,7 @@ use Rattle.meaning.specs.PlaceValue.{maskOf}
 use Rattle.meaning.proofs.Lists.{all-mem, mem-all}
 use Rattle.meaning.proofs.Nodes.{Stands, node-stands, stands-node, stands-in, relabel-stands, walk-node}
 use Rattle.meaning.proofs.Proper.{expressions-readable}
+use Rattle.meaning.proofs.OneWay.{faces-walk}
 use Rattle.meaning.proofs.ShiftLaws.{shift-lower-term}
 use Rattle.meaning.proofs.Sources.{lowest-is}
 use Rattle.tokens.specs.Token.{depthIn, sizeIn, tokens, patternTokens, expressionTokens}
@@ -89,7 +90,7 @@ module _ (p : Problem) (w : WithinLimits p) where
   faces-spotted xs e =
       spots (expressionTokens p) 0 0 0 maxDepth inExpression (patterns p) [] (namedExpressions p) []
       (sym (append-nil (tokens [] (namedExpressions p)))) refl
-      (expressions-readable p w) (expressions-room p w) xs e
+      (expressions-readable p w) (expressions-room p w) xs (faces-walk p xs e)
 
   -- What stands below a lowered term stands, under more binders, below the term itself
   moved-in : (j under : ℕ) (t u : Term) → nodeAt j (expressions p) ≡ some t → lowerTerm under t ≡ some u → (i : ℕ) (v : Term) → j ≤ i

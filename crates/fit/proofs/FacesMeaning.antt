@@ -23,6 +23,7 @@ use Rattle.meaning.specs.Field.{tagOf}
 use Rattle.meaning.specs.PlaceValue.{maskOf, masksOf}
 use Rattle.meaning.proofs.Lists.{never, choose-true, choose-false}
 use Rattle.meaning.proofs.Proper.{Proper, accepted-proper, one-place, applied-functions}
+use Rattle.meaning.proofs.OneWay.{faces-walk}
 use Rattle.meaning.proofs.ShiftLaws.{shift-closed}
 use Rattle.meaning.proofs.ViewLaws.{nameless-closed}
 use Rattle.meaning.proofs.Slots.{faced-applied}
@@ -115,7 +116,7 @@ module _ (p : Problem) (ns : List ℕ) (s : ℕ) (firsts : Firsts) (l : Laid p (
       let slots = recorded .slots ∙ ap (λ (z : Slot). some (slot z, x .children)) e in
       let a = pattern-node p (l .accepted .within) (patternNode n) (slot (function f k), x .children) slots in
       let (few, single) = slot-fits ps (patternNode n) (function f k) (x .children) a in
-      let isApplied : f ∈ applied (patterns p) = faced-applied p proper (l .found) (l .agree) f k x m e in
+      let isApplied : f ∈ applied (patterns p) = faced-applied p proper (l .found) (faces-walk p (l .found) (l .agree)) f k x m e in
       let isFunction : f ∈ functions p = applied-functions p proper f isApplied in
       let number : payloadIn (at ps (patternNode n)) ≡ f = node-payload ps (patternNode n) (function f k) (x .children) a in
       record {

@@ -17,6 +17,7 @@ use Rattle.meaning.specs.Candidate.{solves}
 use Rattle.meaning.specs.PlaceValue.{masksOf}
 use Rattle.meaning.proofs.Lists.{never, all-mem, mem-all, is-some}
 use Rattle.meaning.proofs.Proper.{accepted-proper, applied-functions}
+use Rattle.meaning.proofs.OneWay.{faces-walk}
 use Rattle.meaning.proofs.Slots.{faced-applied}
 use Rattle.tokens.specs.Token.{patternTokens, expressionTokens}
 use Rattle.tokens.specs.Key.{at}
@@ -95,7 +96,8 @@ module _ (p : Problem) (ns : List ℕ) (s : ℕ) (firsts : Firsts) (l : Laid p (
       suits y m (hole k) e = tt
       suits y m (function f k) e =
           let proper = accepted-proper p (l .accepted) in
-          x .alone f (applied-functions p proper f (faced-applied p proper (l .found) (l .agree) f k y m e)) .suits (y .term)
+          let walk = faces-walk p (l .found) (l .agree) in
+          x .alone f (applied-functions p proper f (faced-applied p proper (l .found) walk f k y m e)) .suits (y .term)
           (by-faced p (l .found) (l .agree) f y k m e)
 
   solved : isSome answer ≡ solves p r

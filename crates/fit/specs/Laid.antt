@@ -1,5 +1,5 @@
 -- What the test of a row is told.
---   Laid    these tables, recorded faces, functions and first faces are those of an accepted problem whose shapes agree
+--   Laid    these tables, recorded faces, functions and first faces are those of an accepted problem that has rows
 --   RowOf   these masks are those of one of its rows
 use mathlib.Core.Path.{_≡_}
 use Prim.Native.Nat.{ℕ}

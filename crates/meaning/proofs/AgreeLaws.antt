@@ -1,6 +1,6 @@
 -- The walk answers exactly where pattern and expression agree. (`lockstep` alone would also hold of a walk that answers none whenever
 -- nothing can satisfy all faces.)
-use mathlib.Core.Path.{_≡_, refl, subst}
+use mathlib.Core.Path.{_≡_, refl, ap, sym, _∙_, subst}
 use mathlib.Core.Logic.{_↔_}
 use Prim.Native.Nat.{ℕ, suc, _+_}
 use mathlib.Core.Bool.{Bool, true, false, false≢true}
@@ -10,11 +10,12 @@ use lib.Dec.{T}
 use Rattle.meaning.specs.Basics.{isSome, join, guard}
 use Rattle.meaning.specs.Term.{nil, cons, size, Own, symbol, variable, application, binder, own, slot, Variable, free, bound}
 use Rattle.meaning.specs.Term.{Nameless, Terms, Term, inner}
-use Rattle.meaning.specs.Problem.{Problem, patterns, expressions}
+use Rattle.meaning.specs.Problem.{Problem, bothWays, patterns, expressions}
 use Rattle.meaning.specs.Face.{Face, agrees, meet, walk, faces}
 use Rattle.meaning.specs.Agree.{SameNode, symbols, freeVariables, boundVariables, applications, binders, Agree, ends, nodes, isMet}
 use Rattle.meaning.specs.Rows.{rowsOver, rows}
 use Rattle.meaning.proofs.Lockstep.{agrees-eq, agrees-self}
+use Rattle.meaning.proofs.OneWay.{faces-one-way, no-faces, walk-faces}
 
 -- Answers: both, or a guarded one
 some-join : {A : Type 0} (x y : Option (List A)) → isSome x ≡ true → isSome y ≡ true → isSome (join x y) ≡ true
@@ -83,14 +84,23 @@ agree-then-walk k n u v (isMet {z} {l} {c} {c′} {s} {s′} a) =
 pub walk-agree : (k n : ℕ) (u v : Terms) → (isSome (walk k n u v) ≡ true) ↔ Agree u v
 walk-agree k n u v = (walk-then-agree k n u v, agree-then-walk k n u v)
 
-pub faces-agree : (p : Problem) → (isSome (faces p) ≡ true) ↔ Agree (patterns p) (expressions p)
-faces-agree p = walk-agree 0 0 (patterns p) (expressions p)
+pub faces-agree : (p : Problem) → (isSome (faces p) ≡ true) ↔ ((bothWays p ≡ false) × Agree (patterns p) (expressions p))
+faces-agree p =
+    let w = walk-agree 0 0 (patterns p) (expressions p) in (
+      λ e. let b = faces-one-way p e in (b, w .0 (ap isSome (sym (walk-faces p b)) ∙ e)),
+      λ h. ap isSome (walk-faces p (h .0)) ∙ w .1 (h .1),
+    )
 
 -- "If they disagree anywhere, the problem has no rows"
 pub disagree-no-rows : (p : Problem) → ¬ Agree (patterns p) (expressions p) → rows p ≡ []
 unfolding rows
-disagree-no-rows p d = go (faces p) (λ e. d (faces-agree p .0 e))
+disagree-no-rows p d = go (faces p) (λ e. d (faces-agree p .0 e .1))
   where
     go : (w : Option (List Face)) → ¬ (isSome w ≡ true) → rowsOver p w ≡ []
     go none h = refl
     go (some xs) h = absurd (h refl)
+
+-- T-09: "no solutions .. and so no rows"
+pub both-ways-no-rows : (p : Problem) → bothWays p ≡ true → rows p ≡ []
+unfolding rows
+both-ways-no-rows p e = ap (rowsOver p) (no-faces p e)

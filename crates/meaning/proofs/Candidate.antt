@@ -13,15 +13,16 @@ use Rattle.meaning.specs.Basics.{choose, each, _∈_, orNone}
 use Rattle.meaning.specs.Term.{one, trees, Slot, metavariable, function, hole, Terms, Term, IsExpression}
 use Rattle.meaning.specs.Shift.{ClosedTerm}
 use Rattle.meaning.specs.Problem.{Problem, patterns, expressions, plain, applied, placesOf, Where, alone, argumentOf, Standing}
-use Rattle.meaning.specs.Problem.{inArguments, standings, isFunction, isPlain}
+use Rattle.meaning.specs.Problem.{bothWays, inArguments, standings, isFunction, isPlain}
 use Rattle.meaning.specs.Filling.{fill, argument, Entry, absent, value, body, Filling, bodyOr, fillHandler, filled, IsBody}
 use Rattle.meaning.specs.Solution.{hasHole, needs, Idle, Solution}
-use Rattle.meaning.specs.Face.{Face}
+use Rattle.meaning.specs.Face.{Face, faces}
 use Rattle.meaning.specs.Row.{Row, rowBody, HasBodies}
 use Rattle.meaning.specs.Value.{Source, sourceOf, fromApplication, sourcesIn, sources, lookup}
 use Rattle.meaning.specs.Candidate.{given, candidate}
 use Rattle.meaning.proofs.Lists.{never, by-test, choose-true, choose-false, eqb-eq, eqb-self, mem-each, each-mem, isIn-mem, mem-isIn}
 use Rattle.meaning.proofs.Lists.{not-isIn}
+use Rattle.meaning.proofs.OneWay.{walk-faces}
 use Rattle.meaning.proofs.Proper.{IsArgument, Proper, applied-functions}
 use Rattle.meaning.proofs.Slots.{slots, standingAt, slot-face, slot-standing, standing-slot, in-arguments, arguments-in, faced-slot}
 use Rattle.meaning.proofs.Slots.{faced-expression, faced-shape, faced-applied}
@@ -30,6 +31,7 @@ use Rattle.meaning.proofs.Sources.{face-source}
 
 pub record Fitting (p : Problem) (σ : Filling) (b : ℕ → Term) : Type 0 where
   pub proper : Proper p
+  pub oneWay : bothWays p ≡ false
   pub meets : filled σ (patterns p) ≡ expressions p
   pub agree : (f : ℕ) → f ∈ applied (patterns p) → σ f ≡ body (b f)
   pub shapes : (f : ℕ) → f ∈ applied (patterns p) → IsBody (placesOf p f) (one (b f))
@@ -45,6 +47,9 @@ pub record Right (p : Problem) (σ : Filling) (s : Source) : Type 0 where
 module _ (p : Problem) (σ : Filling) (b : ℕ → Term) (fit : Fitting p σ b) where
   pub theWalk : Walked (fillHandler σ) 0 0 (patterns p) (expressions p)
   theWalk = walked (fillHandler σ) 0 0 (patterns p) (expressions p) (fit .meets)
+
+  pub faces-found : faces p ≡ some (theWalk .found)
+  faces-found = walk-faces p (fit .oneWay) ∙ theWalk .defined
 
   pub faced : (x : Face) → x ∈ theWalk .found → IsExpression (one (x .term))
   faced = faced-expression p (fit .proper) (theWalk .found) (theWalk .defined)
@@ -194,7 +199,7 @@ module _ (p : Problem) (r : Row) where
 
   sources-found : (σ : Filling) (fit : Fitting p σ (rowBody p r))
       → sources p r ≡ sourcesIn (rowBody p r) (theWalk p σ (rowBody p r) fit .found)
-  sources-found σ fit = ap (λ (o : Option (List Face)). sourcesIn (rowBody p r) (orNone o)) (theWalk p σ (rowBody p r) fit .defined)
+  sources-found σ fit = ap (λ (o : Option (List Face)). sourcesIn (rowBody p r) (orNone o)) (faces-found p σ (rowBody p r) fit)
 
   pub fitting-source : (σ : Filling) → Fitting p σ (rowBody p r) → (m : ℕ) (s : Source) → lookup m (sources p r) ≡ some s
       → Right p σ s × (s .number ≡ m)
@@ -214,6 +219,7 @@ module _ (p : Problem) (r : Row) where
   pub solution-fitting : (σ : Filling) → Proper p → Solution p σ → HasBodies p r σ → Fitting p σ (rowBody p r)
   solution-fitting σ c s h = record {
     proper = c;
+    oneWay = s .oneWay;
     meets = s .meets;
     agree = λ f a. h f (applied-functions p c f a);
     shapes = λ f a. shape f a (s .bodies f a);

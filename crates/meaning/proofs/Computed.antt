@@ -5,7 +5,8 @@
 use mathlib.Core.List.{List, map}
 use Rattle.meaning.specs.Limits.{maxInput, maxConstraints, maxDepth, firstWide, metavariableCount, maxFunctions}
 use Rattle.meaning.specs.Limits.{maxFaceNodes, maxText}
-use Rattle.meaning.specs.Problem.{Problem, placesOf, functions, metavariables}
+use Rattle.meaning.specs.Problem.{Problem, bothWays, placesOf, functions, metavariables}
+use Rattle.meaning.specs.Face.{faces}
 use Rattle.meaning.specs.Row.{Row, rowBody}
 use Rattle.meaning.specs.Rows.{rows}
 use Rattle.meaning.specs.Candidate.{candidate, solves, solutionRows}
@@ -13,16 +14,16 @@ use Rattle.meaning.specs.Basics.{Bytes}
 use Rattle.meaning.specs.Field.{word, field, symbolBytes, encode}
 use Rattle.meaning.specs.Read.{Answer, metavariableIn, functionIn, holeIn, kindOf, partsOf, headOf, contentOf, readExactly, readAll}
 use Rattle.meaning.specs.Read.{contextBelow, readTerm, readPair, constraintHead, readConstraints, readProblem}
-use Rattle.meaning.specs.Accept.{bothWays, overlarge, checkProblem, accept}
+use Rattle.meaning.specs.Accept.{overlarge, checkProblem, accept}
 use Rattle.meaning.specs.Text.{Item, entryOf, textOf, readNumbered, readOpen, readItem, readItems, readText}
 use Rattle.meaning.specs.Encoded.{encodeText}
 
 unfoldable pub accepts : Bytes → Answer Problem
-unfolding maxInput maxConstraints maxDepth firstWide metavariableCount maxFunctions maxFaceNodes word field metavariableIn functionIn holeIn kindOf partsOf headOf contentOf readExactly readAll contextBelow readTerm readPair constraintHead readConstraints readProblem placesOf functions bothWays overlarge checkProblem accept
+unfolding maxInput maxConstraints maxDepth firstWide metavariableCount maxFunctions maxFaceNodes word field metavariableIn functionIn holeIn kindOf partsOf headOf contentOf readExactly readAll contextBelow readTerm readPair constraintHead readConstraints readProblem placesOf functions bothWays faces overlarge checkProblem accept
 accepts s = accept s
 
 unfoldable pub texts : Problem → List Bytes
-unfolding firstWide metavariableCount placesOf functions metavariables rows rowBody candidate solves solutionRows entryOf textOf word field symbolBytes encode encodeText
+unfolding firstWide metavariableCount placesOf functions bothWays faces metavariables rows rowBody candidate solves solutionRows entryOf textOf word field symbolBytes encode encodeText
 texts p = map (λ (r : Row). encodeText (textOf p r)) (solutionRows p)
 
 unfoldable pub reads : Bytes → Answer (List Item)

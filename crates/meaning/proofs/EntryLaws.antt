@@ -27,7 +27,7 @@ use Rattle.meaning.proofs.ProblemReading.{accept-accepted}
 use Rattle.meaning.proofs.SecondDemand.{text-read-back, text-passes, Written, solution-written}
 use Rattle.meaning.proofs.PassLaws.{passes-is-right}
 
-check-read : (s text : Bytes) (p : Problem) (is : List Item) → accept s ≡ got p → readText text ≡ got is
+pub check-read : (s text : Bytes) (p : Problem) (is : List Item) → accept s ≡ got p → readText text ≡ got is
     → checkCall s text ≡ got (passes p is)
 unfolding checkCall
 check-read s text p is a r = rw (a, r)

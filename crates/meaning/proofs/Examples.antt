@@ -15,7 +15,7 @@ use Rattle.meaning.specs.Accept.{accept}
 use Rattle.meaning.specs.Text.{textOf, readText}
 use Rattle.meaning.specs.Encoded.{encodeText}
 use Rattle.meaning.specs.Case.{Case, further}
-use Rattle.meaning.specs.Starred.{Starred, starred, widths}
+use Rattle.meaning.specs.Starred.{Starred, bothWaysExample, starred, widths}
 use Rattle.meaning.proofs.Computed.{accepts, texts, reads}
 
 -- A problem has so many rows, and the texts of its solution rows, in row order, are those of the case
@@ -58,6 +58,11 @@ starred-hold = (
 pub widths-hold : HoldsInBytes widths
 unfolding accepts texts reads
 widths-hold = (refl, (refl, refl), refl, refl)
+
+-- T-09: (P(P), a) is accepted, and fits nothing. That all such problems fit nothing is `fits-nothing`
+pub both-ways-hold : HoldsInBytes bothWaysExample
+unfolding accepts texts reads
+both-ways-hold = (refl, (refl, refl), refl, refl)
 
 pub further-hold : All Holds further
 unfolding texts

@@ -22,6 +22,7 @@ pub mod Punching
 pub mod Apart
 pub mod BodyChoice
 pub mod Lockstep
+pub mod OneWay
 pub mod AgreeLaws
 pub mod Constraints
 pub mod Proper
@@ -49,6 +50,7 @@ pub mod OneCall
 pub mod CallLaws
 pub mod WriteLaws
 pub mod EntryLaws
+pub mod FitsNothing
 -- Examples
 pub mod Computed
 pub mod Examples

@@ -28,6 +28,7 @@ use Rattle.meaning.specs.Row.{Row, rowBody}
 use Rattle.meaning.specs.Face.{Face, agrees, walk, faces}
 use Rattle.meaning.specs.Value.{Source, sourceAt, sourceOf, lowestHole, fromHole, fromApplication, sourcesIn, sources}
 use Rattle.meaning.proofs.Lists.{never, choose-true, choose-false, true-T, each-mem}
+use Rattle.meaning.proofs.OneWay.{faces-walk}
 use Rattle.meaning.proofs.ShiftLaws.{pair-eq, ltb-yes, ltb-no, relabel-size, shift-closed, shift-lower-term}
 use Rattle.meaning.proofs.Sources.{source-at, lowest-is}
 use Rattle.meaning.proofs.Renaming.{cons-eq, one-injective}
@@ -339,7 +340,7 @@ walk-node k n p e xs q x m =
 
 pub face-node : (p : Problem) (xs : List Face) → faces p ≡ some xs → (x : Face) → x ∈ xs → nodeAt (x .node) (expressions p) ≡ some (x .term)
 face-node p xs q x m =
-    let r = walk-node 0 0 (patterns p) (expressions p) xs q x m in
+    let r = walk-node 0 0 (patterns p) (expressions p) xs (faces-walk p xs q) x m in
     let j : x .node - 0 ≡ x .node = omega arith in
     rw j at (r .1)
 
@@ -351,7 +352,7 @@ source-node p r s q d = go (faces p) refl q
     go : (o : Option (List Face)) → faces p ≡ o → s ∈ sourcesIn (rowBody p r) (orNone o) → nodeAt (s .node) (expressions p) ≡ some (s .term)
     go none e m = absurd (List·Memᴰ·not-nil m)
     go (some xs) e m =
-        let w = sources-within (rowBody p r) (expressions p) xs (face-within 0 0 (patterns p) (expressions p) xs e) s m d in
+        let w = sources-within (rowBody p r) (expressions p) xs (face-within 0 0 (patterns p) (expressions p) xs (faces-walk p xs e)) s m d in
         let n : s .node ≡ 0 + w .0 = w .1 in
         let f : s .node ≡ w .0 = omega arith in
         rw f (stands-node (w .2))

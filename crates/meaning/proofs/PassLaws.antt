@@ -5,7 +5,7 @@ use Prim.Native.Nat.{ℕ}
 use mathlib.Core.Bool.{Bool, true, false, _&&_, _||_, not, false≢true}
 use mathlib.Core.List.{List, [], _∷_, map, List·Memᴰ·head, List·Memᴰ·tail, List·Memᴰ·cases-cons, List·Memᴰ·not-nil}
 use lib.Dec.{T, eqb}
-use borrow.Author.Tests.{ltb-true, lt-ltb, not-false}
+use borrow.Author.Tests.{ltb-true, lt-ltb, not-false, not-true}
 use native.Mathlib.Omega.{arith}
 use Rattle.meaning.specs.Basics.{every, isIn, _∈_, Distinct}
 use Rattle.meaning.specs.Term.{nil, cons, one, own, slot, metavariable, function, hole, NamedTerm, Nameless, Terms, Term}
@@ -13,7 +13,8 @@ use Rattle.meaning.specs.Term.{IsExpression}
 use Rattle.meaning.specs.Shift.{ClosedTerm}
 use Rattle.meaning.specs.ClosedTest.{isClosed}
 use Rattle.meaning.specs.Same.{sameTerms}
-use Rattle.meaning.specs.Problem.{Problem, patterns, expressions, plain, applied, placesOf, isFunction, isPlain, Standing, standings}
+use Rattle.meaning.specs.Problem.{Problem, bothWays, patterns, expressions, plain, applied, placesOf, isFunction, isPlain, Standing}
+use Rattle.meaning.specs.Problem.{standings}
 use Rattle.meaning.specs.Filling.{Entry, absent, leftOpen, value, body, Filling, filled, bodyLabel, IsBody}
 use Rattle.meaning.specs.Solution.{needs, Idle, Solution}
 use Rattle.meaning.specs.Text.{Item, meant, said, Passes}
@@ -228,7 +229,8 @@ module _ (p : Problem) (is : List Item) where
   test-passes : passes p is ≡ true → Passes p is
   unfolding passes
   test-passes e =
-      let a = and-T (once is) _ (true-T e) in
+      let o = and-T (not (bothWays p)) _ (true-T e) in
+      let a = and-T (once is) _ (o .1) in
       let b = and-T (known p is) _ (a .1) in
       let c = and-T (kinds p σ) _ (b .1) in
       let d = and-T (openUnneeded p σ) _ (c .1) in
@@ -238,6 +240,7 @@ module _ (p : Problem) (is : List Item) where
         filling = σ;
         says = record { once = once-distinct (map (λ (i : Item). i .0) is) (a .0); names = λ m. refl };
         solution = record {
+          oneWay = not-true (bothWays p) (T-true (o .0));
           meets = sameTerms-eq (filled σ (patterns p)) (expressions p) (f .1);
           bodies = λ g q. entry-body (placesOf p g) (σ g)
               (every-mem (λ h. isBodyEntry (placesOf p h) (σ h)) (applied (patterns p)) (k .0) g q);
@@ -258,7 +261,8 @@ module _ (p : Problem) (is : List Item) where
   solution-test : Distinct (map (λ (i : Item). i .0) is) → Solution p σ → passes p is ≡ true
   unfolding passes
   solution-test d s =
-      T-true (T-and (once is) _ (distinct-once (map (λ (i : Item). i .0) is) d)
+      T-true (T-and (not (bothWays p)) _ (true-T (ap not (s .oneWay)))
+      (T-and (once is) _ (distinct-once (map (λ (i : Item). i .0) is) d)
       (T-and (known p is) _ (mem-every knownItem is (others-known p is d (s .others)))
       (T-and (kinds p σ) _
       (T-and (every (λ g. isBodyEntry (placesOf p g) (σ g)) (applied (patterns p))) _
@@ -274,7 +278,7 @@ module _ (p : Problem) (is : List Item) where
       (or-right (isOpen (σ m)) (isNeeded σ (standings (patterns p)) m))
       (λ n. or-left (isOpen (σ m)) (isNeeded σ (standings (patterns p)) m)
       (ap isOpen (s .idleOpen m q (unneeded-idle p σ m n))))))
-      (subst (λ (u : Terms). T (sameTerms u (expressions p))) (sym (s .meets)) (sameTerms-refl (expressions p))))))))
+      (subst (λ (u : Terms). T (sameTerms u (expressions p))) (sym (s .meets)) (sameTerms-refl (expressions p)))))))))
 
   pub passes-is-right : (passes p is ≡ true) ↔ Passes p is
   passes-is-right =

@@ -21,7 +21,7 @@ use Rattle.meaning.specs.Face.{faces}
 use Rattle.meaning.specs.Choice.{Marks, Choice}
 use Rattle.meaning.specs.Row.{Row, faceOf, IsRow, ChoiceEach}
 use Rattle.meaning.specs.Rows.{rows}
-use Rattle.meaning.specs.Accept.{bothWays, overlarge, checkProblem}
+use Rattle.meaning.specs.Accept.{overlarge, checkProblem}
 use Rattle.meaning.specs.Readable.{Accepted}
 use Rattle.meaning.specs.Search.{Place, at, past, From}
 use Rattle.meaning.specs.PlaceValue.{maskOf, PlaceValue, masksOf, placeValue, IsPlace, Names}
@@ -34,15 +34,13 @@ use Rattle.meaning.proofs.ChoiceLaws.{rows-are}
 pub few-functions : (p : Problem) → Accepted p → length (functions p) ≤ maxFunctions
 unfolding checkProblem
 few-functions p a =
-    let ways = unless-got (bothWays p) 12 _ (a .checked) .1 in
-    ltb-false maxFunctions (length (functions p)) (unless-got (ltb maxFunctions (length (functions p))) 13 _ ways .0)
+    ltb-false maxFunctions (length (functions p)) (unless-got (ltb maxFunctions (length (functions p))) 13 _ (a .checked) .0)
 
 pub small-faces : (p : Problem) → Accepted p → isSome (faces p) ≡ true
     → (f : ℕ) → f ∈ functions p → size (one (faceOf p f)) ≤ maxFaceNodes
 unfolding checkProblem overlarge
 small-faces p a agree f m =
-    let ways = unless-got (bothWays p) 12 _ (a .checked) .1 in
-    let few = unless-got (ltb maxFunctions (length (functions p))) 13 _ ways .1 in
+    let few = unless-got (ltb maxFunctions (length (functions p))) 13 _ (a .checked) .1 in
     let fits : ℕ → Bool = λ g. not (ltb maxFaceNodes (size (one (faceOf p g)))) in
     let e : not (every fits (functions p)) ≡ false =
     ap (λ (b : Bool). b && not (every fits (functions p))) (sym agree) ∙ unless-got (overlarge p) 14 _ few .0 in

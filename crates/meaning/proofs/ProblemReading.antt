@@ -16,7 +16,7 @@ use Rattle.meaning.specs.Problem.{Constraint, Problem, functions}
 use Rattle.meaning.specs.Field.{field, encode, encodeConstraint, encodeProblem}
 use Rattle.meaning.specs.Read.{got, inPattern, inExpression, Parts, partsOf, readTerm, readPair, constraintHead, readConstraints}
 use Rattle.meaning.specs.Read.{readProblem}
-use Rattle.meaning.specs.Accept.{bothWays, overlarge, checkProblem, accept}
+use Rattle.meaning.specs.Accept.{overlarge, checkProblem, accept}
 use Rattle.meaning.specs.Readable.{ReadableConstraint, WithinLimits, Accepted}
 use Rattle.meaning.proofs.Lists.{append-all, all-append}
 use Rattle.meaning.proofs.ByteLaws.{Byte, got-is, refused-not, by-got, unless-got, when-got, by-choice, none-left, parts-field}
@@ -151,8 +151,7 @@ constraints-bytes (c ∷ p) r h =
 checked-same : (q p : Problem) → checkProblem q ≡ got p → q ≡ p
 unfolding checkProblem
 checked-same q p e =
-    let ways = unless-got (bothWays q) 12 _ e .1 in
-    let few = unless-got (ltb maxFunctions (length (functions q))) 13 _ ways .1 in
+    let few = unless-got (ltb maxFunctions (length (functions q))) 13 _ e .1 in
     got-is (unless-got (overlarge q) 14 _ few .1)
 
 -- The main theorems. A problem that is read encodes to exactly the bytes read, and is within the limits

@@ -1,6 +1,6 @@
 -- What an accepted problem is like: the facts that the theorems on solutions use.
 --   IsPattern    an application has as many arguments as its label says, and there is none inside an argument
---   Proper       expressions are expressions, patterns are patterns, and no metavariable is used both ways
+--   Proper       expressions are expressions, patterns are patterns, and metavariables have numbers that a byte's field allows
 use mathlib.Core.Path.{_≡_, refl, ap, ap₂, sym, _∙_, subst}
 use mathlib.Core.Logic.{_⊎_, inl, inr, ⊎-elim}
 use Prim.Native.Nat.{ℕ, zero, suc, _<_}
@@ -18,7 +18,6 @@ use Rattle.meaning.specs.Scope.{enter, namelessLabel, nameless}
 use Rattle.meaning.specs.Problem.{Constraint, Problem, forestOf, patterns, expressions, plain, applications, applied, placesAmong}
 use Rattle.meaning.specs.Problem.{placesOf, isFunction, isPlain, functions, metavariables, namedPatterns, namedExpressions}
 use Rattle.meaning.specs.Read.{Answer, refused, got, Context, inPattern, inArgument, inExpression, inBody, contextBelow}
-use Rattle.meaning.specs.Accept.{bothWays, overlarge, checkProblem}
 use Rattle.meaning.specs.Readable.{NodeFits, Readable, ReadableConstraint, Accepted, WithinLimits}
 use Rattle.meaning.proofs.Lists.{never, or-left, or-right, by-test, choose-true, eqb-eq, eqb-self, mem-map, map-mem, mem-keep}
 use Rattle.meaning.proofs.Lists.{keep-mem, isIn-mem, mem-isIn, mem-upTo, all-mem, every-all}
@@ -47,7 +46,6 @@ IsPattern (cons l c s) = patternLabel l c × IsPattern c × IsPattern s
 pub record Proper (p : Problem) : Type 0 where
   pub expression : IsExpression (expressions p)
   pub pattern : IsPattern (patterns p)
-  pub separate : (m : ℕ) → m ∈ applied (patterns p) → m ∈ plain (patterns p) → ⊥
   pub smallApplied : (m : ℕ) → m ∈ applied (patterns p) → m < metavariableCount
   pub smallPlain : (m : ℕ) → m ∈ plain (patterns p) → m < metavariableCount
 
@@ -185,31 +183,6 @@ expressions-readable p w =
     each-expression [] h = tt
     each-expression (c ∷ cs) h = (h .0 .1, each-expression cs (h .1))
 
--- 12 does not apply
-pub not-both-ways : (p : Problem) → checkProblem p ≡ got p → bothWays p ≡ false
-unfolding checkProblem
-not-both-ways p e =
-    by-test (bothWays p)
-    (λ h. never (cc (choose-true {A = Answer Problem} (refused 12)
-    (choose (ltb maxFunctions (length (functions p))) (refused 13) (choose (overlarge p) (refused 14) (got p))) h)))
-    (λ h. h)
-
-separated : (p : Problem) → bothWays p ≡ false → (m : ℕ) → m < metavariableCount → m ∈ applied (patterns p) → m ∈ plain (patterns p) → ⊥
-unfolding bothWays
-separated p e m small a b =
-    let ok : T (every (λ x. not (isFunction p x && isPlain p x)) (upTo metavariableCount)) =
-    not-not (every (λ x. not (isFunction p x && isPlain p x)) (upTo metavariableCount)) e in
-    let f : not (isFunction p m && isPlain p m) ≡ true =
-    all-mem (λ x. not (isFunction p x && isPlain p x) ≡ true) m (upTo metavariableCount)
-    (every-all (λ x. not (isFunction p x && isPlain p x)) (upTo metavariableCount) ok) (mem-upTo metavariableCount m small) in
-    let x : isFunction p m ≡ true = mem-isIn m (applied (patterns p)) a in
-    let y : isPlain p m ≡ true = mem-isIn m (plain (patterns p)) b in
-    false≢true (sym (ap₂ (λ (u v : Bool). not (u && v)) x y) ∙ f)
-  where
-    not-not : (b : Bool) → not b ≡ false → T b
-    not-not true q = tt
-    not-not false q = absurd (true≢false q)
-
 -- A function of a readable problem has an application that has a tag
 tagged-applied : (p : Problem) → WithinLimits p → (f : ℕ) → f ∈ applied (patterns p)
     → (n : ℕ) × ((f, n) ∈ applications (patterns p)) × Tagged (f, n)
@@ -227,7 +200,6 @@ accepted-proper p a =
     record {
       expression = readable-expression maxDepth [] (namedExpressions p) (expressions-readable p (a .within));
       pattern = readable-pattern maxDepth [] (namedPatterns p) ps;
-      separate = λ m x y. separated p (not-both-ways p (a .checked)) m (small m x) x y;
       smallApplied = small;
       smallPlain = readable-small maxDepth inPattern [] (namedPatterns p) ps .1;
     }

@@ -124,10 +124,9 @@ refusals =
     ∷ by 10 (field 7 (0x06 ∷ 0x00 ∷ 0x01 ∷ 0x20 ∷ []))
     -- a 17th constraint
     ∷ by 11 (sixteen ++ constraintField symbolField symbolField)
-    -- (P(P), a)
-    ∷ by 12 (withPattern (functionField 0 (metavariableField 0)))
-    -- nine functions
+    -- nine functions, also where one of them is used both ways
     ∷ by 13 (withPattern (field 3 (functionFields 9)))
+    ∷ by 13 (withPattern (field 3 (functionFields 9 ++ metavariableField 0)))
     -- a face of 65 nodes, also where (X, a), (X, b) leave no solution
     ∷ by 14 largeFace
     ∷ by 14 (largeFace ++ (constraintField (metavariableField 1) symbolField ++ constraintField (metavariableField 1) otherSymbol))
@@ -348,6 +347,17 @@ unfolding reads
 limits-read = (_, refl)
 
 -- "14 a face over 64 nodes", only "if shapes agree": (P(s), 65 nodes), (a, b) is accepted and has no rows
-pub large-disagreeing : (p : Problem) × (accept (largeFace ++ constraintField symbolField otherSymbol) ≡ got p) × (rows p ≡ [])
+abbrev pub IsRowless : Bytes → Type 0
+IsRowless s = (p : Problem) × (accept s ≡ got p) × (rows p ≡ [])
+
+pub large-disagreeing : IsRowless (largeFace ++ constraintField symbolField otherSymbol)
 unfolding accepts texts
 large-disagreeing = (_, refl, refl)
+
+-- T-09: "14 isn't looked for in it": (P(s), 65 nodes), (Q(Q), s) is accepted and has no rows, in either order of the two
+abbrev bothWaysConstraint : Bytes
+bothWaysConstraint = withPattern (functionField 1 (metavariableField 1))
+
+pub large-both-ways : IsRowless (largeFace ++ bothWaysConstraint) × IsRowless (bothWaysConstraint ++ largeFace)
+unfolding accepts texts
+large-both-ways = ((_, refl, refl), (_, refl, refl))

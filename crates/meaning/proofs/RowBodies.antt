@@ -22,6 +22,7 @@ use Rattle.meaning.specs.Row.{Row, faceTerm, faceOf, ChoiceEach, IsRow, 
 use Rattle.meaning.specs.Rows.{rows}
 use Rattle.meaning.proofs.Lists.{never, by-test, choose-true, choose-false, eqb-eq, eqb-self}
 use Rattle.meaning.proofs.Lists.{at-mem, keep-distinct, distinct-countFrom}
+use Rattle.meaning.proofs.OneWay.{faces-walk}
 use Rattle.meaning.proofs.Renaming.{one-injective}
 use Rattle.meaning.proofs.ChoiceLaws.{rows-are}
 use Rattle.meaning.proofs.Punching.{blank, holesOf, holes-length, punch-holes, fits-holes, clear-holes, punch-unique}
@@ -30,7 +31,7 @@ use Rattle.meaning.proofs.BodyChoice.{fits-choice}
 use Rattle.meaning.proofs.Proper.{Proper, functions-applied}
 use Rattle.meaning.proofs.Slots.{slot-face, applied-slot, faces-expression}
 use Rattle.meaning.proofs.Sources.{arguments, plugged}
-use Rattle.meaning.proofs.Candidate.{Fitting, theWalk, faced, shapeOf}
+use Rattle.meaning.proofs.Candidate.{Fitting, theWalk, faced, shapeOf, faces-found}
 
 -- The first application of a function
 pub application-is : (f : ℕ) (z : Slot) → isApplication f z ≡ true → (n : ℕ) × (z ≡ function f n)
@@ -88,7 +89,7 @@ module _ (p : Problem) (c : Proper p) (xs : List Face) (defined : faces p ≡ so
   pub face-of : (f : ℕ) → f ∈ applied (patterns p) → FaceOf p xs f
   face-of f a =
       let s = applied-slot (patterns p) (c .pattern) f a in
-      let x = slot-face 0 0 (patterns p) (expressions p) xs (function f (s .0)) (s .1) defined (s .2) in
+      let x = slot-face 0 0 (patterns p) (expressions p) xs (function f (s .0)) (s .1) (faces-walk p xs defined) (s .2) in
       let y = first-there f (s .0) xs (x .0) (x .1) (x .2) in
       record {
         face = y .0;
@@ -103,7 +104,7 @@ module _ (p : Problem) (c : Proper p) (xs : List Face) (defined : faces p ≡ so
   face-expression f a =
       let x = face-of f a in
       subst (λ (t : Term). IsExpression (one t)) (sym (x .isFirst))
-      (faces-expression 0 0 (patterns p) (expressions p) xs (c .expression) defined (x .face) (x .among))
+      (faces-expression 0 0 (patterns p) (expressions p) xs (c .expression) (faces-walk p xs defined) (x .face) (x .among))
 
 -- A body that fills to its function's face comes from a choice of it
 module _ (p : Problem) (σ : Filling) (b : ℕ → Term) (fit : Fitting p σ b) where
@@ -113,7 +114,7 @@ module _ (p : Problem) (σ : Filling) (b : ℕ → Term) (fit : Fitting p σ b) 
 
   pub body-chosen : (f : ℕ) → f ∈ applied (patterns p) → (ms : Marks) × Chosen f ms
   body-chosen f a =
-      let x = face-of p (fit .proper) (theWalk p σ b fit .found) (theWalk p σ b fit .defined) f a in
+      let x = face-of p (fit .proper) (theWalk p σ b fit .found) (faces-found p σ b fit) f a in
       let shape = shapeOf p σ b fit f (x .places) (x .face) (x .among) (x .applies) in
       let sat : Satisfied (fillHandler σ) (x .face) = theWalk p σ b fit .satisfied (x .face) (x .among) in
       let ex : IsExpression (one (x .face .term)) = faced p σ b fit (x .face) (x .among) in
@@ -206,6 +207,7 @@ solution-bodies p σ s f a = let x = s .bodies f a in x .1 ∙ ap (λ (e : Entry
 own-fitting : (p : Problem) (σ : Filling) → Proper p → Solution p σ → Fitting p σ (λ f. bodyOr f (σ f))
 own-fitting p σ c s = record {
   proper = c;
+  oneWay = s .oneWay;
   meets = s .meets;
   agree = solution-bodies p σ s;
   shapes = λ f a. let x = s .bodies f a in
@@ -217,7 +219,7 @@ row-exists p σ c s =
     let b : ℕ → Term = λ f. bodyOr f (σ f) in
     let fit : Fitting p σ b = own-fitting p σ c s in
     let r = row-of p (Chosen p σ b fit) (λ f ms x. x .choice) (functions p) (λ f q. body-chosen p σ b fit f (functions-applied p f q)) in
-    let agree = ap isSome (theWalk p σ b fit .defined) in (
+    let agree = ap isSome (faces-found p σ b fit) in (
       r .0,
       rows-are p (r .0) .1 (record { agree = agree; choice = r .1 }),
       λ f q. solution-bodies p σ s f (functions-applied p f q) ∙ ap body (sym (row-body p (r .0) f (b f) (r .2 f q .punched))),
@@ -242,7 +244,7 @@ row-only p σ c s r r′ i j h g =
         let eb : body (rowBody p r f) ≡ body (rowBody p r′ f) = sym (h f q) ∙ g f q in
         let e : rowBody p r f ≡ rowBody p r′ f = cc in
         punch-unique (choiceIn (functions p) r f) (choiceIn (functions p) r′ f) (one (faceOf p f))
-        (face-expression p c (theWalk p σ b (own-fitting p σ c s) .found) (theWalk p σ b (own-fitting p σ c s) .defined) f
+        (face-expression p c (theWalk p σ b (own-fitting p σ c s) .found) (faces-found p σ b (own-fitting p σ c s)) f
         (functions-applied p f q)) (x .long) (y .long)
         (choice-clear (placesOf p f) (faceOf p f) (choiceIn (functions p) r f) x)
         (choice-clear (placesOf p f) (faceOf p f) (choiceIn (functions p) r′ f) y)

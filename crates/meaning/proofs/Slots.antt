@@ -16,7 +16,7 @@ use Rattle.meaning.specs.Problem.{Problem, patterns, expressions, plain,
 use Rattle.meaning.specs.Problem.{inArguments, standings}
 use Rattle.meaning.specs.Filling.{argument, IsBody}
 use Rattle.meaning.specs.Solution.{hasHole}
-use Rattle.meaning.specs.Face.{Face, agrees, meet, walk, faces}
+use Rattle.meaning.specs.Face.{Face, agrees, meet, walk, walkOf}
 use Rattle.meaning.proofs.Lists.{never, eqb-eq, eqb-self, or-cases, or-left, or-right, each-append, mem-map, map-mem, mem-each}
 use Rattle.meaning.proofs.Lists.{each-mem}
 use Rattle.meaning.proofs.Proper.{IsArgument, IsPattern, Proper}
@@ -313,7 +313,7 @@ slot-hole (cons (slot (hole j)) c s) i d q =
     (λ x. or-right (eqb i j) (hasHole i c || hasHole i s) (or-right (hasHole i c) (hasHole i s) (slot-hole s i d x))) (slot-cases q)
 
 -- The faces of a proper problem
-module _ (p : Problem) (c : Proper p) (xs : List Face) (defined : faces p ≡ some xs) where
+module _ (p : Problem) (c : Proper p) (xs : List Face) (defined : walkOf p ≡ some xs) where
   pub faced-slot : (z : Slot) (x : Face) → x ∈ xs → x .what ≡ z → (z, x .children) ∈ slots (patterns p)
   faced-slot z x q e =
       subst (λ (y : Slot). _∈_ {A = Slot × Terms} (y, x .children) (slots (patterns p))) e

@@ -2,18 +2,19 @@
 use mathlib.Core.Path.{_≡_, refl, ap, sym, _∙_, subst, fun-ext}
 use mathlib.Core.Logic.{_⊎_, inl, inr, _↔_}
 use Prim.Native.Nat.{ℕ, _<_}
-use mathlib.Core.Bool.{true, false, true≢false, false≢true}
+use mathlib.Core.Bool.{true, false, _&&_, not, true≢false, false≢true}
 use mathlib.Core.List.{[], _∷_, map, List·Memᴰ·head, List·Memᴰ·tail}
 use mathlib.Core.Option.{none, some}
 use lib.Dec.{T}
 use lib.ListN.{drop}
+use borrow.Author.Tests.{not-true}
 use Rattle.meaning.specs.Basics.{keep, every, _∈_, Distinct}
 use Rattle.meaning.specs.Term.{nil, cons, one, size, own, slot, Terms, Term, IsExpression}
 use Rattle.meaning.specs.Shift.{ClosedTerm}
 use Rattle.meaning.specs.Same.{sameTerms}
 use Rattle.meaning.specs.Problem.{Where, standings, Problem, patterns, expressions, plain, applied, placesOf, isFunction, isPlain}
-use Rattle.meaning.specs.Problem.{functions, metavariables}
-use Rattle.meaning.specs.Filling.{leftOpen, value, body, Filling, filled, IsBody}
+use Rattle.meaning.specs.Problem.{bothWays, functions, metavariables}
+use Rattle.meaning.specs.Filling.{leftOpen, value, body, Filling, fillHandler, filled, IsBody}
 use Rattle.meaning.specs.Solution.{Idle, Solution}
 use Rattle.meaning.specs.Face.{faces}
 use Rattle.meaning.specs.Choice.{Marks, punch, Choice}
@@ -24,10 +25,12 @@ use Rattle.meaning.specs.Candidate.{given, candidate, isClosedEntry, sol
 use Rattle.meaning.specs.Readable.{Accepted}
 use Rattle.meaning.proofs.Lists.{never, T-true, true-T, and-T, T-and, by-test, mem-map, map-mem, mem-keep, keep-mem, isIn-mem}
 use Rattle.meaning.proofs.Lists.{mem-isIn, all-mem, mem-all, every-all, all-every}
+use Rattle.meaning.proofs.OneWay.{one-way-means, walk-faces}
 use Rattle.meaning.proofs.ShiftLaws.{test-closed, closed-test}
 use Rattle.meaning.proofs.Alike.{sameTerms-eq, sameTerms-refl}
 use Rattle.meaning.proofs.ChoiceLaws.{rows-are, rows-once}
 use Rattle.meaning.proofs.Proper.{Proper, accepted-proper, applied-functions, functions-applied, applied-occurs, plain-occurs}
+use Rattle.meaning.proofs.Sources.{Walked, walked}
 use Rattle.meaning.proofs.Candidate.{Fitting, candidate-function, candidate-plain, candidate-other, fitting-source, fitting-idle}
 use Rattle.meaning.proofs.Candidate.{lookup-cases, solution-candidate}
 use Rattle.meaning.proofs.Lists.{drop-mem, mem-at, is-some, keep-distinct}
@@ -62,14 +65,28 @@ row-body-shape p r c i f a =
 
 -- What the test of a row says
 module _ (p : Problem) (r : Row) (passes : solves p r ≡ true) where
+  parts : T (not (bothWays p))
+      × T (sameTerms (filled (candidate p r) (patterns p)) (expressions p) && every (λ m. isClosedEntry (candidate p r m)) (metavariables p))
+  unfolding solves
+  parts = and-T (not (bothWays p)) _ (true-T passes)
+
   tested : T (sameTerms (filled (candidate p r) (patterns p)) (expressions p))
       × T (every (λ m. isClosedEntry (candidate p r m)) (metavariables p))
-  unfolding solves
   tested = and-T (sameTerms (filled (candidate p r) (patterns p)) (expressions p))
-      (every (λ m. isClosedEntry (candidate p r m)) (metavariables p)) (true-T passes)
+      (every (λ m. isClosedEntry (candidate p r m)) (metavariables p)) (parts .1)
+
+  pub passes-one-way : bothWays p ≡ false
+  passes-one-way = not-true (bothWays p) (T-true (parts .0))
 
   pub passes-meets : filled (candidate p r) (patterns p) ≡ expressions p
   passes-meets = sameTerms-eq (filled (candidate p r) (patterns p)) (expressions p) (tested .0)
+
+  -- The walk of such a row
+  pub passes-walk : Walked (fillHandler (candidate p r)) 0 0 (patterns p) (expressions p)
+  passes-walk = walked (fillHandler (candidate p r)) 0 0 (patterns p) (expressions p) passes-meets
+
+  pub passes-faces : faces p ≡ some (passes-walk .found)
+  passes-faces = walk-faces p passes-one-way ∙ passes-walk .defined
 
   pub passes-closed : (m : ℕ) → m ∈ metavariables p → isClosedEntry (candidate p r m) ≡ true
   passes-closed m q =
@@ -77,21 +94,29 @@ module _ (p : Problem) (r : Row) (passes : solves p r ≡ true) where
       (every-all (λ k. isClosedEntry (candidate p r k)) (metavariables p) (tested .1)) q
 
   pub passes-fitting : Proper p → IsRow p r → Fitting p (candidate p r) (rowBody p r)
-  passes-fitting c i = record { proper = c; meets = passes-meets; agree = candidate-function p r; shapes = row-body-shape p r c i }
+  passes-fitting c i = record {
+    proper = c;
+    oneWay = passes-one-way;
+    meets = passes-meets;
+    agree = candidate-function p r;
+    shapes = row-body-shape p r c i;
+  }
 
-pub passes-from : (p : Problem) (r : Row) → filled (candidate p r) (patterns p) ≡ expressions p
+pub passes-from : (p : Problem) (r : Row) → bothWays p ≡ false → filled (candidate p r) (patterns p) ≡ expressions p
     → ((m : ℕ) → m ∈ metavariables p → isClosedEntry (candidate p r m) ≡ true) → solves p r ≡ true
 unfolding solves
-passes-from p r meets closed =
-    T-true (T-and (sameTerms (filled (candidate p r) (patterns p)) (expressions p))
+passes-from p r oneWay meets closed =
+    T-true (T-and (not (bothWays p)) _ (true-T (ap not oneWay))
+    (T-and (sameTerms (filled (candidate p r) (patterns p)) (expressions p))
     (every (λ m. isClosedEntry (candidate p r m)) (metavariables p))
     (subst (λ (u : Terms). T (sameTerms u (expressions p))) (sym meets) (sameTerms-refl (expressions p)))
     (all-every (λ m. isClosedEntry (candidate p r m)) (metavariables p)
-    (mem-all (λ m. isClosedEntry (candidate p r m) ≡ true) (metavariables p) closed)))
+    (mem-all (λ m. isClosedEntry (candidate p r m) ≡ true) (metavariables p) closed))))
 
 -- THE CANDIDATE OF A ROW THAT PASSES IS A SOLUTION
 pub candidate-solution : (p : Problem) (r : Row) → Proper p → IsRow p r → solves p r ≡ true → Solution p (candidate p r)
 candidate-solution p r c i e = record {
+  oneWay = passes-one-way p r e;
   meets = passes-meets p r e;
   bodies = λ f a. (rowBody p r f, candidate-function p r f a, row-body-shape p r c i f a, bodies-closed f a);
   values = λ m q. valued m q (lookup-cases m (sources p r));
@@ -104,7 +129,7 @@ candidate-solution p r c i e = record {
     fit = passes-fitting p r e c i
 
     unapplied : (m : ℕ) → m ∈ plain (patterns p) → m ∈ applied (patterns p) → ⊥
-    unapplied m q a = c .separate m a q
+    unapplied m q a = one-way-means p (c .smallApplied) .0 (passes-one-way p r e) m a q
 
     bodies-closed : (f : ℕ) → f ∈ applied (patterns p) → ClosedTerm (rowBody p r f)
     bodies-closed f a =
@@ -198,7 +223,7 @@ solves-is-right p r a i = (forth, back)
     back : SolutionRow p r → solves p r ≡ true
     back x =
         let s : Solution p (candidate p r) = subst (Solution p) (fun-ext (row-solution-unique p r (x .0) a (x .1) (x .2))) (x .1) in
-        passes-from p r (s .meets) (λ m q. solution-closed p (candidate p r) s m)
+        passes-from p r (s .oneWay) (s .meets) (λ m q. solution-closed p (candidate p r) s m)
 
 -- THE FULL LIST holds solutions only, with their rows
 pub listed-solution : (p : Problem) (r : Row) (σ : Filling) → Accepted p → (r, σ) ∈ fullList p

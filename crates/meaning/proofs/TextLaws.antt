@@ -32,10 +32,9 @@ use Rattle.meaning.proofs.Lists.{keep-mem, isIn-mem, mem-isIn, not-isIn
 use Rattle.meaning.proofs.ShiftLaws.{test-closed}
 use Rattle.meaning.proofs.ChoiceLaws.{rows-are}
 use Rattle.meaning.proofs.Proper.{Proper, accepted-proper, hole-tagged, applied-occurs, plain-occurs}
-use Rattle.meaning.proofs.Sources.{Walked, walked}
 use Rattle.meaning.proofs.Candidate.{lookup-is, candidate-function, candidate-plain, candidate-other}
 use Rattle.meaning.proofs.RowBodies.{punch-one, face-expression}
-use Rattle.meaning.proofs.Solutions.{passes-meets, passes-closed, passes-fitting}
+use Rattle.meaning.proofs.Solutions.{passes-walk, passes-faces, passes-closed, passes-fitting}
 use Rattle.meaning.proofs.Nodes.{Stands, here, below, beside, node-stands, face-node, source-node, named-node, scope-drop}
 use Rattle.meaning.proofs.Nodes.{punch-names}
 
@@ -100,10 +99,9 @@ module _ (p : Problem) (r : Row) (ok : Accepted p) (e : solves p r ≡ true) whe
       → (n : ℕ) × (entryOf p r m ≡ body (punchTerm (choiceIn (functions p) r m) (termAt p n))) × Copied p n (faceOf p m)
   unfolding entryOf
   written-body m a =
-      let w : Walked (fillHandler (candidate p r)) 0 0 (patterns p) (expressions p) =
-      walked (fillHandler (candidate p r)) 0 0 (patterns p) (expressions p) (passes-meets p r e) in
-      let y = function-face p proper (w .found) (w .defined) m a in
-      let c : Copied p (y .0 .node) (y .0 .term) = copied p (y .0 .node) (y .0 .term) (face-node p (w .found) (w .defined) (y .0) (y .2)) in
+      let xs = passes-walk p r e .found in
+      let y = function-face p proper xs (passes-faces p r e) m a in
+      let c : Copied p (y .0 .node) (y .0 .term) = copied p (y .0 .node) (y .0 .term) (face-node p xs (passes-faces p r e) (y .0) (y .2)) in
       let faced : faceOf p m ≡ y .0 .term = ap (λ (o : Option Face). faceTerm o m) (y .1) in (
         y .0 .node,
         choose-true (writtenBody p r m) (writtenValue p (lookup m (sources p r))) (mem-isIn m (applied (patterns p)) a)

@@ -39,7 +39,7 @@ use Rattle.meaning.proofs.Slots.{slots, face-slot, pattern-slot, slot-a
 use Rattle.meaning.proofs.Sources.{Walked, walked, lowest-is, arguments, plugged}
 use Rattle.meaning.proofs.Candidate.{lookup-is, candidate-function, candidate-plain}
 use Rattle.meaning.proofs.RowBodies.{FaceOf, face-of, face-expression, body-row}
-use Rattle.meaning.proofs.Solutions.{passes-meets}
+use Rattle.meaning.proofs.Solutions.{passes-walk, passes-faces}
 use Rattle.meaning.proofs.TextLaws.{metavariables-once, by-kind, text-entry}
 use Rattle.meaning.proofs.Sums.{total, total-append, total-each, total-map, total-add, total-same, total-most, length-each}
 use Rattle.meaning.proofs.Sums.{length-upTo, Charge, amount, charged-once}
@@ -195,14 +195,14 @@ module _ (p : Problem) (r : Row) (ok : Accepted p) (e : solves p r ≡ true) whe
   proper : Proper p
   proper = accepted-proper p ok
 
-  theFaces : Walked (fillHandler (candidate p r)) 0 0 (patterns p) (expressions p)
-  theFaces = walked (fillHandler (candidate p r)) 0 0 (patterns p) (expressions p) (passes-meets p r e)
+  abbrev theFaces : Walked (fillHandler (candidate p r)) 0 0 (patterns p) (expressions p)
+  theFaces = passes-walk p r e
 
   -- The slots of a row's body
   body-slots : (f : ℕ) → f ∈ applied (patterns p) → (z : Slot) (c : Terms) → (z, c) ∈ slots (one (bodies f)) → weight (one (slot z, c)) ≡ 3
   body-slots f a z c q =
       let ms : Marks = choiceIn (functions p) r f in
-      punched-slots ms (one (faceOf p f)) (face-expression p proper (theFaces .found) (theFaces .defined) f a) z c
+      punched-slots ms (one (faceOf p f)) (face-expression p proper (theFaces .found) (passes-faces p r e) f a) z c
       (subst (λ (u : Terms). _∈_ {A = Slot × Terms} (z, c) (slots u)) (body-row p r f) q)
 
   function-most : (x : Face) → x ∈ theFaces .found → (f n : ℕ) → x .what ≡ function f n
@@ -261,7 +261,7 @@ module _ (p : Problem) (r : Row) (ok : Accepted p) (e : solves p r ≡ true) whe
       asFunction : m ∈ applied (patterns p)
           → (entryWeight (candidate p r m) ≡ 0) ⊎ ((m, entryWeight (candidate p r m)) ∈ each (charges bodies) (theFaces .found))
       asFunction a =
-          let x : FaceOf p (theFaces .found) m = face-of p proper (theFaces .found) (theFaces .defined) m a in
+          let x : FaceOf p (theFaces .found) m = face-of p proper (theFaces .found) (passes-faces p r e) m a in
           let i : (m, weight (one (bodies m))) ∈ charges bodies (x .face) =
           subst (λ (z : Slot). (m, weight (one (bodies m))) ∈ chargesAt bodies (x .face) z) (sym (x .applies)) (List·Memᴰ·head refl) in
           inr (subst (λ (y : Entry Term). (m, entryWeight y) ∈ each (charges bodies) (theFaces .found)) (sym (candidate-function p r m a))
@@ -273,7 +273,7 @@ module _ (p : Problem) (r : Row) (ok : Accepted p) (e : solves p r ≡ true) whe
       found (some s) q =
           let l = lookup-is m (sources p r) s q in
           let i : s ∈ sourcesIn bodies (theFaces .found) =
-          subst (λ (o : Option (List Face)). s ∈ sourcesIn bodies (orNone o)) (theFaces .defined) (l .0) in
+          subst (λ (o : Option (List Face)). s ∈ sourcesIn bodies (orNone o)) (passes-faces p r e) (l .0) in
           inr (subst (λ (k : ℕ). (k, given-weight s) ∈ each (charges bodies) (theFaces .found)) (l .1)
           (source-charged bodies (theFaces .found) s i))
 

@@ -66,7 +66,7 @@ module _ (s : Bytes) (v : PlaceValue) (buffer : Bytes) where
     moved : {q : Problem} {r : Row} → accept s ≡ got q → Names q v (at r) → Names p v (at r)
     moved {r = r} f m = subst (λ (y : Problem). Names y v (at r)) (got-is (sym f ∙ e)) m
 
-    when-nowhere : {a : Answer ℕ} {after : Bytes} → ((r : Row) → Names p v (at r) → ⊥)
+    pub when-nowhere : {a : Answer ℕ} {after : Bytes} → ((r : Row) → Names p v (at r) → ⊥)
         → WriteCall s v buffer a after → (a ≡ refused 16) × (after ≡ buffer)
     when-nowhere none (notAccepted q f) = absurd (refused-not (sym f ∙ e))
     when-nowhere none (noSuchRow q f h) = (refl, refl)

@@ -3,29 +3,24 @@
 use mathlib.Core.Bool.{Bool, _&&_, not}
 use lib.ListN.{length}
 use lib.Dec.{ltb}
-use Rattle.meaning.specs.Limits.{maxFaceNodes, maxFunctions, metavariableCount}
-use Rattle.meaning.specs.Basics.{Bytes, choose, every, isSome, upTo}
+use Rattle.meaning.specs.Limits.{maxFaceNodes, maxFunctions}
+use Rattle.meaning.specs.Basics.{Bytes, choose, every, isSome}
 use Rattle.meaning.specs.Term.{one, size}
-use Rattle.meaning.specs.Problem.{Problem, functions, isFunction, isPlain}
+use Rattle.meaning.specs.Problem.{Problem, functions}
 use Rattle.meaning.specs.Read.{Answer, after, got, readProblem, refused}
 use Rattle.meaning.specs.Face.{faces}
 use Rattle.meaning.specs.Row.{faceOf}
 
--- "12 a metavariable both as function and not"
-unfoldable pub bothWays : Problem → Bool
-bothWays p = not (every (λ m. not (isFunction p m && isPlain p m)) (upTo metavariableCount))
-
--- "14 a face over 64 nodes", "if shapes agree"
+-- "14 a face over 64 nodes", "if shapes agree"; T-09, of a letter used both ways: "14 isn't looked for in it"
 unfoldable pub overlarge : Problem → Bool
 overlarge p = isSome (faces p) && not (every (λ f. not (ltb maxFaceNodes (size (one (faceOf p f))))) (functions p))
 
--- "after reading: 12; 13 over 8 functions", then "faces, if shapes agree: 14"
+-- "after reading: .. 13 over 8 functions", then "faces, if shapes agree: 14"; T-09: "Refusal 12 is withdrawn and its number stays unused"
 unfoldable pub checkProblem : Problem → Answer Problem
 checkProblem p =
-    choose (bothWays p) (refused 12)
-    (choose (ltb maxFunctions (length (functions p))) (refused 13)
+    choose (ltb maxFunctions (length (functions p))) (refused 13)
     (choose (overlarge p) (refused 14)
-    (got p)))
+    (got p))
 
 unfoldable pub accept : Bytes → Answer Problem
 accept s = after (readProblem s) checkProblem

@@ -4,12 +4,12 @@
 --   candidate   a row's bodies, with the values from where document 01 copies them
 --   solves      whether it is a solution
 --   fullList    "its solution rows in row order, each with its one solution"
-use mathlib.Core.Bool.{Bool, true, _&&_}
+use mathlib.Core.Bool.{Bool, true, _&&_, not}
 use mathlib.Core.List.{List, map}
 use mathlib.Core.Option.{Option, none, some}
 use Rattle.meaning.specs.Basics.{choose, every, keep}
 use Rattle.meaning.specs.Term.{Term, one}
-use Rattle.meaning.specs.Problem.{Problem, expressions, isFunction, isPlain, metavariables, patterns}
+use Rattle.meaning.specs.Problem.{Problem, bothWays, expressions, isFunction, isPlain, metavariables, patterns}
 use Rattle.meaning.specs.Filling.{Entry, Filling, absent, body, filled, leftOpen, value}
 use Rattle.meaning.specs.Row.{Row, rowBody}
 use Rattle.meaning.specs.Value.{Source, lookup, sources}
@@ -33,7 +33,8 @@ isClosedEntry (body b) = isClosed 0 (one b)
 
 unfoldable pub solves : Problem → Row → Bool
 solves p r =
-    sameTerms (filled (candidate p r) (patterns p)) (expressions p) && every (λ m. isClosedEntry (candidate p r m)) (metavariables p)
+    not (bothWays p)
+    && (sameTerms (filled (candidate p r) (patterns p)) (expressions p) && every (λ m. isClosedEntry (candidate p r m)) (metavariables p))
 
 unfoldable pub solutionRows : Problem → List Row
 solutionRows p = keep (solves p) (rows p)

@@ -275,6 +275,10 @@ bothWidths = record {
       ∷ [];
 }
 
+-- T-09: "(P(P), a)", which no rule in the catalogue fits
+abbrev pub letterBothWays : Case
+letterBothWays = record { problem = con (P (meta 0)) (sym 6) ∷ []; rowCount = 0; texts = [] }
+
 abbrev pub further : List Case
 further =
     outsideSpelling ∷ lowestSpelling ∷ conjunction ∷ twoDifferences ∷ tableFirst ∷ tableSecond ∷ tableThird

@@ -1,16 +1,17 @@
 -- The walk, and the faces that it finds.
 --   walk     pattern and expression "walked together from the top": none where they disagree
+--   faces    what the walk of a problem finds: none where it has no rows
 --   Face     what a slot of the pattern faces: the number of binders above, the slot with its children, the node, the subexpression there
 --   Satisfied  a face whose slot is filled to just what it faces
 use Prim.Native.Nat.{ℕ, suc, _+_}
-use mathlib.Core.Bool.{Bool, false}
+use mathlib.Core.Bool.{Bool, false, not}
 use mathlib.Core.List.{List, [], _∷_}
 use mathlib.Core.Option.{Option, none, some}
 use lib.Dec.{eqb}
 use Rattle.meaning.specs.Basics.{choose, guard, join}
 use Rattle.meaning.specs.Term.{Nameless, Own, Slot, Term, Terms, Variable, cons, function, hole, inner, metavariable, nil, own, size}
 use Rattle.meaning.specs.Term.{slot}
-use Rattle.meaning.specs.Problem.{Problem, expressions, patterns}
+use Rattle.meaning.specs.Problem.{Problem, bothWays, expressions, patterns}
 use Rattle.meaning.specs.Same.{sameOwn, sameVariable}
 
 pub record Face : Type 0 where
@@ -40,8 +41,12 @@ walk k n (cons l c s) (cons l′ c′ s′) =
     join (meet k n l c (l′, c′) (walk (inner l k) (suc n) c c′)) (walk k (suc n + size c′) s s′)
 
 -- "constraints in order, each pattern left to right from the top"
-abbrev pub faces : Problem → Option (List Face)
-faces p = walk 0 0 (patterns p) (expressions p)
+abbrev pub walkOf : Problem → Option (List Face)
+walkOf p = walk 0 0 (patterns p) (expressions p)
+
+-- "If they disagree anywhere, the problem has no rows"; T-09, of a letter used both ways: "no rows; 14 isn't looked for in it"
+unfoldable pub faces : Problem → Option (List Face)
+faces p = guard (not (bothWays p)) (walkOf p)
 
 abbrev pub isApplication : ℕ → Slot → Bool
 isApplication f (metavariable m) = false

@@ -1,4 +1,5 @@
 -- The checker's test. It is yes exactly for the texts that pass (`passes-is-right`), so that nobody has to believe it.
+--   bothWays   T-09: "the checker says no to every well-formed text"
 --   once     no metavariable twice
 --   known    none that does not occur
 --   kinds    a body for each function, a value or nothing for each other metavariable
@@ -11,7 +12,8 @@ use mathlib.Core.List.{List, [], _∷_, map}
 use lib.Dec.{eqb, ltb}
 use Rattle.meaning.specs.Basics.{every, isIn}
 use Rattle.meaning.specs.Term.{Nameless, Term, Terms, cons, function, hole, metavariable, nil, one, own, slot}
-use Rattle.meaning.specs.Problem.{Problem, Standing, applied, expressions, isFunction, isPlain, patterns, placesOf, plain, standings}
+use Rattle.meaning.specs.Problem.{Problem, Standing, applied, bothWays, expressions, isFunction, isPlain, patterns, placesOf, plain}
+use Rattle.meaning.specs.Problem.{standings}
 use Rattle.meaning.specs.Filling.{Entry, Filling, absent, body, filled, leftOpen, value}
 use Rattle.meaning.specs.Solution.{needs}
 use Rattle.meaning.specs.Text.{Item, said}
@@ -88,4 +90,5 @@ meets p σ = sameTerms (filled σ (patterns p)) (expressions p)
 
 unfoldable pub passes : Problem → List Item → Bool
 passes p is =
-    once is && (known p is && (kinds p (said is) && (openUnneeded p (said is) && (unneededOpen p (said is) && meets p (said is)))))
+    not (bothWays p)
+    && (once is && (known p is && (kinds p (said is) && (openUnneeded p (said is) && (unneededOpen p (said is) && meets p (said is))))))

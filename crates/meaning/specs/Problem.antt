@@ -3,12 +3,13 @@
 --   places                  the arguments that a function has, and for which its body has holes
 --   Standing                where a metavariable that is no function stands: alone, or in an argument of a function
 --   functions               the metavariables that are applied, ascending: "by ascending metavariable number"
+--   bothWays                a letter "stands both as a function and alone" (T-09)
 use Prim.Native.Nat.{ℕ, suc}
-use mathlib.Core.Bool.{Bool, _||_}
+use mathlib.Core.Bool.{Bool, _&&_, _||_, not}
 use mathlib.Core.List.{List, [], _∷_, _++_, map}
 use lib.Dec.{eqb}
 use Rattle.meaning.specs.Limits.{metavariableCount}
-use Rattle.meaning.specs.Basics.{choose, isIn, keep, upTo}
+use Rattle.meaning.specs.Basics.{choose, every, isIn, keep, upTo}
 use Rattle.meaning.specs.Term.{Forest, Named, NamedTerm, Terms, Tree, cons, function, graft, hole, metavariable, nil, one, own, slot}
 use Rattle.meaning.specs.Scope.{nameless}
 
@@ -93,6 +94,10 @@ isPlain p m = isIn m (plain (patterns p))
 
 unfoldable pub functions : Problem → List ℕ
 functions p = keep (isFunction p) (upTo metavariableCount)
+
+-- T-09: "a rule in which P stands both as a function and alone"
+unfoldable pub bothWays : Problem → Bool
+bothWays p = not (every (λ m. not (isFunction p m && isPlain p m)) (upTo metavariableCount))
 
 -- "one field for each metavariable that occurs, ascending"
 unfoldable pub metavariables : Problem → List ℕ

@@ -8,7 +8,8 @@ use mathlib.Core.Logic.{_⊎_}
 use lib.Dec.{eqb}
 use Rattle.meaning.specs.Basics.{_∈_}
 use Rattle.meaning.specs.Term.{IsExpression, Term, Terms, cons, function, hole, metavariable, nil, one, own, slot}
-use Rattle.meaning.specs.Problem.{Problem, Where, alone, applied, argumentOf, expressions, patterns, placesOf, plain, standings}
+use Rattle.meaning.specs.Problem.{Problem, Where, alone, applied, argumentOf, bothWays, expressions, patterns, placesOf, plain}
+use Rattle.meaning.specs.Problem.{standings}
 use Rattle.meaning.specs.Shift.{ClosedTerm}
 use Rattle.meaning.specs.Filling.{Filling, IsBody, absent, body, bodyOr, filled, leftOpen, value}
 
@@ -29,6 +30,8 @@ Idle p σ m = (w : Where) → (m, w) ∈ standings (patterns p) → needs σ w �
 
 -- "A solution is a filling of just the metavariables that occur"; "Values and bodies have no variable bound outside themselves"
 pub record Solution (p : Problem) (σ : Filling) : Type 0 where
+  -- T-09: a problem that uses a letter both ways "has by definition no solutions"
+  pub oneWay : bothWays p ≡ false
   -- "each filled pattern equals its expression"
   pub meets : filled σ (patterns p) ≡ expressions p
   -- "each function metavariable a body"

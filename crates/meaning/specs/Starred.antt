@@ -1,11 +1,11 @@
--- The starred examples of document 01 as bytes, and one of T-05, each written out by hand from the format of fields.
+-- The starred examples of document 01 as bytes, and one each of T-05 and T-09, written out by hand from the format of fields.
 --   hex       bytes as document 01 prints them: so many bytes, and the number whose hexadecimal digits they are
 --   Starred   a case with the bytes of its problem and of its solutions' texts
 use Prim.Native.Nat.{ℕ, zero, suc, _/_, _%_, _^_}
 use mathlib.Core.List.{List, [], _∷_, _++_}
 use Rattle.meaning.specs.Basics.{Bytes}
-use Rattle.meaning.specs.Case.{Case, bothWidths, boundValue, noConstraint, notCaught, onePlusOne, oneSymbol, twoApplications}
-use Rattle.meaning.specs.Case.{twoValues, underBinder, unusedVariable}
+use Rattle.meaning.specs.Case.{Case, bothWidths, boundValue, letterBothWays, noConstraint, notCaught, onePlusOne, oneSymbol}
+use Rattle.meaning.specs.Case.{twoApplications, twoValues, underBinder, unusedVariable}
 
 abbrev pub hex : ℕ → ℕ → Bytes
 hex zero digits = []
@@ -83,3 +83,7 @@ widths = record {
       ∷ hex 30 0x0900100003000C0100040001000501000200050800080101000400010005
       ∷ [];
 }
+
+-- T-09: "The example (P(P), a) prints `end 0`"
+abbrev pub bothWaysExample : Starred
+bothWaysExample = record { case = letterBothWays; input = hex 16 0x07000D06000500050001000100020006; written = [] }

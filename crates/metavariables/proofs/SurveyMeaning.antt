@@ -10,11 +10,10 @@ use Rattle.meaning.specs.Basics.{choose, keep, every, upTo, isIn}
 use Rattle.meaning.specs.Term.{Forest, nil, cons, size, symbol, variable, application, binder, own, slot, metavariable, function, hole}
 use Rattle.meaning.specs.Term.{Named, Terms}
 use Rattle.meaning.specs.Scope.{enter, namelessLabel, nameless}
-use Rattle.meaning.specs.Problem.{Problem, namedPatterns, patterns, plain, applications, applied, isFunction, isPlain, functions}
+use Rattle.meaning.specs.Problem.{Problem, namedPatterns, patterns, plain, applications, applied, isFunction, isPlain, functions, bothWays}
 use Rattle.meaning.specs.Field.{tagOf}
 use Rattle.meaning.specs.Read.{Context, inPattern, contextBelow}
 use Rattle.meaning.specs.Readable.{NodeFits, Readable, WithinLimits}
-use Rattle.meaning.specs.Accept.{bothWays}
 use Rattle.tokens.specs.Token.{tagIn, payloadIn, payloadOf, tokens, patternTokens}
 use Rattle.metavariables.specs.declared.Occurring.{Occurring}
 use Rattle.metavariables.specs.Survey.{has, numbers, Surveyed, meets, count, functionsIn, bothIn}
@@ -123,7 +122,7 @@ module _ (p : Problem) (w : WithinLimits p) (r : Occurring) (survey : Surveyed (
   pub survey-plain : (m : ℕ) → m < metavariableCount → has (r .plain) m ≡ isPlain p m
   survey-plain m h = survey .plain m h ∙ ap (isIn m) (pattern-plain p w)
 
-  -- 12
+  -- T-09
   pub both-ways-means : meets metavariableCount (r .functions) (r .plain) ≡ bothWays p
   both-ways-means = both-set (patternTokens p) r survey ∙ both-in p w
 

@@ -1,4 +1,4 @@
-// Which metavariables occur, and how: refusals 12 and 13 look at nothing else.
+// Which metavariables occur, and how: refusal 13, and whether a letter is used both ways, look at nothing else.
 use tokens::token::payload;
 use tokens::token::tag;
 ghost use mathlib.Core.Path.{_≡_};
@@ -65,7 +65,7 @@ pub fn in_set(set: u32, m: u32) -> bool
     (set >> m) % 2 == 1
 }
 
-// Whether a metavariable occurs both as a function and otherwise (12).
+// Whether a metavariable stands both as a function and alone (T-09).
 pub fn both_ways(functions: u32, plain: u32) -> bool
     ensures { λ r. ⌜ r ≡ meets metavariableCount functions plain ⌝ }
 {

@@ -12,26 +12,26 @@ use Rattle.faces.proofs.check.check.Tie as tie
 survey-requires : tie.Need-survey-requires
 survey-requires c κs = search needs
 
-both-ways-requires : tie.Need-both-ways-requires
-both-ways-requires c κs = search needs
+function-count-requires : tie.Need-function-count-requires
+function-count-requires c κs = search needs
 
 returns : tie.Need-returns
 returns c =
     let v = c .before .before .survey in
     let a = c .before .before .before .before .before .before .args in
-    checked-both (a .ps .now) (v .result) (v .ensures) (a .es .now) (a .out .now) (a .out .now)
-    (sym (c .before .both-ways .ensures) ∙ c .if1 .taken)
+    checked-many (a .ps .now) (v .result) (v .ensures) (a .es .now) (a .out .now) (a .out .now)
+    (omega (arith, c .before .function-count .ensures, c .if1 .taken))
 
-function-count-requires : tie.Need-function-count-requires
-function-count-requires c κs = search needs
+both-ways-requires : tie.Need-both-ways-requires
+both-ways-requires c κs = search needs
 
 returns-2 : tie.Need-returns-2
 returns-2 c =
     let v = c .before .before .before .before .survey in
     let a = c .before .before .before .before .before .before .before .before .args in
-    checked-many (a .ps .now) (v .result) (v .ensures) (a .es .now) (a .out .now) (a .out .now)
-    (sym (c .before .before .before .both-ways .ensures) ∙ c .before .before .if1 .left)
-    (omega (arith, c .before .function-count .ensures, c .if2 .taken))
+    checked-both (a .ps .now) (v .result) (v .ensures) (a .es .now) (a .out .now) (a .out .now)
+    (omega (arith, c .before .before .before .function-count .ensures, c .before .before .if1 .left))
+    (sym (c .before .both-ways .ensures) ∙ c .if2 .taken)
 
 walk-requires : tie.Need-walk-requires
 walk-requires c κs = search needs
@@ -69,13 +69,13 @@ returns-3 c =
     let a = c .before .before .before .before .before .before .before .before .before .before .before .before .before .before .args in
     let w = c .before .before .before .before .walk in
     checked-none (a .ps .now) (v .result) (v .ensures) (a .es .now) (a .out .now) (w .last .1 .1 .0)
-    (sym (c .before .before .before .before .before .before .before .before .before .both-ways .ensures)
-    ∙ c .before .before .before .before .before .before .before .before .if1 .left)
     (omega (
       arith,
-      c .before .before .before .before .before .before .before .function-count .ensures,
-      c .before .before .before .before .before .before .if2 .left,
-    )) (w .result) (w .ensures) (c .enum-told .given .1)
+      c .before .before .before .before .before .before .before .before .before .function-count .ensures,
+      c .before .before .before .before .before .before .before .before .if1 .left,
+    ))
+    (sym (c .before .before .before .before .before .before .before .both-ways .ensures)
+    ∙ c .before .before .before .before .before .before .if2 .left) (w .result) (w .ensures) (c .enum-told .given .1)
 
 same-length-2 : tie.Need-same-length-2
 same-length-2 c = search needs
@@ -86,13 +86,13 @@ returns-4 c =
     let a = c .before .before .before .before .before .before .before .before .before .before .before .before .before .before .before .before .before .before .args in
     let w = c .before .before .before .before .before .before .before .before .walk in
     checked-large (a .ps .now) (v .result) (v .ensures) (a .es .now) (a .out .now) (w .last .1 .1 .0)
-    (sym (c .before .before .before .before .before .before .before .before .before .before .before .before .before .both-ways .ensures)
-    ∙ c .before .before .before .before .before .before .before .before .before .before .before .before .if1 .left)
     (omega (
       arith,
-      c .before .before .before .before .before .before .before .before .before .before .before .function-count .ensures,
-      c .before .before .before .before .before .before .before .before .before .before .if2 .left,
-    )) (w .result) (w .ensures)
+      c .before .before .before .before .before .before .before .before .before .before .before .before .before .function-count .ensures,
+      c .before .before .before .before .before .before .before .before .before .before .before .before .if1 .left,
+    ))
+    (sym (c .before .before .before .before .before .before .before .before .before .before .before .both-ways .ensures)
+    ∙ c .before .before .before .before .before .before .before .before .before .before .if2 .left) (w .result) (w .ensures)
     (c .before .before .before .before .n .given .0 .0) (c .before .before .before .before .n .given .1)
     (c .before .over-limit .result) (c .before .over-limit .ensures) (c .if3 .taken)
 
@@ -105,13 +105,13 @@ returns-5 c =
     let a = c .before .before .before .before .before .before .before .before .before .before .before .before .before .before .before .before .before .before .args in
     let w = c .before .before .before .before .before .before .before .before .walk in
     checked-faces (a .ps .now) (v .result) (v .ensures) (a .es .now) (a .out .now) (w .last .1 .1 .0)
-    (sym (c .before .before .before .before .before .before .before .before .before .before .before .before .before .both-ways .ensures)
-    ∙ c .before .before .before .before .before .before .before .before .before .before .before .before .if1 .left)
     (omega (
       arith,
-      c .before .before .before .before .before .before .before .before .before .before .before .function-count .ensures,
-      c .before .before .before .before .before .before .before .before .before .before .if2 .left,
-    )) (w .result) (w .ensures)
+      c .before .before .before .before .before .before .before .before .before .before .before .before .before .function-count .ensures,
+      c .before .before .before .before .before .before .before .before .before .before .before .before .if1 .left,
+    ))
+    (sym (c .before .before .before .before .before .before .before .before .before .before .before .both-ways .ensures)
+    ∙ c .before .before .before .before .before .before .before .before .before .before .if2 .left) (w .result) (w .ensures)
     (c .before .before .before .before .n .given .0 .0) (c .before .before .before .before .n .given .1)
     (c .before .over-limit .result) (c .before .over-limit .ensures) (c .if3 .left)
 
@@ -120,9 +120,9 @@ check-spec =
     tie.close
     (tie.spec
     survey-requires
-    both-ways-requires
-    returns
     function-count-requires
+    returns
+    both-ways-requires
     returns-2
     walk-requires
     enum-told
