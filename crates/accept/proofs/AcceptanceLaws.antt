@@ -102,7 +102,7 @@ module _ (ps es old new : List ℕ) (f : Checked) (d : CheckedBy ps es old new f
 
   module _ (s : Occurring) (v : Surveyed ps s) where
     abbrev pub standing : Bool → ℕ → Standing
-    standing b n = record { patterns = length ps; expressions = length es; occurring = s; agree = b; faces = n }
+    standing b n = record { patterns = length ps; expressions = length es; occurring = s; rows = b; faces = n }
 
     pub checks-none : f ≡ checked.NoRows → Checks ps es old new (verdicts.Accepted (standing false 0))
     unfolding Checks
@@ -118,9 +118,9 @@ module _ (q : Problem) (new : List ℕ) (n : ℕ) where
   passes true = refl
   passes false = refl
 
-  agrees : (b : Bool) → Says q new (choose b (checked.Faces n) checked.NoRows) → b ≡ isSome (faces q)
-  agrees true h = sym (ap isSome (h .agree))
-  agrees false h = sym (ap isSome (h .1))
+  has-faces : (b : Bool) → Says q new (choose b (checked.Faces n) checked.NoRows) → b ≡ isSome (faces q)
+  has-faces true h = sym (ap isSome (h .agree))
+  has-faces false h = sym (ap isSome (h .1))
 
   recorded : (b : Bool) → Says q new (choose b (checked.Faces n) checked.NoRows) → (found : List Face) → faces q ≡ some found
       → (length found ≡ n) × Recorded q (take n new) found
@@ -148,7 +148,7 @@ module _ (s o p x y : List ℕ) (b : AreBytes s) (m n k : ℕ) (d : ProblemDone 
       let t = tables s o p x y b m n k d in
       let front = rw (pattern-front s o p x y b m n k d, expression-front s o p x y b m n k d) at h in
       let says = check-means (t .problem) (within s o p x y b m n k d) old new (checkedAs a) (front .check) in
-      rw (answered (checkedAs a) (h .check) ∙ passes (t .problem) new (a .faces) (a .agree), Accepts) (
+      rw (answered (checkedAs a) (h .check) ∙ passes (t .problem) new (a .faces) (a .rows), Accepts) (
         a,
         refl,
         record {
@@ -159,9 +159,9 @@ module _ (s o p x y : List ℕ) (b : AreBytes s) (m n k : ℕ) (d : ProblemDone 
               t .expressionTable
               ∙ ap (λ (i : ℕ). expressionTokens (t .problem) ++ drop i x) (t .expressionNodes ∙ sym (front .expressions));
           survey = front .survey;
-          agree = agrees (t .problem) new (a .faces) (a .agree) says;
+          hasRows = has-faces (t .problem) new (a .faces) (a .rows) says;
           none = front .none;
-          recorded = recorded (t .problem) new (a .faces) (a .agree) says;
+          recorded = recorded (t .problem) new (a .faces) (a .rows) says;
         },
       )
 

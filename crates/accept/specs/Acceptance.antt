@@ -25,14 +25,14 @@ use Rattle.accept.specs.declared.Verdict.the-variants as verdicts
 
 -- What `faces::check` answered
 abbrev pub checkedAs : Standing → Checked
-checkedAs a = choose (a .agree) (checked.Faces (a .faces)) checked.NoRows
+checkedAs a = choose (a .rows) (checked.Faces (a .faces)) checked.NoRows
 
 pub record Passed (ps es old new : List ℕ) (a : Standing) : Type 0 where
   pub patterns : a .patterns ≡ length ps
   pub expressions : a .expressions ≡ length es
   pub survey : Surveyed ps (a .occurring)
   pub check : CheckedBy ps es old new (checkedAs a)
-  pub none : a .agree ≡ false → a .faces ≡ 0
+  pub none : a .rows ≡ false → a .faces ≡ 0
 
 unfoldable pub Checks : List ℕ → List ℕ → List ℕ → List ℕ → Verdict → Type 0
 Checks ps es old new (verdicts.Refused r) = CheckedBy ps es old new (checked.Refused r)
@@ -51,8 +51,8 @@ pub record Stands (p : Problem) (ps ps′ es es′ fs′ : List ℕ) (a : Standi
   pub patternTable : ps′ ≡ patternTokens p ++ drop (a .patterns) ps
   pub expressionTable : es′ ≡ expressionTokens p ++ drop (a .expressions) es
   pub survey : Surveyed (patternTokens p) (a .occurring)
-  pub agree : a .agree ≡ isSome (faces p)
-  pub none : a .agree ≡ false → a .faces ≡ 0
+  pub hasRows : a .rows ≡ isSome (faces p)
+  pub none : a .rows ≡ false → a .faces ≡ 0
   pub recorded : (found : List Face) → faces p ≡ some found → (length found ≡ a .faces) × Recorded p (take (a .faces) fs′) found
 
 -- A refusal is document 01's, with its number

@@ -16,8 +16,8 @@ pub struct Standing {
     pub patterns: usize,
     pub expressions: usize,
     pub occurring: Occurring,
-    // Whether all shapes agree; else the problem has no rows.
-    pub agree: bool,
+    // Whether the problem has rows: no letter is used both ways, and all shapes agree.
+    pub rows: bool,
     // How many faces are recorded.
     pub faces: usize,
 }
@@ -37,14 +37,14 @@ fn checked(ps: &[u64], es: &[u64], faces: &mut [u64]) -> Verdict
         patterns: ps.len(),
         expressions: es.len(),
         occurring: survey(ps),
-        agree: false,
+        rows: false,
         faces: 0,
     };
     match found {
         Checked::Refused(r) => Verdict::Refused(r),
         Checked::NoRows => Verdict::Accepted(standing),
         Checked::Faces(n) => {
-            standing.agree = true;
+            standing.rows = true;
             standing.faces = n;
             Verdict::Accepted(standing)
         }

@@ -140,19 +140,19 @@ faceless p σ e =
     (λ b. ap (λ (x : Bool). not x && meets p σ) b ∙ meets-disagree p σ (sym (walk-faces p b) ∙ e))
 
 module _ (ps es fs ts : List ℕ) (a : Standing) (s : Said) where
-  pub met-never : not (a .agree) ≡ true → Met ps es fs ts a s false
+  pub met-never : not (a .rows) ≡ true → Met ps es fs ts a s false
   met-never q = record {
     judged = λ p is d.
-        sym (faceless p (said is) (is-none (faces p) (sym (d .laid .agree) ∙ not-true (a .agree) q)));
+        sym (faceless p (said is) (is-none (faces p) (sym (d .laid .hasRows) ∙ not-true (a .rows) q)));
   }
 
-  module _ (agree : not (a .agree) ≡ false) where
+  module _ (rowful : not (a .rows) ≡ false) where
     -- What `filled` requires
     pub met-grounded : (holes scratch : List ℕ) → Decidable ps es fs ts a s holes scratch
         → Grounded (take (a .patterns) ps) (take (a .expressions) es) (take (a .faces) fs) ts s holes scratch
     met-grounded holes scratch d =
         let laid = d .decided .laid in
-        let (found, shapes) = is-some (faces (d .problem)) (sym (laid .agree) ∙ not-false (a .agree) agree) in
+        let (found, shapes) = is-some (faces (d .problem)) (sym (laid .hasRows) ∙ not-false (a .rows) rowful) in
         record {
           problem = d .problem;
           accepted = laid .accepted;
@@ -172,7 +172,7 @@ module _ (ps es fs ts : List ℕ) (a : Standing) (s : Said) where
     met-filled r e = record {
       judged = λ p is d.
           let laid = d .laid in
-          let (found, shapes) = is-some (faces p) (sym (laid .agree) ∙ not-false (a .agree) agree) in
+          let (found, shapes) = is-some (faces p) (sym (laid .hasRows) ∙ not-false (a .rows) rowful) in
           e ∙ ap₂ (λ (x y : List ℕ). filledAt x y (take (a .faces) fs) ts s) (laid .patterns) (laid .expressions)
           ∙ filled-means p (laid .accepted) (take (a .faces) fs) found (faces-walk p found shapes) (laid .recorded found shapes) ts is s
           (d .says)

@@ -79,7 +79,7 @@ fn constraints_met(
     let p = a.patterns;
     let e = a.expressions;
     let k = a.faces;
-    if !a.agree {
+    if !a.rows {
         return false;
     }
     filled(&ps[..p], &es[..e], &fs[..k], ts, said, holes, scratch)

@@ -190,7 +190,7 @@ fn all_faces(
     faces_demanded(ps, es, faces, functions, nodes, row, kept, scratch)
 }
 
-// A row of an accepted problem whose shapes agree. `scratch` is written over.
+// A row of an accepted problem that has rows. `scratch` is written over.
 pub fn judge(
     ps: &[u64],
     es: &[u64],

@@ -50,12 +50,12 @@ past-value = refl
 pub same-value : (v : code.Place) (w : PlaceValue) → v .masks ≡ w .masks → v .past ≡ w .isPast → valueOf v ≡ w
 same-value v w e f = λ i. record { masks = e i; isPast = f i }
 
-module _ (p : Problem) (a : Accepted p) (ds : List ℕ) (agree : Bool) (told : agree ≡ isSome (faces p)) (tabled : agree ≡ true → Tabled p ds)
+module _ (p : Problem) (a : Accepted p) (ds : List ℕ) (hasRows : Bool) (told : hasRows ≡ isSome (faces p)) (tabled : hasRows ≡ true → Tabled p ds)
     (v : code.Place) where
   -- A row of the tables names a row of the problem
-  pub row-named : IsRowOf v agree ds → (r : Row) × (r ∈ rows p) × (v .masks ≡ masksOf r) × Names p (valueOf v) (at r)
+  pub row-named : IsRowOf v hasRows ds → (r : Row) × (r ∈ rows p) × (v .masks ≡ masksOf r) × Names p (valueOf v) (at r)
   row-named h =
-      let (r, m, e) = row-masks p ds a (sym told ∙ h .agrees) (tabled (h .agrees)) (v .masks) .0 (h .member) in (
+      let (r, m, e) = row-masks p ds a (sym told ∙ h .someRows) (tabled (h .someRows)) (v .masks) .0 (h .member) in (
         r,
         m,
         e,
@@ -74,14 +74,14 @@ module _ (p : Problem) (a : Accepted p) (ds : List ℕ) (agree : Bool) (told : a
   }
 
   -- ... and nothing else does
-  pub named-row : (r : Row) → Names p (valueOf v) (at r) → IsRowOf v agree ds
+  pub named-row : (r : Row) → Names p (valueOf v) (at r) → IsRowOf v hasRows ds
   named-row r n =
       let shapes = n .isPlace .agree in
       let whole : valueOf v ≡ record { masks = masksOf r; isPast = false } = n .isValue ∙ row-value r in
-      let t : agree ≡ true = told ∙ shapes in
+      let t : hasRows ≡ true = told ∙ shapes in
       record {
         here = ap (λ (w : PlaceValue). w .isPast) whole;
-        agrees = t;
+        someRows = t;
         member = row-masks p ds a shapes (tabled t) (v .masks) .1
             (r, rows-are p r .1 (n .isPlace), ap (λ (w : PlaceValue). w .masks) whole);
       }
@@ -91,16 +91,16 @@ module _ (p : Problem) (a : Accepted p) (ds : List ℕ) (agree : Bool) (told : a
       let whole : valueOf v ≡ record { masks = replicate maxFunctions 0; isPast = true } = n .isValue ∙ past-value in
       record { masks = ap (λ (w : PlaceValue). w .masks) whole; past = ap (λ (w : PlaceValue). w .isPast) whole }
 
-  pub nothing-named : (IsRowOf v agree ds → ⊥) → (AtPast v → ⊥) → (place : Place Row) → Names p (valueOf v) place → ⊥
+  pub nothing-named : (IsRowOf v hasRows ds → ⊥) → (AtPast v → ⊥) → (place : Place Row) → Names p (valueOf v) place → ⊥
   nothing-named f g (at r) n = f (named-row r n)
   nothing-named f g past n = g (named-past n)
 
   -- The first place is the start
-  pub begins-start : Begins agree ds v → valueOf v ≡ placeValue (start p)
+  pub begins-start : Begins hasRows ds v → valueOf v ≡ placeValue (start p)
   unfolding Begins
-  begins-start h = go agree refl h
+  begins-start h = go hasRows refl h
     where
-      go : (b : Bool) → agree ≡ b → Begins b ds v → valueOf v ≡ placeValue (start p)
+      go : (b : Bool) → hasRows ≡ b → Begins b ds v → valueOf v ≡ placeValue (start p)
       go true e h =
           same-value v (record { masks = h .0; isPast = false }) (h .2 .masks) (h .2 .here)
           ∙ first-row-of p ds a (sym told ∙ e) (tabled e) (h .0) (h .1)
@@ -117,14 +117,14 @@ module _ (s ps es fs ds : List ℕ) (prepared : Prepared) (h : Prepares (accept 
     ready : Ready (accept s) ps es fs ds a (prepared .firsts)
     ready = prepared-accepted (accept s) ps es fs ds prepared a h e
 
-    pub starts-open : Opens (a .agree) ds
+    pub starts-open : Opens (a .rows) ds
     starts-open t = tabled-tables (ready .problem) ds (ready-tables (accept s) ps es fs ds a (prepared .firsts) ready t)
 
-    pub starts-begins : (r : Started) → r .answer ≡ starts.Begins → Begins (a .agree) ds (r .place) → Starts (startCall s) r
+    pub starts-begins : (r : Started) → r .answer ≡ starts.Begins → Begins (a .rows) ds (r .place) → Starts (startCall s) r
     unfolding startCall Starts
     starts-begins r q b =
         rw (ready .answer) (
           q,
-          begins-start (ready .problem) (ready .laid .accepted) ds (a .agree) (ready .laid .agree)
+          begins-start (ready .problem) (ready .laid .accepted) ds (a .rows) (ready .laid .hasRows)
               (ready-tables (accept s) ps es fs ds a (prepared .firsts) ready) (r .place) b,
         )

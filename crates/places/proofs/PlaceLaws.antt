@@ -25,35 +25,35 @@ pub zero-at : (n : ℕ) (ms : List ℕ) → ms ≡ replicate n 0 → (j : ℕ) �
 zero-at n ms e j = ap (λ (l : List ℕ). getD l j 0) e ∙ getD-zeros n j
 
 -- The answers of `named`
-module _ (v : Place) (agree : Bool) (ds : List ℕ) where
-  pub tells-past : v .past ≡ true → v .masks ≡ replicate maxFunctions 0 → Tells v agree ds named.Past
+module _ (v : Place) (hasRows : Bool) (ds : List ℕ) where
+  pub tells-past : v .past ≡ true → v .masks ≡ replicate maxFunctions 0 → Tells v hasRows ds named.Past
   unfolding Tells
   tells-past e m = record { masks = m; past = e }
 
-  pub tells-row : v .past ≡ false → agree ≡ true → v .masks ∈ maskRows ds → Tells v agree ds named.Row
+  pub tells-row : v .past ≡ false → hasRows ≡ true → v .masks ∈ maskRows ds → Tells v hasRows ds named.Row
   unfolding Tells
-  tells-row e a m = record { here = e; agrees = a; member = m }
+  tells-row e a m = record { here = e; someRows = a; member = m }
 
-  pub tells-no-past : v .past ≡ true → (v .masks ≡ replicate maxFunctions 0 → ⊥) → Tells v agree ds named.Nothing
+  pub tells-no-past : v .past ≡ true → (v .masks ≡ replicate maxFunctions 0 → ⊥) → Tells v hasRows ds named.Nothing
   unfolding Tells
   tells-no-past e n = (λ r. true≢false (sym e ∙ r .here), λ q. n (q .masks))
 
-  pub tells-no-rows : v .past ≡ false → agree ≡ false → Tells v agree ds named.Nothing
+  pub tells-no-rows : v .past ≡ false → hasRows ≡ false → Tells v hasRows ds named.Nothing
   unfolding Tells
-  tells-no-rows e a = (λ r. false≢true (sym a ∙ r .agrees), λ q. false≢true (sym e ∙ q .past))
+  tells-no-rows e a = (λ r. false≢true (sym a ∙ r .someRows), λ q. false≢true (sym e ∙ q .past))
 
-  pub tells-no-row : v .past ≡ false → (v .masks ∈ maskRows ds → ⊥) → Tells v agree ds named.Nothing
+  pub tells-no-row : v .past ≡ false → (v .masks ∈ maskRows ds → ⊥) → Tells v hasRows ds named.Nothing
   unfolding Tells
   tells-no-row e n = (λ r. n (r .member), λ q. false≢true (sym e ∙ q .past))
 
 -- The answers of `first`
-pub begins-row : (agree : Bool) (ds : List ℕ) (row : MaskRow) (r : Place) → agree ≡ true → placeOf (maskRows ds) ≡ at row → AtRow row r
-    → Begins agree ds r
+pub begins-row : (hasRows : Bool) (ds : List ℕ) (row : MaskRow) (r : Place) → hasRows ≡ true → placeOf (maskRows ds) ≡ at row → AtRow row r
+    → Begins hasRows ds r
 unfolding Begins
 begins-row true ds row r e p h = (row, p, h)
 begins-row false ds row r e p h = absurd (true≢false (sym e))
 
-pub begins-past : (agree : Bool) (ds : List ℕ) (r : Place) → agree ≡ false → AtPast r → Begins agree ds r
+pub begins-past : (hasRows : Bool) (ds : List ℕ) (r : Place) → hasRows ≡ false → AtPast r → Begins hasRows ds r
 unfolding Begins
 begins-past true ds r e h = absurd (true≢false e)
 begins-past false ds r e h = h

@@ -1,6 +1,6 @@
 -- Places as the code holds them.
 --   valueOf   the place value of `meaning`
---   Tells     what a value names, by the class tables and whether shapes agree
+--   Tells     what a value names, by the class tables and whether the problem has rows
 --   Begins    the first place
 use mathlib.Core.Path.{_≡_}
 use mathlib.Core.Bool.{Bool, true, false}
@@ -30,20 +30,20 @@ pub record AtPast (r : Place) : Type 0 where
   pub masks : r .masks ≡ replicate maxFunctions 0
   pub past : r .past ≡ true
 
--- A row of the tables, where shapes agree
-pub record IsRowOf (v : Place) (agree : Bool) (ds : List ℕ) : Type 0 where
+-- A row of the tables, where there are rows
+pub record IsRowOf (v : Place) (hasRows : Bool) (ds : List ℕ) : Type 0 where
   pub here : v .past ≡ false
-  pub agrees : agree ≡ true
+  pub someRows : hasRows ≡ true
   pub member : v .masks ∈ maskRows ds
 
 unfoldable pub Tells : Place → Bool → List ℕ → Named → Type 0
-Tells v agree ds named.Row = IsRowOf v agree ds
-Tells v agree ds named.Past = AtPast v
-Tells v agree ds named.Nothing = (IsRowOf v agree ds → ⊥) × (AtPast v → ⊥)
+Tells v hasRows ds named.Row = IsRowOf v hasRows ds
+Tells v hasRows ds named.Past = AtPast v
+Tells v hasRows ds named.Nothing = (IsRowOf v hasRows ds → ⊥) × (AtPast v → ⊥)
 
--- Where shapes agree the tables are asked for their first row
+-- Where there are rows the tables are asked for their first row
 abbrev pub Opens : Bool → List ℕ → Type 0
-Opens agree ds = agree ≡ true → Tables ds
+Opens hasRows ds = hasRows ≡ true → Tables ds
 
 unfoldable pub Begins : Bool → List ℕ → Place → Type 0
 Begins true ds r = (row : MaskRow) × (placeOf (maskRows ds) ≡ at row) × AtRow row r

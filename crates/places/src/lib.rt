@@ -77,12 +77,12 @@ impl Place {
         }
     }
 
-    // The first row of the tables, or past the last where shapes disagree.
-    fn first(agree: bool, ds: &[u64]) -> Place
-        requires { ⌜ Opens agree (now ds) ⌝ }
-        ensures { λ r. ⌜ Begins agree (now (ds .entry)) r ⌝ }
+    // The first row of the tables, or past the last where there is none.
+    fn first(rows: bool, ds: &[u64]) -> Place
+        requires { ⌜ Opens rows (now ds) ⌝ }
+        ensures { λ r. ⌜ Begins rows (now (ds .entry)) r ⌝ }
     {
-        if agree {
+        if rows {
             Place::at(first_row(ds))
         } else {
             Place::past_last()
@@ -106,16 +106,16 @@ impl Place {
             },
             Verdict::Accepted(a) => Started {
                 answer: Start::Begins,
-                place: Place::first(a.agree, &ds),
+                place: Place::first(a.rows, &ds),
             },
         }
     }
 }
 
-// What the value names, by the class tables of a problem and whether its shapes agree.
-pub fn named_by(place: Place, agree: bool, ds: &[u64]) -> Named
+// What the value names, by the class tables of a problem and whether it has rows.
+pub fn named_by(place: Place, rows: bool, ds: &[u64]) -> Named
     requires { ⌜ Long (now ds) ⌝ }
-    ensures { λ r. ⌜ Tells place agree (now (ds .entry)) r ⌝ }
+    ensures { λ r. ⌜ Tells place rows (now (ds .entry)) r ⌝ }
 {
     let row = place.masks;
     if place.past {
@@ -124,7 +124,7 @@ pub fn named_by(place: Place, agree: bool, ds: &[u64]) -> Named
         }
         return Named::Nothing;
     }
-    if !agree {
+    if !rows {
         return Named::Nothing;
     }
     if is_row(ds, row) {

@@ -39,13 +39,13 @@ use Rattle.prepare.specs.Prepared.{NoFaces, NodesOf, Laid, Ground, Table
 use Rattle.prepare.specs.declared.Prepared.{Prepared}
 
 -- The two answers of `nodes_of`
-pub nodes-looked-up : (agree : Bool) (ps fs : List ℕ) (functions : ℕ) (r : Firsts) → agree ≡ true → Listed ps fs functions r
-    → NodesOf agree ps fs functions r
+pub nodes-looked-up : (hasRows : Bool) (ps fs : List ℕ) (functions : ℕ) (r : Firsts) → hasRows ≡ true → Listed ps fs functions r
+    → NodesOf hasRows ps fs functions r
 unfolding NodesOf
 nodes-looked-up true ps fs functions r e h = h
 nodes-looked-up false ps fs functions r e h = absurd (true≢false (sym e))
 
-pub no-nodes : (agree : Bool) (ps fs : List ℕ) (functions : ℕ) (r : Firsts) → agree ≡ false → NoFaces r → NodesOf agree ps fs functions r
+pub no-nodes : (hasRows : Bool) (ps fs : List ℕ) (functions : ℕ) (r : Firsts) → hasRows ≡ false → NoFaces r → NodesOf hasRows ps fs functions r
 unfolding NodesOf
 no-nodes true ps fs functions r e h = absurd (true≢false e)
 no-nodes false ps fs functions r e h = h
@@ -83,14 +83,14 @@ module _ (p : Problem) (ps es fs : List ℕ) (a : Standing) (laid : Laid p ps es
         (subst (λ (l : List ℕ). TablesFrom l (firsts .nodes) (firsts .count) ds) (laid .expressions) t)
 
   -- What `class_tables` requires
-  pub faces-ready : (firsts : Firsts) → NodesOf (a .agree) (take (a .patterns) ps) (take (a .faces) fs) (a .occurring .functions) firsts
+  pub faces-ready : (firsts : Firsts) → NodesOf (a .rows) (take (a .patterns) ps) (take (a .faces) fs) (a .occurring .functions) firsts
       → Faces (take (a .expressions) es) (firsts .nodes) (firsts .count)
   unfolding NodesOf maxFunctions
-  faces-ready firsts h = go (a .agree) refl h
+  faces-ready firsts h = go (a .rows) refl h
     where
-      go : (b : Bool) → a .agree ≡ b → NodesOf b (take (a .patterns) ps) (take (a .faces) fs) (a .occurring .functions) firsts
+      go : (b : Bool) → a .rows ≡ b → NodesOf b (take (a .patterns) ps) (take (a .faces) fs) (a .occurring .functions) firsts
           → Faces (take (a .expressions) es) (firsts .nodes) (firsts .count)
-      go true e n = let x = is-some (faces p) (sym (laid .agree) ∙ e) in faces-there firsts (x .0) (x .1) n
+      go true e n = let x = is-some (faces p) (sym (laid .hasRows) ∙ e) in faces-there firsts (x .0) (x .1) n
       go false e n = let z : firsts .count ≡ 0 = n .none in record { few = omega arith; whole = λ k l. absurd (omega arith) }
 
 -- What `accept` leaves
@@ -108,7 +108,7 @@ module _ (s ps ps′ es es′ fs′ : List ℕ) (bytes : All (λ b. b < 256) s) 
   faces-inside p a h = go (faces p) refl
     where
       go : (o : Option (List Face)) → faces p ≡ o → a .faces ≤ length fs′
-      go none e = let z : a .faces ≡ 0 = h .none (h .agree ∙ ap isSome e) in omega arith
+      go none e = let z : a .faces ≡ 0 = h .none (h .hasRows ∙ ap isSome e) in omega arith
       go (some found) e =
           let r = h .recorded found e in
           let n : length found ≡ a .faces = r .0 in
@@ -127,7 +127,7 @@ module _ (s ps ps′ es es′ fs′ : List ℕ) (bytes : All (λ b. b < 256) s) 
         expressions = r .0;
         expressionsInside = r .1;
         survey = h .survey;
-        agree = h .agree;
+        hasRows = h .hasRows;
         facesInside = faces-inside p a h;
         recorded = λ found q. h .recorded found q .1;
       }
@@ -187,15 +187,15 @@ prepared-accepted (got p) ps es fs ds r a h e =
     }
 
 module _ (x : Answer Problem) (ps es fs ds : List ℕ) (a : Standing) (firsts : Firsts) (ready : Ready x ps es fs ds a firsts) where
-  -- Where shapes agree: the faces, their nodes, the class tables
-  pub ready-nodes : a .agree ≡ true → Listed (take (a .patterns) ps) (take (a .faces) fs) (a .occurring .functions) firsts
+  -- Where there are rows: the faces, their nodes, the class tables
+  pub ready-nodes : a .rows ≡ true → Listed (take (a .patterns) ps) (take (a .faces) fs) (a .occurring .functions) firsts
   unfolding NodesOf
   ready-nodes e =
       subst (λ (b : Bool). NodesOf b (take (a .patterns) ps) (take (a .faces) fs) (a .occurring .functions) firsts) e (ready .tabled .nodes)
 
-  pub ready-tables : a .agree ≡ true → classes.Tabled (ready .problem) ds
+  pub ready-tables : a .rows ≡ true → classes.Tabled (ready .problem) ds
   ready-tables e =
-      let found = is-some (faces (ready .problem)) (sym (ready .laid .agree) ∙ e) in
+      let found = is-some (faces (ready .problem)) (sym (ready .laid .hasRows) ∙ e) in
       tables-mean (ready .problem) ps es fs a (ready .laid) firsts (found .0) (found .1) (ready-nodes e) ds (ready .tabled .tables)
 
 -- Tables as the callers of `prepare` make them have room

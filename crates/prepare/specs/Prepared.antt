@@ -40,7 +40,7 @@ pub record Laid (p : Problem) (ps es fs : List ℕ) (a : Standing) : Type 0 wher
   pub expressions : take (a .expressions) es ≡ expressionTokens p
   pub expressionsInside : a .expressions ≤ length es
   pub survey : Surveyed (patternTokens p) (a .occurring)
-  pub agree : a .agree ≡ isSome (faces p)
+  pub hasRows : a .rows ≡ isSome (faces p)
   pub facesInside : a .faces ≤ length fs
   pub recorded : (found : List Face) → faces p ≡ some found → Recorded p (take (a .faces) fs) found
 
@@ -50,7 +50,7 @@ Ground ps es fs a = (p : Problem) × Laid p ps es fs a
 
 -- The nodes of the functions' faces, by ascending number, and the class tables of these
 pub record Tabled (ps es fs ds : List ℕ) (a : Standing) (firsts : Firsts) : Type 0 where
-  pub nodes : NodesOf (a .agree) (take (a .patterns) ps) (take (a .faces) fs) (a .occurring .functions) firsts
+  pub nodes : NodesOf (a .rows) (take (a .patterns) ps) (take (a .faces) fs) (a .occurring .functions) firsts
   pub tables : TablesFrom (take (a .expressions) es) (firsts .nodes) (firsts .count) ds
 
 pub record Tabling (ps es fs ds : List ℕ) (a : Standing) (r : Prepared) : Type 0 where

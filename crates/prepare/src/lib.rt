@@ -1,4 +1,4 @@
-// What happens once a call, whatever is asked: the problem is read and checked, and where its shapes agree the nodes of its functions'
+// What happens once a call, whatever is asked: the problem is read and checked, and where it has rows the nodes of its functions'
 // faces and the class tables of these are looked up. Searching, writing and checking all begin with it.
 use accept::Standing;
 use accept::Verdict;
@@ -31,12 +31,12 @@ fn no_faces() -> Firsts
     }
 }
 
-// The nodes of the functions' faces, where shapes agree.
-fn nodes_of(agree: bool, ps: &[u64], fs: &[u64], functions: u32) -> Firsts
+// The nodes of the functions' faces, where the problem has rows.
+fn nodes_of(rows: bool, ps: &[u64], fs: &[u64], functions: u32) -> Firsts
     requires { ⌜ count metavariableCount functions ≤ 8 ⌝ }
-    ensures { λ r. ⌜ NodesOf agree (now (ps .entry)) (now (fs .entry)) functions r ⌝ }
+    ensures { λ r. ⌜ NodesOf rows (now (ps .entry)) (now (fs .entry)) functions r ⌝ }
 {
-    if agree {
+    if rows {
         return first_faces(ps, fs, functions);
     }
     no_faces()
@@ -51,7 +51,7 @@ fn with_tables(a: Standing, ps: &[u64], es: &[u64], fs: &[u64], ds: &mut [u64]) 
     let e = a.expressions;
     let n = a.faces;
     let functions = a.occurring.functions;
-    let firsts = nodes_of(a.agree, &ps[..p], &fs[..n], functions);
+    let firsts = nodes_of(a.rows, &ps[..p], &fs[..n], functions);
     let nodes = firsts.nodes;
     class_tables(&es[..e], nodes, firsts.count, ds);
     Prepared {

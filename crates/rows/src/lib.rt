@@ -50,7 +50,7 @@ fn next_choice(ds: &[u64], k: usize, m: u64) -> u64
     masks::next_choice(&ds[a..e], m)
 }
 
-// Whether the masks, whatever they are, are a row of the tables. Asked only where shapes agree: the tables of a problem without rows
+// Whether the masks, whatever they are, are a row of the tables. Asked only where there are rows: the tables of a problem without any
 // still have one, of empty masks.
 pub fn is_row(ds: &[u64], row: [u64; FUNCTIONS]) -> bool
     requires { ⌜ Long (now ds) ⌝ }
@@ -66,7 +66,7 @@ pub fn is_row(ds: &[u64], row: [u64; FUNCTIONS]) -> bool
     true
 }
 
-// The first row of the tables. Asked only where shapes agree, like `is_row`.
+// The first row of the tables. Asked only where there are rows, like `is_row`.
 pub fn first_row(ds: &[u64]) -> [u64; FUNCTIONS]
     requires { ⌜ Tables (now ds) ⌝ }
     ensures { λ r. ⌜ placeOf (maskRows (now (ds .entry))) ≡ at r ⌝ }

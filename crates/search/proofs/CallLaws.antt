@@ -140,10 +140,10 @@ module _ (s : Bytes) (ps es fs ds : List ℕ) (a : Standing) (firsts : Firsts) (
   fs′ = take (a .faces) fs
 
   -- What `judge` is told
-  pub ready-laid : a .agree ≡ true → fit.Laid p ps′ es′ fs′ (a .occurring .functions) firsts
+  pub ready-laid : a .rows ≡ true → fit.Laid p ps′ es′ fs′ (a .occurring .functions) firsts
   ready-laid e =
       let laid = ready .laid in
-      let (xs, shapes) = is-some (faces p) (sym (laid .agree) ∙ e) in
+      let (xs, shapes) = is-some (faces p) (sym (laid .hasRows) ∙ e) in
       let nodes = ready-nodes (accept s) ps es fs ds a firsts ready e in
       record {
         accepted = laid .accepted;
@@ -160,14 +160,14 @@ module _ (s : Bytes) (ps es fs ds : List ℕ) (a : Standing) (firsts : Firsts) (
   -- What `seek` requires
   pub ready-seekable : (fixed : Fixed) (v : code.Place) (scratch : List ℕ) → fixed .functions ≡ a .occurring .functions
       → fixed .firsts ≡ firsts
-      → placeOf (maskRows ds) ≡ at (fixed .first) → IsRowOf v (a .agree) ds → length ps ≤ length scratch
+      → placeOf (maskRows ds) ≡ at (fixed .first) → IsRowOf v (a .rows) ds → length ps ≤ length scratch
       → Seekable ps′ es′ fs′ ds fixed (v .masks) scratch
   ready-seekable fixed v scratch f g first h room =
       record {
         grounded = record {
           problem = p;
-          laid = rw (f, g) (ready-laid (h .agrees));
-          tabled = ready-tables (accept s) ps es fs ds a firsts ready (h .agrees);
+          laid = rw (f, g) (ready-laid (h .someRows));
+          tabled = ready-tables (accept s) ps es fs ds a firsts ready (h .someRows);
           first = first;
           room = omega (arith, length-take-le (a .patterns) ps (ready .laid .patternsInside), ready .laid .patternsInside);
         };
@@ -176,17 +176,17 @@ module _ (s : Bytes) (ps es fs ds : List ℕ) (a : Standing) (firsts : Firsts) (
 
   module _ (place : code.Place) (n : ℕ) (above : 0 < n) (r : Searched) where
     -- "16 no such place"
-    pub answers-nowhere : (IsRowOf place (a .agree) ds → ⊥) → (AtPast place → ⊥) → Refuses 16 place r → Answers s place n r
+    pub answers-nowhere : (IsRowOf place (a .rows) ds → ⊥) → (AtPast place → ⊥) → Refuses 16 place r → Answers s place n r
     answers-nowhere f g h =
         refuses-answers s place n 16 r h
         (noSuchPlace p (ready .answer) above
-        (nothing-named p (ready .laid .accepted) ds (a .agree) (ready .laid .agree)
+        (nothing-named p (ready .laid .accepted) ds (a .rows) (ready .laid .hasRows)
         (ready-tables (accept s) ps es fs ds a firsts ready) place f g))
 
     -- Past the last there is nothing to find
     pub answers-past : AtPast place → Ended r → Answers s place n r
     answers-past h d =
-        let named = past-named p (ready .laid .accepted) ds (a .agree) (ready .laid .agree)
+        let named = past-named p (ready .laid .accepted) ds (a .rows) (ready .laid .hasRows)
         (ready-tables (accept s) ps es fs ds a firsts ready) in
         let w : valueOf (r .place) ≡ placeValue past = named (r .place) (d .place) .isValue in
         let e : hostReply r ≡ replyValue (end past) =
@@ -200,12 +200,12 @@ module _ (s : Bytes) (ps es fs ds : List ℕ) (a : Standing) (firsts : Firsts) (
         }
 
     -- From a row on
-    pub answers-row : IsRowOf place (a .agree) ds → Sought ps es fs ds a firsts (place .masks) n r → Answers s place n r
+    pub answers-row : IsRowOf place (a .rows) ds → Sought ps es fs ds a firsts (place .masks) n r → Answers s place n r
     answers-row h d =
-        let (r₀, m, e, named) = row-named p (ready .laid .accepted) ds (a .agree) (ready .laid .agree) tables place h in
+        let (r₀, m, e, named) = row-named p (ready .laid .accepted) ds (a .rows) (ready .laid .hasRows) tables place h in
         let (before, later, split) = mem-split r₀ (rows p) m in
         let listed : maskRows ds ≡ map masksOf before ++ (place .masks ∷ map masksOf later) =
-        rows-listed p ds (ready .laid .accepted) (sym (ready .laid .agree) ∙ h .agrees) (tables (h .agrees))
+        rows-listed p ds (ready .laid .accepted) (sym (ready .laid .hasRows) ∙ h .someRows) (tables (h .someRows))
         ∙ ap (map masksOf) split ∙ map-append masksOf before (r₀ ∷ later)
         ∙ ap (λ (x : MaskRow). map masksOf before ++ (x ∷ map masksOf later)) (sym e) in
         let back = keeps-back masksOf (judged ps′ es′ fs′ (d .fixed)) (solves p) (r₀ ∷ later) (alike h d before later r₀ split)
@@ -219,14 +219,14 @@ module _ (s : Bytes) (ps es fs ds : List ℕ) (a : Standing) (firsts : Firsts) (
           leaves = told .leaves;
         }
       where
-        tables : a .agree ≡ true → Tabled p ds
+        tables : a .rows ≡ true → Tabled p ds
         tables = ready-tables (accept s) ps es fs ds a firsts ready
 
-        alike : IsRowOf place (a .agree) ds → (d : Sought ps es fs ds a firsts (place .masks) n r) → (before later : List Row) (r₀ : Row)
+        alike : IsRowOf place (a .rows) ds → (d : Sought ps es fs ds a firsts (place .masks) n r) → (before later : List Row) (r₀ : Row)
             → rows p ≡ before ++ (r₀ ∷ later) → (x : Row) → x ∈ r₀ ∷ later → judged ps′ es′ fs′ (d .fixed) (masksOf x) ≡ solves p x
         alike h d before later r₀ split x i =
             rw (d .functions, d .firstNodes)
-            (judged-solves p ps′ es′ fs′ (a .occurring .functions) firsts (ready-laid (h .agrees)) x
+            (judged-solves p ps′ es′ fs′ (a .occurring .functions) firsts (ready-laid (h .someRows)) x
             (subst (λ (l : List Row). x ∈ l) (sym split) (Memᴰ·append-right before i)))
 
 -- The answers of `from_place`
@@ -235,22 +235,22 @@ module _ (ps es fs ds : List ℕ) (a : Standing) (firsts : Firsts) (place : code
   unfolding Placed
   placed-zero e h s ready = refuses-answers s place n 15 r h (noAllowance (ready .problem) (ready .answer) e)
 
-  pub placed-nowhere : (n ≡ 0 → ⊥) → Tells place (a .agree) ds named.Nothing → Refuses 16 place r → Placed ps es fs ds a firsts place n r
+  pub placed-nowhere : (n ≡ 0 → ⊥) → Tells place (a .rows) ds named.Nothing → Refuses 16 place r → Placed ps es fs ds a firsts place n r
   unfolding Placed Tells
   placed-nowhere e t h s ready = answers-nowhere s ps es fs ds a firsts ready place n (positive n e) r (t .0) (t .1) h
 
-  pub placed-past : (n ≡ 0 → ⊥) → Tells place (a .agree) ds named.Past → Ended r → Placed ps es fs ds a firsts place n r
+  pub placed-past : (n ≡ 0 → ⊥) → Tells place (a .rows) ds named.Past → Ended r → Placed ps es fs ds a firsts place n r
   unfolding Placed Tells
   placed-past e t h s ready = answers-past s ps es fs ds a firsts ready place n (positive n e) r t h
 
-  pub placed-row : (n ≡ 0 → ⊥) → Tells place (a .agree) ds named.Row → Sought ps es fs ds a firsts (place .masks) n r
+  pub placed-row : (n ≡ 0 → ⊥) → Tells place (a .rows) ds named.Row → Sought ps es fs ds a firsts (place .masks) n r
       → Placed ps es fs ds a firsts place n r
   unfolding Placed Tells
   placed-row e t h s ready = answers-row s ps es fs ds a firsts ready place n (positive n e) r t h
 
-pub tells-is-row : (place : code.Place) (agree : Bool) (ds : List ℕ) → Tells place agree ds named.Row → IsRowOf place agree ds
+pub tells-is-row : (place : code.Place) (hasRows : Bool) (ds : List ℕ) → Tells place hasRows ds named.Row → IsRowOf place hasRows ds
 unfolding Tells
-tells-is-row place agree ds t = t
+tells-is-row place hasRows ds t = t
 
 -- What `search` learns of a prepared problem
 pub prepared-callable : (s ps es fs ds scratch : List ℕ) (r : Prepared) (a : Standing) → Prepares (accept s) ps es fs ds r
@@ -272,10 +272,10 @@ search-accepted s ps es fs ds place n p a r h e q = q s (prepared-accepted (acce
 
 -- What the calls of `from_row` require
 module _ (ps es fs ds : List ℕ) (a : Standing) (firsts : Firsts) (scratch : List ℕ) (h : Callable ps es fs ds a firsts scratch)
-    (place : code.Place) (row : IsRowOf place (a .agree) ds) where
+    (place : code.Place) (row : IsRowOf place (a .rows) ds) where
   pub callable-tables : Tables ds
   callable-tables =
-      tabled-tables (h .ready .problem) ds (ready-tables (accept (h .bytes)) ps es fs ds a firsts (h .ready) (row .agrees))
+      tabled-tables (h .ready .problem) ds (ready-tables (accept (h .bytes)) ps es fs ds a firsts (h .ready) (row .someRows))
 
   pub callable-seekable : (first : MaskRow) → placeOf (maskRows ds) ≡ at first
       → Seekable (take (a .patterns) ps) (take (a .expressions) es) (take (a .faces) fs) ds

@@ -42,7 +42,7 @@ fn from_row(
     ds: &[u64],
     scratch: &mut [u64],
 ) -> Searched
-    requires { ⌜ Callable (now ps) (now es) (now fs) (now ds) a firsts (now scratch) ⌝ ∗ ⌜ IsRowOf place (a .agree) (now ds) ⌝ }
+    requires { ⌜ Callable (now ps) (now es) (now fs) (now ds) a firsts (now scratch) ⌝ ∗ ⌜ IsRowOf place (a .rows) (now ds) ⌝ }
     ensures { λ r. ⌜ Sought (now (ps .entry)) (now (es .entry)) (now (fs .entry)) (now (ds .entry)) a firsts (place .masks) n r ⌝ }
 {
     let p = a.patterns;
@@ -76,7 +76,7 @@ fn from_place(
     if n == 0 {
         return refused(15, place);
     }
-    let named = named_by(place, a.agree, ds);
+    let named = named_by(place, a.rows, ds);
     match named {
         Named::Nothing => refused(16, place),
         Named::Past => ended(),

@@ -28,7 +28,7 @@ use Rattle.seeking.specs.declared.Searched.{Searched}
 abbrev pub judged : List ℕ → List ℕ → List ℕ → Fixed → MaskRow → Bool
 judged ps es fs fixed row = isSome (judgedAt ps es fs (fixed .functions) (fixed .firsts) row)
 
--- The tables are those of an accepted problem whose shapes agree, and the first row is theirs
+-- The tables are those of an accepted problem that has rows, and the first row is theirs
 pub record Grounded (ps es fs ds : List ℕ) (fixed : Fixed) (scratch : List ℕ) : Type 0 where
   pub problem : Problem
   pub laid : Laid problem ps es fs (fixed .functions) (fixed .firsts)

@@ -27,12 +27,12 @@ fn print_accepted(a: Standing) {
     print_number(a.patterns as u64);
     print(b" and ");
     print_number(a.expressions as u64);
-    print_rows(a.agree);
+    print_rows(a.rows);
     end_line();
 }
 
-fn print_rows(agree: bool) {
-    if agree {
+fn print_rows(rows: bool) {
+    if rows {
         print(b", rows");
     } else {
         print(b", no rows");

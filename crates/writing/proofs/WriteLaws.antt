@@ -66,7 +66,7 @@ module _ {es : List ℕ} {plan : Plan} where
 
 -- A prepared problem, and a row of it
 module _ (s : Bytes) (ps es fs ds : List ℕ) (a : Standing) (firsts : Firsts) (ready : Ready (accept s) ps es fs ds a firsts) (row : Place)
-    (h : IsRowOf row (a .agree) ds) where
+    (h : IsRowOf row (a .rows) ds) where
   abbrev p : Problem
   p = ready .problem
 
@@ -80,11 +80,11 @@ module _ (s : Bytes) (ps es fs ds : List ℕ) (a : Standing) (firsts : Firsts) (
   fs′ = take (a .faces) fs
 
   laid : Laid p ps′ es′ fs′ (a .occurring .functions) firsts
-  laid = ready-laid s ps es fs ds a firsts ready (h .agrees)
+  laid = ready-laid s ps es fs ds a firsts ready (h .someRows)
 
   isNamed : (r : Row) × (r ∈ rows p) × (row .masks ≡ masksOf r) × Names p (valueOf row) (at r)
   isNamed =
-      row-named p (ready .laid .accepted) ds (a .agree) (ready .laid .agree) (ready-tables (accept s) ps es fs ds a firsts ready) row h
+      row-named p (ready .laid .accepted) ds (a .rows) (ready .laid .hasRows) (ready-tables (accept s) ps es fs ds a firsts ready) row h
 
   abbrev row-of : RowOf p (row .masks)
   row-of = record { choices = isNamed .0; isRow = isNamed .1; masks = isNamed .2 }
@@ -195,37 +195,37 @@ module _ {ps es fs : List ℕ} {a : Standing} {firsts : Firsts} {row : Place} wh
 
 -- The returns of `write_named`
 module _ {ps es fs ds : List ℕ} {a : Standing} {firsts : Firsts} {row : Place} where
-  no-row : (s : Bytes) → Ready (accept s) ps es fs ds a firsts → (before : Bytes) → (IsRowOf row (a .agree) ds → ⊥)
+  no-row : (s : Bytes) → Ready (accept s) ps es fs ds a firsts → (before : Bytes) → (IsRowOf row (a .rows) ds → ⊥)
       → Writes s row before before (answers.Refused 16)
   no-row s ready before f =
       noSuchRow (ready .problem) (ready .answer)
-      (λ r n. f (named-row (ready .problem) (ready .laid .accepted) ds (a .agree) (ready .laid .agree)
+      (λ r n. f (named-row (ready .problem) (ready .laid .accepted) ds (a .rows) (ready .laid .hasRows)
       (ready-tables (accept s) ps es fs ds a firsts ready) row r n))
 
-  module _ (found : Named) (t : Tells row (a .agree) ds found) where
+  module _ (found : Named) (t : Tells row (a .rows) ds found) where
     pub named-nothing : {before : Bytes} → found ≡ named.Nothing → NamedWritten ps es fs ds a firsts row before before (answers.Refused 16)
     unfolding Tells
     named-nothing {before} e =
-        let u = subst (Tells row (a .agree) ds) e t in
+        let u = subst (Tells row (a .rows) ds) e t in
         record { answer = λ s ready. no-row s ready before (u .0) }
 
     -- "past the last included"
     pub named-past : {before : Bytes} → found ≡ named.Past → NamedWritten ps es fs ds a firsts row before before (answers.Refused 16)
     unfolding Tells
     named-past {before} e =
-        let u : AtPast row = subst (Tells row (a .agree) ds) e t in
+        let u : AtPast row = subst (Tells row (a .rows) ds) e t in
         record { answer = λ s ready. no-row s ready before (λ h. true≢false (sym (u .past) ∙ h .here)) }
 
     -- What `write_row` requires
     pub named-callable : {scratch : List ℕ} → found ≡ named.Row → Callable ps es fs ds a firsts scratch
         → RowCallable ps es fs a firsts row scratch
     unfolding Tells
-    named-callable e h = record { tables = ds; callable = h; isRow = subst (Tells row (a .agree) ds) e t }
+    named-callable e h = record { tables = ds; callable = h; isRow = subst (Tells row (a .rows) ds) e t }
 
     pub named-written : {before after : Bytes} {r : Written} → found ≡ named.Row → RowWritten ps es fs a firsts row before after r
         → NamedWritten ps es fs ds a firsts row before after r
     unfolding Tells
-    named-written e w = record { answer = λ s ready. w .answer s ds ready (subst (Tells row (a .agree) ds) e t) }
+    named-written e w = record { answer = λ s ready. w .answer s ds ready (subst (Tells row (a .rows) ds) e t) }
 
 -- The returns of `write`
 module _ (s ps es fs ds : List ℕ) (p : Prepared) (h : Prepares (accept s) ps es fs ds p) {row : Place} {before : Bytes} where

@@ -38,12 +38,12 @@ Writes s row before after r = WriteCall s (valueOf row) before (answerOf r) afte
 
 -- On a prepared problem: of a row of it, whatever its class tables, and of any row
 pub record RowWritten (ps es fs : List ℕ) (a : Standing) (firsts : Firsts) (row : Place) (before after : Bytes) (r : Written) : Type 0 where
-  pub answer : (s : Bytes) (ds : List ℕ) → Ready (accept s) ps es fs ds a firsts → IsRowOf row (a .agree) ds → Writes s row before after r
+  pub answer : (s : Bytes) (ds : List ℕ) → Ready (accept s) ps es fs ds a firsts → IsRowOf row (a .rows) ds → Writes s row before after r
 
 pub record RowCallable (ps es fs : List ℕ) (a : Standing) (firsts : Firsts) (row : Place) (scratch : List ℕ) : Type 0 where
   pub tables : List ℕ
   pub callable : Callable ps es fs tables a firsts scratch
-  pub isRow : IsRowOf row (a .agree) tables
+  pub isRow : IsRowOf row (a .rows) tables
 
 pub record NamedWritten (ps es fs ds : List ℕ) (a : Standing) (firsts : Firsts) (row : Place) (before after : Bytes) (r : Written) : Type 0
   where

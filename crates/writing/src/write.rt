@@ -93,7 +93,7 @@ fn write_named(
     ensures { λ r. ⌜ NamedWritten (now (ps .entry)) (now (es .entry)) (now (fs .entry)) (now (ds .entry)) a firsts row (now (out .entry))
         (now (out .exit)) r ⌝ }
 {
-    let named = named_by(row, a.agree, ds);
+    let named = named_by(row, a.rows, ds);
     match named {
         Named::Nothing => Written::Refused(16),
         Named::Past => Written::Refused(16),
