@@ -11,8 +11,9 @@
  *         if (answer == MATCHER_FOUND) { .. matcher_write(problem, len, row, MATCHER_PLACE_WORDS, ..) .. }
  *     } while (answer == MATCHER_FOUND || answer == MATCHER_PAUSED);
  *
- * Every function takes any bytes, words and buffers. It answers 0 or a number from 256 on, or else a refusal, 1 to 20 or 25; of several
- * that apply the first is given, in the order in which the function's description names them. After a refusal no buffer is changed.
+ * Every function takes any bytes, words and buffers. It answers 0 or a number from 256 on, or else a refusal, 1 to 20 but for 12, or 25;
+ * of several that apply the first is given, in the order in which the function's description names them. After a refusal no buffer is
+ * changed.
  * Every call takes the problem anew and keeps nothing, so that calls may run side by side; no memory is allocated.
  *
  * The caller owes what C cannot check: each pointer has as many elements as the length after it says (one, where there is none), is not
@@ -50,7 +51,9 @@ extern "C" {
 #define MATCHER_YES 256
 #define MATCHER_NO 257
 
-/* Refusals of a problem, by every function. The first that is met in reading is given, 1 to 11 or 25, and 12 to 14 after reading. */
+/* Refusals of a problem, by every function. The first that is met in reading is given, 1 to 11 or 25, and 13 and 14 after reading. 12 is
+   withdrawn: a problem in which a metavariable stands both as a function and alone is accepted, whatever it faces, and has no rows, so that
+   its search ends at once and no text passes. */
 #define MATCHER_PROBLEM_TOO_LONG 1         /* over 4,096 bytes */
 #define MATCHER_HEAD_CUT_OFF 2             /* only 1 or 2 bytes left where a field begins */
 #define MATCHER_LENGTH_PAST_END 3          /* a field's length past the enclosing end */
@@ -62,9 +65,8 @@ extern "C" {
 #define MATCHER_FUNCTION_IN_ARGUMENT 9     /* tag 6 in an argument */
 #define MATCHER_METAVARIABLE_OVER_31 10    /* a metavariable's number over 31 */
 #define MATCHER_TOO_MANY_CONSTRAINTS 11    /* a 17th constraint */
-#define MATCHER_BOTH_WAYS 12               /* a metavariable both as function and not */
 #define MATCHER_TOO_MANY_FUNCTIONS 13      /* over 8 functions */
-#define MATCHER_FACE_TOO_LARGE 14          /* a face over 64 nodes */
+#define MATCHER_FACE_TOO_LARGE 14          /* a face over 64 nodes, in a problem that has rows */
 #define MATCHER_SYMBOL_TOO_WIDE 25         /* a symbol's number below 65,536 in four bytes; met in reading, after 6 of the same field */
 
 /* Refusals of what else a function is given. */

@@ -6,10 +6,11 @@ use std::fmt;
 macro_rules! refusals {
     ($($name:ident = $number:literal, $words:literal;)*) => {
         /// Why a call is refused: document 01's table "Where each check is made", and 25 by its change T-05. A refused call
-        /// changes nothing.
+        /// changes nothing. No refusal has the number 12, which T-09 withdrew: a problem in which a metavariable stands both
+        /// as a function and alone is accepted, and has no solutions.
         ///
         /// Of several reasons that apply the first one met is given: a problem is read field by field from the front (1 to
-        /// 11 and 25), then looked at as a whole (12 to 14), and only then is what else the call was given.
+        /// 11 and 25), then looked at as a whole (13 and 14), and only then is what else the call was given.
         #[derive(Clone, Copy, Debug, PartialEq, Eq, Hash)]
         #[repr(u8)]
         pub enum Refusal {
@@ -42,7 +43,6 @@ refusals! {
     FunctionInArgument = 9, "a function application stands in an argument";
     MetavariableOver31 = 10, "a metavariable's number is over 31";
     TooManyConstraints = 11, "there is a 17th constraint";
-    BothWays = 12, "a metavariable stands both as a function and not";
     TooManyFunctions = 13, "there are over 8 functions";
     FaceTooLarge = 14, "a function's first application faces over 64 nodes";
     NoAllowance = 15, "the allowance is 0";
@@ -78,10 +78,10 @@ impl std::error::Error for Refusal {}
 mod tests {
     use super::Refusal;
 
-    /// The numbers are 1 to 20 and 25, and each leads back to its refusal.
+    /// The numbers are 1 to 20 without 12, and 25, and each leads back to its refusal.
     #[test]
     fn numbers_lead_back() {
-        let numbers: Vec<u32> = (1..=20).chain([25]).collect();
+        let numbers: Vec<u32> = (1..=11).chain(13..=20).chain([25]).collect();
         let refused: Vec<u32> = Refusal::ALL.iter().map(|refusal| refusal.number().into()).collect();
         assert_eq!(refused, numbers);
         for number in 0..300 {

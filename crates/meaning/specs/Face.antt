@@ -44,7 +44,8 @@ walk k n (cons l c s) (cons l′ c′ s′) =
 abbrev pub walkOf : Problem → Option (List Face)
 walkOf p = walk 0 0 (patterns p) (expressions p)
 
--- "If they disagree anywhere, the problem has no rows"; T-09, of a letter used both ways: "no rows; 14 isn't looked for in it"
+-- None where the problem has no rows: "If they disagree anywhere, the problem has no rows"; T-09, of a letter used both ways: "no
+-- solutions .. and so no rows; 14 isn't looked for in it"
 unfoldable pub faces : Problem → Option (List Face)
 faces p = guard (not (bothWays p)) (walkOf p)
 

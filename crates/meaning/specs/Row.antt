@@ -35,7 +35,7 @@ ChoiceEach p [] (c ∷ r) = ⊥
 ChoiceEach p (f ∷ fs) [] = ⊥
 ChoiceEach p (f ∷ fs) (c ∷ r) = Choice (placesOf p f) (faceOf p f) c × ChoiceEach p fs r
 
--- "If they disagree anywhere, the problem has no rows"
+-- "If they disagree anywhere, the problem has no rows"; T-09, of a letter used both ways: "no solutions .. and so no rows"
 pub record IsRow (p : Problem) (r : Row) : Type 0 where
   pub agree : isSome (faces p) ≡ true
   pub choice : ChoiceEach p (functions p) r

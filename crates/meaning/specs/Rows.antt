@@ -17,6 +17,7 @@ abbrev pub rowsOver : Problem → Option (List Face) → List Row
 rowsOver p none = []
 rowsOver p (some xs) = product (map (λ f. choices (placesOf p f) (faceOf p f)) (functions p))
 
--- "If they disagree anywhere, the problem has no rows"; "With no function and agreeing shapes there is one row, the empty one"
+-- "If they disagree anywhere, the problem has no rows", nor where it uses a letter both ways (T-09); "With no function and agreeing shapes
+-- there is one row, the empty one"
 unfoldable pub rows : Problem → List Row
 rows p = rowsOver p (faces p)

@@ -1,5 +1,6 @@
 //! Damaged problems: every entry point gives the refusal that the second implementation gives, and changes nothing.
 
+use crate::features::{self, BOTH_WAYS};
 use crate::generate::{self, Made};
 use crate::lists;
 use crate::random::Random;
@@ -13,7 +14,8 @@ use std::ops::Range;
 pub fn random(subject: &dyn Subject, seeds: Range<u64>) -> Result<Tally, String> {
     each_seed(seeds, |random, tally| {
         let made = generate::problem(random);
-        compare(subject, &damaged(random, made), tally)
+        let bytes = damaged(random, made, tally);
+        compare(subject, &bytes, tally)
     })
 }
 
@@ -73,14 +75,14 @@ fn everywhere(subject: &dyn Subject, problem: &[u8], refusal: u32) -> Result<(),
 }
 
 /// The bytes of the problem with one fault or more, most often.
-fn damaged(random: &mut Random, mut made: Made) -> Vec<u8> {
+fn damaged(random: &mut Random, mut made: Made, tally: &mut Tally) -> Vec<u8> {
     match random.below(5) {
         0 => {
             misplace(random, &mut made);
             tree::problem(&made.constraints)
         }
         1 => {
-            crowd(random, &mut made);
+            crowd(random, &mut made, tally);
             tree::problem(&made.constraints)
         }
         2 => bend(random, tree::problem(&made.constraints)),
@@ -93,7 +95,8 @@ fn damaged(random: &mut Random, mut made: Made) -> Vec<u8> {
     }
 }
 
-/// Puts a term where it may not stand (8, 9), too deep (5), or with a number or use that it may not have (10, 12).
+/// Puts a term where it may not stand (8, 9), too deep (5), or with a number that it may not have (10); or uses a letter
+/// both ways, which is no fault.
 fn misplace(random: &mut Random, made: &mut Made) {
     let k = random.below(made.constraints.len());
     let (pattern, expression) = &mut made.constraints[k];
@@ -111,8 +114,9 @@ fn misplace(random: &mut Random, made: &mut Made) {
     };
 }
 
-/// Makes too many constraints (11), too long a problem (1), too many functions (13) or too large a face (14).
-fn crowd(random: &mut Random, made: &mut Made) {
+/// Makes too many constraints (11), too long a problem (1), too many functions (13) or too large a face (14), which is no
+/// fault beside a letter used both ways.
+fn crowd(random: &mut Random, made: &mut Made, tally: &mut Tally) {
     let symbol = || Tree::Symbol(1);
     match random.below(4) {
         0 => {
@@ -134,6 +138,9 @@ fn crowd(random: &mut Random, made: &mut Made) {
             let call = Tree::Call(random.below(32) as u8, Box::new(Tree::Symbol(9)));
             let many = (0..n).map(|k| Tree::Symbol(k as u32)).collect();
             made.constraints.insert(0, (call, Tree::Apply(many)));
+            if n > 63 && features::has(made, BOTH_WAYS) {
+                tally.count("a large face beside a letter used both ways");
+            }
         }
     }
 }

@@ -8,7 +8,7 @@ use std::collections::BTreeSet;
 type Feature = (&'static str, fn(&Made) -> bool);
 
 /// All that the random problems must have, each often.
-pub const FEATURES: [Feature; 9] = [
+pub const FEATURES: [Feature; 10] = [
     ("several constraints", |made| made.constraints.len() > 1),
     ("several functions", |made| distinct(calls(made)) > 1),
     ("a function applied again", |made| {
@@ -35,7 +35,19 @@ pub const FEATURES: [Feature; 9] = [
         let low_halves: BTreeSet<u32> = symbols.iter().map(|s| s % FIRST_WIDE).collect();
         low_halves.len() < symbols.len()
     }),
+    (BOTH_WAYS, |made| {
+        let metas = metas(made);
+        calls(made).iter().any(|m| metas.contains(m))
+    }),
 ];
+
+/// What T-09 is about.
+pub const BOTH_WAYS: &str = "a letter used both ways";
+
+/// Whether a problem has a feature.
+pub fn has(made: &Made, feature: &str) -> bool {
+    FEATURES.iter().any(|(name, has)| *name == feature && has(made))
+}
 
 /// The first number of a symbol that has four bytes.
 const FIRST_WIDE: u32 = 65_536;

@@ -4,7 +4,8 @@
 //! problems a name is caught on the way, or a node is changed after it, so that near misses come up as often as solutions.
 //! Letters are few, so that subterms are equal, functions come again and bound names shadow each other. In two of three
 //! problems symbols have numbers near the limits of two and four bytes, most often of both widths, many with the same low
-//! half.
+//! half. In one of four problems that have a function, one of the functions may stand alone too (T-09): then the filling has
+//! both a body and a value for it.
 
 use crate::random::Random;
 use crate::tree::{Entry, Tree};
@@ -107,7 +108,10 @@ impl<'r> Maker<'r> {
                 .collect()
         };
         let functions = draw(random, style.functions);
-        let plain = draw(random, style.plain);
+        let mut plain = draw(random, style.plain);
+        if !functions.is_empty() && random.once_in(4) {
+            plain.push(*random.pick(&functions));
+        }
         let widths = (!random.once_in(3)).then(|| random.below(widths(0).len()));
         Maker {
             random,
@@ -233,10 +237,10 @@ impl<'r> Maker<'r> {
                 let inner = [scope, &[(*v, number)]].concat();
                 Tree::Bind(*b, number, Box::new(self.fill(body, filling, &inner, argument)))
             }
-            Tree::Meta(m) => self.fill(&given(filling, *m), filling, &[], None),
+            Tree::Meta(m) => self.fill(value(filling, *m), filling, &[], None),
             Tree::Call(m, t) => {
                 let argument = self.fill(t, filling, scope, None);
-                self.fill(&given(filling, *m), filling, &[], Some(&argument))
+                self.fill(body(filling, *m), filling, &[], Some(&argument))
             }
             Tree::Hole => argument.expect("holes stand in bodies").clone(),
         }
@@ -284,13 +288,22 @@ fn widths(k: u32) -> [[u32; 2]; 4] {
     ]
 }
 
-/// What the filling gives a metavariable.
-fn given(filling: &[Entry], m: u8) -> Tree {
+/// What the filling gives a metavariable where it stands alone.
+fn value(filling: &[Entry], m: u8) -> &Tree {
     let of = filling.iter().find_map(|entry| match entry {
-        Entry::Value(n, term) | Entry::Body(n, term) if *n == m => Some(term.clone()),
+        Entry::Value(n, term) if *n == m => Some(term),
         _ => None,
     });
-    of.expect("the filling has every metavariable")
+    of.expect("the filling has a value for each that stands alone")
+}
+
+/// What it gives a metavariable where it stands as a function.
+fn body(filling: &[Entry], m: u8) -> &Tree {
+    let of = filling.iter().find_map(|entry| match entry {
+        Entry::Body(n, term) if *n == m => Some(term),
+        _ => None,
+    });
+    of.expect("the filling has a body for each function")
 }
 
 fn variables(term: &Tree, to: &mut BTreeSet<u16>) {

@@ -107,8 +107,8 @@ fn count(read: &Problem, solutions: &[Solution], tally: &mut Tally) {
         1 => tally.count("one solution"),
         _ => tally.count("several solutions"),
     }
-    if !read.shapes_agree() {
-        tally.count("shapes that disagree");
+    if !read.has_rows() {
+        tally.count("no rows");
     }
     if solutions.iter().any(|s| opens(&s.text)) {
         tally.count("an open metavariable");

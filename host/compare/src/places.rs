@@ -58,6 +58,10 @@ impl Known<'_> {
         if !self.rows.is_empty() && !random.once_in(8) {
             place = words(random.pick(&self.rows));
         }
+        if self.rows.is_empty() && random.once_in(2) {
+            // no holes: a row of every problem that has rows
+            place = [0; PLACE_WORDS];
+        }
         if !self.solutions.is_empty() && random.once_in(3) {
             place = words(&random.pick(&self.solutions).row);
         }

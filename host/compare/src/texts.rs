@@ -1,5 +1,6 @@
 //! Texts: the checker says yes, no or refused as the second implementation does.
 
+use crate::features::{self, BOTH_WAYS};
 use crate::generate::{self, Made};
 use crate::lists::MOST_ROWS;
 use crate::random::Random;
@@ -21,7 +22,10 @@ pub fn random(subject: &dyn Subject, seeds: Range<u64>) -> Result<Tally, String>
         let Ok(read) = Problem::read(&problem) else {
             return Ok(());
         };
-        let fillings = fillings(random, &made, &read);
+        if features::has(&made, BOTH_WAYS) {
+            tally.add(BOTH_WAYS, TEXTS);
+        }
+        let fillings = fillings(random, &made, listed(&problem, &read));
         fillings
             .into_iter()
             .try_for_each(|filling| compare(subject, &problem, &read, &changed(random, filling, tally), tally))
@@ -60,18 +64,36 @@ fn compare(
     Ok(())
 }
 
+/// The solutions of the problem; of one that uses a letter both ways, what would be solutions if the letter that stands
+/// alone were another one: such a letter has a body and a value there.
+fn listed(problem: &[u8], read: &Problem) -> Vec<Vec<Entry>> {
+    let letters = tree::both_ways(problem);
+    if letters.is_empty() {
+        return solutions(read);
+    }
+    let mut fillings = Problem::read(&tree::apart(problem, &letters)).map_or(vec![], |apart| solutions(&apart));
+    for number in fillings.iter_mut().flatten().map(Entry::number_mut) {
+        if let Some((m, _)) = letters.iter().find(|(_, other)| other == number) {
+            *number = *m;
+        }
+    }
+    fillings
+}
+
+fn solutions(read: &Problem) -> Vec<Vec<Entry>> {
+    let listed = read.rows(MOST_ROWS).and_then(|_| read.solutions(MOST_ROWS));
+    let texts = listed.unwrap_or_default().into_iter().map(|solution| solution.text);
+    texts.map(|text| tree::read_text(&text)).collect()
+}
+
 /// Fillings that are solutions, or were meant to be one.
-fn fillings(random: &mut Random, made: &Made, read: &Problem) -> Vec<Vec<Entry>> {
-    let listed = read
-        .rows(MOST_ROWS)
-        .and_then(|_| read.solutions(MOST_ROWS))
-        .unwrap_or_default();
+fn fillings(random: &mut Random, made: &Made, listed: Vec<Vec<Entry>>) -> Vec<Vec<Entry>> {
     (0..TEXTS)
         .map(|_| {
             if listed.is_empty() || random.once_in(4) {
                 made.filling.clone()
             } else {
-                tree::read_text(&random.pick(&listed).text)
+                random.pick(&listed).clone()
             }
         })
         .collect()
@@ -106,7 +128,7 @@ fn change(random: &mut Random, entries: &mut Vec<Entry>) {
         0 => entries.rotate_left(k),
         1 => drop(entries.remove(k)),
         2 => entries.insert(k, entries[k].clone()),
-        3 => *number(&mut entries[k]) = random.between(0, 33) as u8,
+        3 => *entries[k].number_mut() = random.between(0, 33) as u8,
         4 => entries[k] = another_kind(random, &entries[k]),
         5 => {
             if let Some(term) = term(&mut entries[k]) {
@@ -118,12 +140,6 @@ fn change(random: &mut Random, entries: &mut Vec<Entry>) {
                 replace_node(random, term);
             }
         }
-    }
-}
-
-fn number(entry: &mut Entry) -> &mut u8 {
-    match entry {
-        Entry::Value(m, _) | Entry::Body(m, _) | Entry::Open(m) => m,
     }
 }
 
@@ -139,7 +155,7 @@ fn another_kind(random: &mut Random, entry: &Entry) -> Entry {
         Entry::Value(_, term) | Entry::Body(_, term) => term.clone(),
         Entry::Open(_) => Tree::Symbol(0),
     };
-    let m = *number(&mut entry.clone());
+    let m = *entry.clone().number_mut();
     match random.below(3) {
         0 => Entry::Value(m, term),
         1 => Entry::Body(m, term),

@@ -135,6 +135,13 @@ impl Entry {
             Entry::Open(m) => field(11, &[*m]),
         }
     }
+
+    /// The number of its metavariable, to be changed.
+    pub fn number_mut(&mut self) -> &mut u8 {
+        match self {
+            Entry::Value(m, _) | Entry::Body(m, _) | Entry::Open(m) => m,
+        }
+    }
 }
 
 /// The fields of a text that was written as one.
@@ -208,4 +215,24 @@ pub fn spell_wide(random: &mut Random, bytes: &mut [u8]) -> bool {
     let at = *random.pick(&wide);
     bytes[at..at + 2].fill(0);
     true
+}
+
+/// The letters that an accepted problem uses both ways, each with another that does not occur, as long as there are any.
+pub fn both_ways(problem: &[u8]) -> Vec<(u8, u8)> {
+    let heads = heads(problem);
+    let stands = |tag: u8, m: u8| heads.iter().any(|at| problem[*at] == tag && problem[*at + 3] == m);
+    let both = (0..32).filter(|m| stands(5, *m) && stands(6, *m));
+    let others = (0..32).filter(|m| !stands(5, *m) && !stands(6, *m));
+    both.zip(others).collect()
+}
+
+/// The problem with the other letter wherever such a letter stands alone.
+pub fn apart(problem: &[u8], letters: &[(u8, u8)]) -> Vec<u8> {
+    let mut bytes = problem.to_vec();
+    for at in heads(problem).into_iter().filter(|at| problem[*at] == 5) {
+        if let Some((_, other)) = letters.iter().find(|(m, _)| *m == problem[at + 3]) {
+            bytes[at + 3] = *other;
+        }
+    }
+    bytes
 }

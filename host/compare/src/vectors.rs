@@ -62,7 +62,7 @@ fn problem_verdict(input: &[u8]) -> String {
     match Problem::read(input) {
         Err(refusal) => format!("refused {refusal}"),
         Ok(read) => {
-            let rows = if read.shapes_agree() { "rows" } else { "no rows" };
+            let rows = if read.has_rows() { "rows" } else { "no rows" };
             format!(
                 "accepted, nodes {} and {}, {rows}",
                 read.pattern_nodes(),

@@ -49,11 +49,19 @@ pub enum Wrong {
     ComparesLowHalves,
     /// Writes every symbol in two bytes.
     WritesLowHalves,
+    /// Refuses a problem that uses a letter both ways, by 12.
+    RefusesBothWays,
+    /// Lists what such a problem would have if the letter that stands alone were another one.
+    ListsBothWays,
+    /// Looks for 14 in such a problem.
+    LooksForFourteen,
+    /// Passes a text that gives such a letter a body and a value.
+    PassesBothWays,
 }
 
 impl Wrong {
     /// All of them.
-    pub const ALL: [Wrong; 21] = [
+    pub const ALL: [Wrong; 25] = [
         Wrong::Refuses,
         Wrong::Ends,
         Wrong::EndsAtOnce,
@@ -75,6 +83,10 @@ impl Wrong {
         Wrong::TakesAnyWidth,
         Wrong::ComparesLowHalves,
         Wrong::WritesLowHalves,
+        Wrong::RefusesBothWays,
+        Wrong::ListsBothWays,
+        Wrong::LooksForFourteen,
+        Wrong::PassesBothWays,
     ];
 }
 
@@ -92,6 +104,41 @@ fn low_halves(problem: &[u8]) -> Vec<u8> {
         }
     }
     bytes
+}
+
+/// The letters that an accepted problem uses both ways, each with another one; of any other bytes none.
+fn both_ways(problem: &[u8]) -> Vec<(u8, u8)> {
+    if Proved.start(problem, &mut [0; PLACE_WORDS]) == OK {
+        tree::both_ways(problem)
+    } else {
+        vec![]
+    }
+}
+
+/// The problem as if such a letter, where it stands alone, were another one; any other bytes as they are.
+fn apart(problem: &[u8]) -> Vec<u8> {
+    match &both_ways(problem)[..] {
+        [] => problem.to_vec(),
+        letters => tree::apart(problem, letters),
+    }
+}
+
+/// Whether 14 would be met then.
+fn faces_too_much(problem: &[u8]) -> bool {
+    Proved.start(&apart(problem), &mut [0; PLACE_WORDS]) == 14
+}
+
+/// Whether a well-formed text would pass then, its values and open fields being those of the other letter.
+fn passes_apart(problem: &[u8], text: &[u8]) -> bool {
+    let letters = both_ways(problem);
+    let mut entries = tree::read_text(text);
+    for entry in entries.iter_mut().filter(|entry| !matches!(entry, Entry::Body(..))) {
+        let number = entry.number_mut();
+        if let Some((_, other)) = letters.iter().find(|(m, _)| m == number) {
+            *number = *other;
+        }
+    }
+    raw::check(&apart(problem), &tree::text(&entries)) == YES
 }
 
 /// A written text with the low half of every symbol, in two bytes.
@@ -114,9 +161,14 @@ fn narrow(term: &mut Tree) {
 
 impl Subject for Wrong {
     fn start(&self, problem: &[u8], place: &mut [u64]) -> u32 {
-        let answer = Proved.start(problem, place);
+        let answer = match self {
+            Wrong::ListsBothWays => Proved.start(&apart(problem), place),
+            _ => Proved.start(problem, place),
+        };
         match self {
             Wrong::Refuses => 4,
+            Wrong::RefusesBothWays if !both_ways(problem).is_empty() => 12,
+            Wrong::LooksForFourteen if faces_too_much(problem) => 14,
             Wrong::Ends if answer == OK => {
                 place.copy_from_slice(&PAST);
                 OK
@@ -136,6 +188,7 @@ impl Subject for Wrong {
         };
         let answer = match self {
             Wrong::ComparesLowHalves => Proved.search(&low_halves(problem), place, row, allowed),
+            Wrong::ListsBothWays => Proved.search(&apart(problem), place, row, allowed),
             _ => Proved.search(problem, place, row, allowed),
         };
         match self {
@@ -168,7 +221,10 @@ impl Subject for Wrong {
 
     fn write(&self, problem: &[u8], row: &[u64], out: &mut [u8], written: &mut u64) -> u32 {
         let before = out.to_vec();
-        let answer = Proved.write(problem, row, out, written);
+        let answer = match self {
+            Wrong::ListsBothWays => Proved.write(&apart(problem), row, out, written),
+            _ => Proved.write(problem, row, out, written),
+        };
         let length = *written as usize;
         match self {
             Wrong::Refuses => 4,
@@ -214,6 +270,7 @@ impl Subject for Wrong {
             Wrong::Ends | Wrong::PassesNone if answer == YES => NO,
             Wrong::PassesAll if answer == NO => YES,
             Wrong::ReadsAnyText if answer == 20 => NO,
+            Wrong::PassesBothWays if answer == NO && passes_apart(problem, text) => YES,
             _ => answer,
         }
     }

@@ -1,4 +1,4 @@
-//! Document 01's examples, and one of T-05, worked out by hand: what the proved matcher lists, and what the second
+//! Document 01's examples, and those of T-05 and T-09, worked out by hand: what the proved matcher lists, and what the second
 //! implementation lists.
 
 use compare::tree::{self, Entry, Tree};
@@ -236,7 +236,6 @@ fn limits() {
     refused(&[(meta(X), deep(33))], Refusal::TooDeep);
     lists(&vec![(meta(X), s(1)); 16], &[vec![value(X, s(1))]]);
     refused(&vec![(meta(X), s(1)); 17], Refusal::TooManyConstraints);
-    refused(&[(call(P, meta(P)), s(1))], Refusal::BothWays);
     refused(&[(call(P, call(Q, meta(X))), s(1))], Refusal::FunctionInArgument);
 }
 
@@ -258,4 +257,46 @@ fn both_widths() {
     }
     assert_eq!(Problem::new(&bytes), Err(Refusal::SymbolTooWide));
     assert_eq!(second::Problem::read(&bytes).err(), Some(25));
+}
+
+/// T-09: a rule in which P stands both as a function and alone fits nothing, and no text passes.
+#[test]
+fn a_letter_both_ways() {
+    let large = Tree::Apply((1..65).map(s).collect());
+    let itself = (call(P, meta(P)), s(1));
+    let problems = [
+        vec![itself.clone()],
+        vec![(call(P, meta(X)), s(1)), (meta(P), s(1))],
+        vec![(
+            Tree::Apply(vec![call(P, meta(Q)), call(Q, s(1))]),
+            Tree::Apply(vec![s(1), s(1)]),
+        )],
+        // 14 is not looked for in it
+        vec![(call(Q, meta(X)), large.clone()), itself.clone()],
+        vec![itself, (call(Q, meta(X)), large)],
+    ];
+    let texts = [
+        vec![],
+        vec![body(P, hole())],
+        vec![body(P, s(1))],
+        vec![value(P, s(1))],
+        vec![Entry::Open(P)],
+        vec![body(P, hole()), value(P, s(1))],
+        vec![value(P, s(1)), body(P, hole())],
+        vec![body(P, s(1)), Entry::Open(P)],
+    ];
+    for problem in &problems {
+        lists(problem, &[]);
+        let bytes = tree::problem(problem);
+        for text in &texts {
+            let text = tree::text(text);
+            assert_eq!(Problem::new(&bytes).and_then(|p| p.check(&text)), Ok(false));
+            assert_eq!(second::Problem::read(&bytes).and_then(|p| p.check(&text)), Ok(false));
+        }
+    }
+    let nine: Vec<Tree> = (0..9).map(|m| call(m, meta(P))).collect();
+    refused(
+        &[(Tree::Apply(nine), Tree::Apply(vec![s(1); 9]))],
+        Refusal::TooManyFunctions,
+    );
 }

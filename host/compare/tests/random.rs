@@ -1,7 +1,7 @@
 //! Random problems, calls, bytes, texts and places: the proved matcher answers as the second implementation does, and every
 //! kind of case comes up often enough to say something.
 
-use compare::features::FEATURES;
+use compare::features::{BOTH_WAYS, FEATURES};
 use compare::report::Tally;
 use compare::subject::Proved;
 use compare::{calls, damage, lists, places, texts};
@@ -22,7 +22,7 @@ fn whole_lists_agree() {
         ("no solution", 3_000),
         ("one solution", 3_000),
         ("several solutions", 3_000),
-        ("shapes that disagree", 500),
+        ("no rows", 3_000),
         ("an open metavariable", 3_000),
     ];
     cases.extend(FEATURES.iter().map(|(feature, _)| (*feature, 2_000)));
@@ -44,9 +44,10 @@ fn lists_of_calls_agree() {
 
 #[test]
 fn damaged_problems_agree() {
-    let refusals = (1..=14).chain([25]);
+    let refusals = (1..=11).chain([13, 14, 25]);
     let mut cases: Vec<(String, usize)> = refusals.map(|refusal| (format!("refused {refusal}"), 50)).collect();
     cases.push(("problems".to_string(), 3_000));
+    cases.push(("a large face beside a letter used both ways".to_string(), 50));
     let cases: Vec<(&str, usize)> = cases.iter().map(|(case, least)| (&case[..], *least)).collect();
     met(damage::random(&Proved, 200_000..230_000), &cases);
 }
@@ -59,6 +60,7 @@ fn checked_texts_agree() {
         ("refused 19", 50),
         ("refused 20", 1_000),
         ("spelled too wide", 500),
+        (BOTH_WAYS, 2_000),
     ];
     met(texts::random(&Proved, 300_000..305_000), &cases);
 }

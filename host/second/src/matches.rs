@@ -40,7 +40,8 @@ struct Challenge {
 }
 
 /// The bodies of all solutions, or nothing if there are more than the limit.
-/// A function with a fixed body is tried with no other.
+/// A function with a fixed body is tried with no other. No metavariable of the
+/// constraints is used both ways.
 pub fn matches(constraints: &[Constraint], fixed: &Bodies, limit: usize) -> Option<Vec<Bodies>> {
     let mut agenda = vec![Challenge::new(constraints)];
     let mut found = Vec::new();

@@ -4,6 +4,10 @@
 //! its 25: "a problem refused so isn't accepted". Document 01: "A row is a
 //! solution row if some solution has these bodies; that solution is then the
 //! only one, up to bound names."
+//!
+//! T-09 withdraws 12. A problem in which a letter stands both as a function and
+//! alone "has by definition no solutions", "and so no rows; 14 isn't looked for
+//! in it".
 
 use crate::faces::{faces, Face};
 use crate::matches::{matches, Bodies};
@@ -34,28 +38,29 @@ pub struct Problem {
     metas: BTreeSet<Meta>,
     /// Those of them that are functions.
     functions: BTreeSet<Meta>,
-    /// What stands outside arguments with what it faces, if shapes agree.
+    /// Whether one of these stands alone too.
+    both_ways: bool,
+    /// What stands outside arguments with what it faces, if there are rows.
     faces: Option<Vec<Face>>,
 }
 
 impl Problem {
-    /// Reads a problem. A refusal is one of document 01's numbers 1 to 14, or
-    /// T-05's 25.
+    /// Reads a problem. A refusal is one of document 01's numbers 1 to 14, of
+    /// which 12 is withdrawn, or T-05's 25.
     pub fn read(bytes: &[u8]) -> Result<Problem, u8> {
         let constraints = read::constraints(bytes)?;
         let patterns = || constraints.iter().flat_map(|c| c.pattern.nodes());
         let functions: BTreeSet<Meta> = patterns().filter_map(function).collect();
         let others: BTreeSet<Meta> = patterns().filter_map(metavariable).collect();
-        if !functions.is_disjoint(&others) {
-            return Err(BOTH_WAYS);
-        }
         if functions.len() > MAX_FUNCTIONS {
             return Err(TOO_MANY_FUNCTIONS);
         }
+        let both_ways = !functions.is_disjoint(&others);
         let problem = Problem {
             metas: &functions | &others,
             functions,
-            faces: faces(&constraints),
+            both_ways,
+            faces: if both_ways { None } else { faces(&constraints) },
             constraints,
         };
         let mut function_faces = problem.function_faces().into_iter().flatten();
@@ -76,9 +81,9 @@ impl Problem {
         self.constraints.iter().map(|c| c.expression.size()).sum()
     }
 
-    /// Whether each pattern agrees with its expression down to the
-    /// metavariables.
-    pub fn shapes_agree(&self) -> bool {
+    /// Whether the problem has rows: no letter is used both ways, and each
+    /// pattern agrees with its expression down to the metavariables.
+    pub fn has_rows(&self) -> bool {
         self.faces.is_some()
     }
 
@@ -115,7 +120,15 @@ impl Problem {
 
     /// The full list: all solution rows in order, each with its solution's
     /// text. Nothing when there are more than the limit.
+    ///
+    /// A letter used both ways is not left to the procedure, which has no case
+    /// for it. Document 000, of its case 4: "the same results could be
+    /// accomplished by scanning the pattern once, before the algorithm is
+    /// invoked".
     pub fn solutions(&self, limit: usize) -> Option<Vec<Solution>> {
+        if self.both_ways {
+            return Some(Vec::new());
+        }
         let found = matches(&self.constraints, &Bodies::new(), limit)?;
         let mut rows: Vec<Row> = found.iter().filter_map(|bodies| self.row_of(bodies)).collect();
         rows.sort_by(row::row_order);
@@ -160,6 +173,11 @@ impl Problem {
     /// The functions among them.
     pub(crate) fn function_metas(&self) -> &BTreeSet<Meta> {
         &self.functions
+    }
+
+    /// Whether some metavariable stands both as a function and alone.
+    pub(crate) fn both_ways(&self) -> bool {
+        self.both_ways
     }
 
     /// Each function's face, which is that of its first application.

@@ -1,5 +1,6 @@
 //! The refusals, by document 01's table "Where each check is made", and 25 by
-//! request T-05.
+//! request T-05. Request T-09: "Refusal 12 is withdrawn and its number stays
+//! unused."
 
 /// 1: the input is over 4,096 bytes.
 pub const INPUT_TOO_LONG: u8 = 1;
@@ -23,9 +24,7 @@ pub const FUNCTION_IN_ARGUMENT: u8 = 9;
 pub const META_NUMBER: u8 = 10;
 /// 11: a 17th constraint.
 pub const TOO_MANY_CONSTRAINTS: u8 = 11;
-/// 12: a metavariable both as function and not.
-pub const BOTH_WAYS: u8 = 12;
-/// 13: over 8 functions.
+/// 13: over 8 functions, those included that stand alone too.
 pub const TOO_MANY_FUNCTIONS: u8 = 13;
 /// 14: a face over 64 nodes.
 pub const FACE_TOO_LARGE: u8 = 14;

@@ -67,6 +67,40 @@ fn open_just_where_no_hole_asks() {
 }
 
 #[test]
+fn nothing_fills_a_letter_used_both_ways() {
+    let itself = "?0{?0} = s5";
+    // Document 01's clauses would pass this one.
+    assert!(!says(itself, &["9 0 s5"]));
+    assert!(!says(itself, &["9 0 _", "8 0 s5"]));
+    assert!(!says(itself, &["8 0 s5", "9 0 _"]));
+    assert!(!says(itself, &["9 0 s5", "11 0"]));
+    assert!(!says(itself, &["9 0 _"]));
+    assert!(!says(itself, &["8 0 s5"]));
+    assert!(!says(itself, &["11 0"]));
+    assert!(!says(itself, &[]));
+    assert!(!says(itself, &["8 1 s5"]));
+}
+
+#[test]
+fn nothing_fills_a_letter_used_both_ways_far_apart() {
+    // In a later constraint.
+    let later = "?0{s5} = s5 ; ?0 = s5";
+    assert!(!says(later, &["9 0 _", "8 0 s5"]));
+    assert!(!says(later, &["9 0 s5"]));
+    assert!(!says(later, &["8 0 s5"]));
+    assert!(!says(later, &[]));
+    // In another function's argument; document 01's clauses would pass the
+    // first two.
+    let argument = "?0{s5} = s5 ; ?1{?0} = s6";
+    assert!(!says(argument, &["9 0 _", "9 1 s6"]));
+    assert!(!says(argument, &["9 0 s5", "9 1 s6"]));
+    assert!(!says(argument, &["9 0 _", "8 0 s6", "9 1 _"]));
+    assert!(!says(argument, &["11 0", "9 1 s6"]));
+    // The same with another letter.
+    assert!(says("?0{s5} = s5 ; ?1{?2} = s6", &["9 0 _", "9 1 s6", "11 2"]));
+}
+
+#[test]
 fn bound_names_are_free() {
     let text = "?0{?1} = [b0 v1 (s2 v1 s3)]";
     assert!(says(text, &["9 0 [b0 v8 (s2 v8 _)]", "8 1 s3"]));

@@ -1,4 +1,5 @@
-//! The examples of documents 01 and 001, and some with T-05's wide symbols.
+//! The examples of documents 01 and 001, and some with T-05's wide symbols and
+//! T-09's letters used both ways.
 //!
 //! Symbols: 0 to 5 and 9 are the digits, 10 `+`, 11 `=`, 12 `∧`, 13 `≠`, 14 `<`,
 //! 15 `→`, 16 `^`, 17 `-`, 18 the wrapper w, 19 `∨`, 20 `·`. Binder 0 is ∀ and
@@ -106,12 +107,12 @@ fn symbols_of_both_widths() {
 fn symbols_differ_by_their_whole_number() {
     // 65,541 and 131,077 have the low half 5, 65,536 and 65,541 the same high.
     for other in ["s5", "s131077", "s65536"] {
-        assert!(!problem(&format!("s65541 = {other}")).shapes_agree());
+        assert!(!problem(&format!("s65541 = {other}")).has_rows());
         assert_eq!(solutions(&format!("(?0 ?0) = (s65541 {other})")), [""; 0]);
         let only_the_body = format!("?0: ({other} {other})");
         assert_eq!(solutions(&format!("?0{{s65541}} = ({other} {other})")), [only_the_body]);
     }
-    assert!(problem("s65541 = s65541").shapes_agree());
+    assert!(problem("s65541 = s65541").has_rows());
     assert_eq!(solutions("(?0 ?0) = (s65541 s65541)"), ["?0: s65541"]);
     let below = "?0{s65541} = [b0 v1 (s5 s65541 v1)]";
     let expected = ["?0: [b0 v1 (s5 _ v1)]", "?0: [b0 v1 (s5 s65541 v1)]"];
@@ -277,19 +278,56 @@ fn the_lowest_hole_gives_the_value() {
 #[test]
 fn disagreeing_shapes_have_no_rows() {
     let shapes = problem("(s1 ?0{s2}) = (s3 s2)");
-    assert!(!shapes.shapes_agree());
+    assert!(!shapes.has_rows());
     assert_eq!(shapes.rows(0), Some(vec![]));
     assert_eq!(shapes.solutions(0), Some(vec![]));
     assert!(!shapes.is_row(&vec![Choice::new()]));
     assert_eq!(shapes.write(&vec![Choice::new()]), Err(16));
     assert_eq!(shapes.functions(), [0]);
-    let agree = |text| problem(text).shapes_agree();
+    let agree = |text| problem(text).has_rows();
     assert!(agree("[b0 v0 v0] = [b0 v1 v1]"));
     assert!(!agree("[b0 v0 v1] = [b0 v1 v1]"));
     assert!(!agree("[b0 v0 [b0 v1 v0]] = [b0 v0 [b0 v0 v0]]"));
     assert!(!agree("[b0 v0 v2] = [b0 v1 v3]"));
     assert!(!agree("[b0 v0 v2] = [b1 v0 v2]"));
     assert!(!agree("(s1 s2) = (s1 s2 s2)"));
+}
+
+/// T-09: "The example (P(P), a) prints `end 0`", so its list is empty.
+#[test]
+fn a_function_of_itself_has_the_empty_list() {
+    let itself = Problem::read(&hex("07000D 06000500 05000100 0100020001")).unwrap();
+    assert_eq!(itself.to_string(), "?0{?0} = s1");
+    assert_eq!(itself.solutions(0), Some(vec![]));
+    assert_eq!(itself.solutions(usize::MAX), Some(vec![]));
+    assert_eq!(itself.functions(), [0]);
+    assert_eq!(itself.metavariables(), [0]);
+    assert_eq!((itself.pattern_nodes(), itself.expression_nodes()), (2, 1));
+}
+
+/// Wherever the letter X stands: there are solutions where X is another letter
+/// than the function ?0, and none where it is ?0.
+#[test]
+fn a_letter_used_both_ways_fits_nothing() {
+    let texts = [
+        "?0{X} = s1",                                    // in its own argument
+        "?0{[b0 v1 (v1 X)]} = [b0 v2 (v2 s1)]",          // deep in it
+        "?0{s1} = s1 ; X = s1",                          // alone in a later constraint
+        "X = s1 ; ?0{s1} = s1",                          // alone in an earlier one
+        "(X ?0{s1}) = (s1 s1)",                          // beside it
+        "[b0 v1 (?0{v1} X)] = [b0 v1 (v1 s1)]",          // below the same binder
+        "?0{s2} = s1 ; ?1{X} = s1",                      // in another function's argument
+        "?1{(s1 X)} = s1 ; ?0{s2} = s2",                 // in one that no body can use
+        "?2 = s2 ; ?0{?2} = s2 ; s1 = s1 ; ?31{X} = s1", // far away
+        "?0{s1} = s1 ; ?0{X} = s1",                      // in a later application's argument
+    ];
+    for text in texts {
+        let [apart, both] = ["?9", "?0"].map(|letter| text.replace('X', letter));
+        assert_ne!(solutions(&apart), [""; 0], "{apart}");
+        assert_eq!(problem(&both).solutions(0), Some(vec![]), "{both}");
+    }
+    // Where shapes disagree there are none for either reason.
+    assert_eq!(problem("(s1 ?0{?0}) = s2").solutions(0), Some(vec![]));
 }
 
 #[test]

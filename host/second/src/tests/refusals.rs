@@ -1,4 +1,4 @@
-//! Refusals 1 to 14, 19, 20 and 25.
+//! Refusals 1 to 14 without 12, 19, 20 and 25.
 
 use super::notation::{bytes, hex, problem, term};
 use crate::encode;
@@ -150,12 +150,31 @@ fn refusal_11_a_17th_constraint() {
 }
 
 #[test]
-fn refusal_12_both_ways() {
-    assert_eq!(refusal_in("?0{?0} = s1"), 12);
-    assert_eq!(refusal_in("?0{s1} = s1 ; ?0 = s1"), 12);
-    // Whether shapes agree or not, and before 13.
-    assert_eq!(refusal_in("(s1 ?0{?0}) = s2"), 12);
-    assert_eq!(refusal_in(&format!("{} ; ?0 = s1", functions(9))), 12);
+fn refusal_12_is_withdrawn() {
+    assert_eq!(refusal_in("?0{?0} = s1"), 0);
+    assert_eq!(refusal_in("?0{s1} = s1 ; ?0 = s1"), 0);
+    assert_eq!(refusal_in("?0 = s1 ; ?1{?0} = s1 ; ?0{s1} = s1"), 0);
+    // Whether shapes agree or not.
+    assert_eq!(refusal_in("(s1 ?0{?0}) = s2"), 0);
+}
+
+#[test]
+fn a_letter_used_both_ways_hides_no_refusal_of_reading() {
+    let both = |after: &str| refusal(&[bytes("?0{?0} = s1"), hex(after)].concat());
+    assert_eq!(both(""), 0);
+    assert_eq!(refusal(&[bytes("?0{?0} = s1"), vec![0; 4096]].concat()), 1);
+    assert_eq!(both("07"), 2);
+    assert_eq!(both("070001"), 3);
+    assert_eq!(both("010000"), 4);
+    assert_eq!(refusal_in(&format!("?0{{?0}} = {}", nested(33, "s1"))), 5);
+    assert_eq!(both("070003 010000"), 6);
+    assert_eq!(both("070000"), 7);
+    assert_eq!(refusal_in("?0{?0} = ?0"), 8);
+    assert_eq!(refusal_in("?0{?0{?0}} = s1"), 9);
+    assert_eq!(refusal_in("?32{?32} = s1"), 10);
+    assert_eq!(refusal_in(&vec!["?0{?0} = s1"; 16].join(" ; ")), 0);
+    assert_eq!(refusal_in(&vec!["?0{?0} = s1"; 17].join(" ; ")), 11);
+    assert_eq!(both("07000C 0100020001 010004 0000FFFF"), 25);
 }
 
 /// A problem with so many functions.
@@ -173,8 +192,22 @@ fn refusal_13_too_many_functions() {
 }
 
 #[test]
+fn refusal_13_counts_functions_used_both_ways() {
+    assert_eq!(refusal_in(&format!("{} ; ?0 = s1", functions(9))), 13);
+    assert_eq!(refusal_in(&format!("{} ; ?8{{?8}} = s1", functions(8))), 13);
+    assert_eq!(refusal_in(&format!("{} ; ?0 = s1", functions(8))), 0);
+    // What stands alone only is no function.
+    assert_eq!(refusal_in(&format!("{} ; ?0{{?8}} = s1", functions(8))), 0);
+    assert_eq!(refusal_in(&format!("{} ; ?0{{(?0 ?8)}} = s1", functions(8))), 0);
+}
+
+/// An expression of so many nodes.
+fn face(nodes: usize) -> String {
+    format!("({})", vec!["s1"; nodes - 1].join(" "))
+}
+
+#[test]
 fn refusal_14_face_too_large() {
-    let face = |nodes: usize| format!("({})", vec!["s1"; nodes - 1].join(" "));
     let [fits, too_large] = [64, 65].map(face);
     assert_eq!(refusal_in(&format!("?0{{s1}} = {fits}")), 0);
     assert_eq!(refusal_in(&format!("?0{{s1}} = {too_large}")), 14);
@@ -188,15 +221,38 @@ fn refusal_14_face_too_large() {
 }
 
 #[test]
+fn refusal_14_is_not_looked_for_where_a_letter_is_used_both_ways() {
+    let too_large = face(65);
+    let another = format!("?1{{?2}} = {too_large}");
+    assert_eq!(refusal_in(&another), 14);
+    assert_eq!(refusal_in(&format!("{another} ; ?0{{?0}} = s1")), 0);
+    assert_eq!(refusal_in(&format!("?0{{?0}} = s1 ; {another}")), 0);
+    assert_eq!(refusal_in(&format!("{another} ; ?1 = s1")), 0);
+    assert_eq!(refusal_in(&format!("{another} ; ?2{{s1}} = s1")), 0);
+    assert_eq!(refusal_in(&format!("?0{{?0}} = {too_large}")), 0);
+    assert_eq!(
+        problem(&format!("{another} ; ?0{{?0}} = s1")).solutions(0),
+        Some(vec![])
+    );
+}
+
+/// A problem whose letter ?0 is used both ways; of it too, texts are read first.
+const BOTH_WAYS: &str = "?0{?1} = s1 ; ?0 = s1";
+
+#[test]
 fn refusal_19_text_too_long() {
-    let any = problem("?0 = s1");
-    assert_eq!(any.check(&[0; 8193]), Err(19));
-    assert_eq!(any.check(&[0; 8192]), Err(20));
+    for any in ["?0 = s1", BOTH_WAYS].map(problem) {
+        assert_eq!(any.check(&[0; 8193]), Err(19));
+        assert_eq!(any.check(&[0; 8192]), Err(20));
+        // However well-formed: 2,048 open metavariables, and one more.
+        let open = hex("0B000100").repeat(2048);
+        assert_eq!(any.check(&open), Ok(false));
+        assert_eq!(any.check(&[&open[..], &hex("0B000100")].concat()), Err(19));
+    }
 }
 
 #[test]
 fn refusal_20_bad_text() {
-    let any = problem("?0{?1} = s1");
     let faults = [
         "09",                              // a head that is cut
         "090005 00 0A0000",                // a length past the end
@@ -222,28 +278,31 @@ fn refusal_20_bad_text() {
         "090008 00 010004 00000001",       // 1 in four bytes
         "080008 01 020004 00010000",       // a variable of four bytes
     ];
-    for fault in faults {
-        assert_eq!(any.check(&hex(fault)), Err(20), "{fault}");
+    for any in ["?0{?1} = s1", BOTH_WAYS].map(problem) {
+        for fault in faults {
+            assert_eq!(any.check(&hex(fault)), Err(20), "{fault}");
+        }
+        // Both widths of a symbol are well-formed.
+        for good in ["080006 01 010002 FFFF", "080008 01 010004 00010000"] {
+            assert_eq!(any.check(&hex(good)), Ok(false), "{good}");
+        }
+        // A later field's fault counts, also where the earlier ones say no.
+        assert_eq!(any.check(&hex("0B0001 07 09")), Err(20));
+        assert_eq!(any.check(&hex("0B0001 07")), Ok(false));
     }
-    // Both widths of a symbol are well-formed.
-    for good in ["080006 01 010002 FFFF", "080008 01 010004 00010000"] {
-        assert_eq!(any.check(&hex(good)), Ok(false), "{good}");
-    }
-    // A later field's fault counts, also where the earlier ones say no.
-    assert_eq!(any.check(&hex("0B0001 07 09")), Err(20));
-    assert_eq!(any.check(&hex("0B0001 07")), Ok(false));
 }
 
 #[test]
 fn refusal_20_text_too_deep() {
-    let any = problem("?0{?1} = s1");
     for tag in [tag::VALUE, tag::BODY] {
         let field = |depth: usize| {
             let term = encode::term(&term(&nested(depth, "s1")));
             encode::field(tag, &[&[0], &term[..]].concat())
         };
-        assert_eq!(any.check(&field(32)), Ok(false));
-        assert_eq!(any.check(&field(33)), Err(20));
+        for any in ["?0{?1} = s1", BOTH_WAYS].map(problem) {
+            assert_eq!(any.check(&field(32)), Ok(false));
+            assert_eq!(any.check(&field(33)), Err(20));
+        }
     }
 }
 
@@ -283,25 +342,26 @@ fn narrowed(text: &str) -> Vec<u8> {
 fn refusal_25_before_what_is_met_later() {
     // With 65,536 as NUMBER the later fault shows.
     let faults = [
-        ("070008 010004 NUMBER 00", 2),                                  // the next head is cut
-        ("07000A 010004 NUMBER 010001", 3),                              // the next length is past the end
-        ("07000A 010004 NUMBER 070000", 4),                              // the next tag has no place
-        ("07000A 010004 NUMBER 010000", 6),                              // the next symbol has no number
-        ("070007 010004 NUMBER", 7),                                     // no expression
-        ("07000D 0100020001 010004 NUMBER 00", 7),                       // a byte left in the constraint
-        ("07000F 04000C 00000000 010004 NUMBER 00", 7),                  // a byte left in the binder
-        ("07000C 060009 00 010004 NUMBER 00", 7),                        // a byte left after the argument
-        ("07000B 010004 NUMBER 05000100", 8),                            // a metavariable as expression
-        ("070011 06000E 00 03000A 010004 NUMBER 060000", 9),             // a function in the argument
-        ("07000E 03000B 010004 NUMBER 05000120", 10),                    // a metavariable over 31
-        ("07000C 010004 NUMBER 0100020001 FF0000", 4),                   // a bad tag after the constraint
-        ("070017 03000F 010004 NUMBER 0600050005000100 0100020001", 12), // P(P)
+        ("070008 010004 NUMBER 00", 2),                      // the next head is cut
+        ("07000A 010004 NUMBER 010001", 3),                  // the next length is past the end
+        ("07000A 010004 NUMBER 070000", 4),                  // the next tag has no place
+        ("07000A 010004 NUMBER 010000", 6),                  // the next symbol has no number
+        ("070007 010004 NUMBER", 7),                         // no expression
+        ("07000D 0100020001 010004 NUMBER 00", 7),           // a byte left in the constraint
+        ("07000F 04000C 00000000 010004 NUMBER 00", 7),      // a byte left in the binder
+        ("07000C 060009 00 010004 NUMBER 00", 7),            // a byte left after the argument
+        ("07000B 010004 NUMBER 05000100", 8),                // a metavariable as expression
+        ("070011 06000E 00 03000A 010004 NUMBER 060000", 9), // a function in the argument
+        ("07000E 03000B 010004 NUMBER 05000120", 10),        // a metavariable over 31
+        ("07000C 010004 NUMBER 0100020001 FF0000", 4),       // a bad tag after the constraint
     ];
     for (fault, later) in faults {
         assert_eq!(refusal_of(&fault.replace("NUMBER", "00010000")), later, "{fault}");
         assert_eq!(refusal_of(&fault.replace("NUMBER", "0000FFFF")), 25, "{fault}");
     }
-    let large = format!("?0{{s4294967295}} = ({})", vec!["s1"; 64].join(" "));
+    let many = format!("{} ; s1 = s4294967295", functions(9));
+    assert_eq!((refusal_in(&many), refusal(&narrowed(&many))), (13, 25));
+    let large = format!("?0{{s4294967295}} = {}", face(65));
     assert_eq!((refusal_in(&large), refusal(&narrowed(&large))), (14, 25));
 }
 

@@ -52,6 +52,22 @@ fn rows_of_two_functions() {
 }
 
 #[test]
+fn a_letter_used_both_ways_leaves_no_rows() {
+    for text in ["?0{?0} = s1", "?0{s1} = s1 ; ?0 = s1", "?1{?0} = s1 ; ?0{s1} = s1"] {
+        let both = problem(text);
+        assert!(!both.has_rows());
+        assert_eq!((both.rows(0), both.row_count()), (Some(vec![]), Some(0)));
+        // No choice for a function, a choice without hole, and a hole at the root.
+        let functions = both.functions().len();
+        let choices = |choice| vec![choice; functions];
+        for row in [Row::new(), choices(Choice::new()), choices(Choice::from([0]))] {
+            assert!(!both.is_row(&row), "{text}");
+            assert_eq!(both.write(&row), Err(16), "{text}");
+        }
+    }
+}
+
+#[test]
 fn many_rows_are_only_counted() {
     let face = format!("({})", vec!["s1"; 63].join(" "));
     let functions: Vec<String> = (0..8).map(|i| format!("?{i}{{s1}} = {face}")).collect();
