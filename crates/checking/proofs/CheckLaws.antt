@@ -42,7 +42,7 @@ use Rattle.items.specs.Texts.{TextDone}
 use Rattle.items.specs.declared.TextRead.{TextRead}
 use Rattle.items.specs.declared.Answer.the-variants as reads
 use Rattle.checking.specs.Checking.{CheckedText, Decidable, Decided, FieldsJudged, Met, OpenJudged, Passed, Told, answerOf}
-use Rattle.checking.specs.Checking.{fieldsPass, saysOf}
+use Rattle.checking.specs.Checking.{constraintsPass, fieldsPass, saysOf}
 use Rattle.checking.specs.declared.Checked.{Checked}
 use Rattle.checking.specs.declared.Checked.the-variants as answers
 
@@ -146,13 +146,13 @@ module _ (ps es fs ts : List ℕ) (a : Standing) (s : Said) where
         sym (faceless p (said is) (is-none (faces p) (sym (d .laid .hasRows) ∙ not-true (a .rows) q)));
   }
 
-  module _ (rowful : not (a .rows) ≡ false) where
+  module _ (some-rows : not (a .rows) ≡ false) where
     -- What `filled` requires
     pub met-grounded : (holes scratch : List ℕ) → Decidable ps es fs ts a s holes scratch
         → Grounded (take (a .patterns) ps) (take (a .expressions) es) (take (a .faces) fs) ts s holes scratch
     met-grounded holes scratch d =
         let laid = d .decided .laid in
-        let (found, shapes) = is-some (faces (d .problem)) (sym (laid .hasRows) ∙ not-false (a .rows) rowful) in
+        let (found, shapes) = is-some (faces (d .problem)) (sym (laid .hasRows) ∙ not-false (a .rows) some-rows) in
         record {
           problem = d .problem;
           accepted = laid .accepted;
@@ -172,7 +172,7 @@ module _ (ps es fs ts : List ℕ) (a : Standing) (s : Said) where
     met-filled r e = record {
       judged = λ p is d.
           let laid = d .laid in
-          let (found, shapes) = is-some (faces p) (sym (laid .hasRows) ∙ not-false (a .rows) rowful) in
+          let (found, shapes) = is-some (faces p) (sym (laid .hasRows) ∙ not-false (a .rows) some-rows) in
           e ∙ ap₂ (λ (x y : List ℕ). filledAt x y (take (a .faces) fs) ts s) (laid .patterns) (laid .expressions)
           ∙ filled-means p (laid .accepted) (take (a .faces) fs) found (faces-walk p found shapes) (laid .recorded found shapes) ts is s
           (d .says)
@@ -202,26 +202,23 @@ module _ (ps es fs ts : List ℕ) (a : Standing) (s : Said) where
   decidable-told holes scratch d = decided-told (d .problem) (d .items) (d .decided)
 
   module _ (found : Bool) (h : FieldsJudged (take (a .patterns) ps) ts (a .occurring) s found) where
-    abbrev meant : Problem → List Item → Bool
-    meant p is = not (bothWays p) && meets p (said is)
-
-    parts : (p : Problem) (is : List Item) → Decided p is ps es fs ts a s → passes p is ≡ found && meant p is
+    parts : (p : Problem) (is : List Item) → Decided p is ps es fs ts a s → passes p is ≡ found && constraintsPass p is
     unfolding passes
     parts p is d =
         regroup (not (bothWays p)) (once is) (known p is) (kinds p (said is)) (openUnneeded p (said is)) (unneededOpen p (said is))
         (meets p (said is))
-        ∙ ap (λ (b : Bool). b && meant p is) (sym (h .judged p is (decided-told p is d)))
+        ∙ ap (λ (b : Bool). b && constraintsPass p is) (sym (h .judged p is (decided-told p is d)))
 
     pub passed-never : not found ≡ true → Passed ps es fs ts a s false
     passed-never q = record {
       judged = λ p is d.
-          sym (parts p is d ∙ ap (λ (b : Bool). b && meant p is) (not-true found q));
+          sym (parts p is d ∙ ap (λ (b : Bool). b && constraintsPass p is) (not-true found q));
     }
 
     pub passed-met : (r : Bool) → not found ≡ false → Met ps es fs ts a s r → Passed ps es fs ts a s r
     passed-met r q m = record {
       judged = λ p is d.
-          m .judged p is d ∙ sym (parts p is d ∙ ap (λ (b : Bool). b && meant p is) (not-false found q));
+          m .judged p is d ∙ sym (parts p is d ∙ ap (λ (b : Bool). b && constraintsPass p is) (not-false found q));
     }
 
 -- Yes or no

@@ -57,8 +57,12 @@ pub record Decidable (ps es fs ts : List ℕ) (a : Standing) (s : Said) (holes s
   pub bodyRoom : length ts ≤ length holes
   pub argumentRoom : length ps ≤ length scratch
 
+-- "each filled pattern equals its expression"; T-09, of a letter used both ways: "the checker says no to every well-formed text"
+abbrev pub constraintsPass : Problem → List Item → Bool
+constraintsPass p is = not (bothWays p) && meets p (said is)
+
 pub record Met (ps es fs ts : List ℕ) (a : Standing) (s : Said) (r : Bool) : Type 0 where
-  pub judged : (p : Problem) (is : List Item) → Decided p is ps es fs ts a s → r ≡ not (bothWays p) && meets p (said is)
+  pub judged : (p : Problem) (is : List Item) → Decided p is ps es fs ts a s → r ≡ constraintsPass p is
 
 pub record Passed (ps es fs ts : List ℕ) (a : Standing) (s : Said) (r : Bool) : Type 0 where
   pub judged : (p : Problem) (is : List Item) → Decided p is ps es fs ts a s → r ≡ passes p is

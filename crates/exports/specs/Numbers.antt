@@ -1,6 +1,6 @@
 -- Which numbers refusals have in C: `include/matcher.h` says "0 or a number from 256 on, or else a refusal, 1 to 20 but for 12, or
 -- 25", so that a program can tell them apart.
---   isRefusal      1 to 20, or 25; T-09: "Refusal 12 is withdrawn and its number stays unused"
+--   isRefusal      1 to 20 but for 12, or 25; T-09: "Refusal 12 is withdrawn and its number stays unused"
 --   Refuses        a refusal has such a number
 --   RefusesReply   the same of a search call's reply
 use mathlib.Core.Path.{_≡_}

@@ -19,6 +19,7 @@ use Rattle.meaning.specs.Read.{refused, got}
 use Rattle.meaning.specs.Accept.{overlarge, checkProblem}
 use Rattle.meaning.specs.Readable.{WithinLimits}
 use Rattle.meaning.proofs.Lists.{by-test, choose-true, choose-false}
+use Rattle.meaning.proofs.PlaceLaws.{not-large}
 use Rattle.tokens.specs.Token.{patternTokens, expressionTokens}
 use Rattle.faces.specs.declared.check.Checked.{Checked}
 use Rattle.faces.specs.declared.check.Checked.the-variants as checked
@@ -43,14 +44,6 @@ module _ (p : Problem) (w : WithinLimits p) where
       (ap
       (λ (o : Option (List Face)). isSome o && not
       (every (λ f. not (ltb maxFaceNodes (size (one (faceTerm (firstFace f (orNone o)) f))))) (functions p))) e)
-
-  -- "if shapes agree"
-  not-large : faces p ≡ none → overlarge p ≡ false
-  unfolding overlarge
-  not-large e =
-      ap
-      (λ (o : Option (List Face)). isSome o && not
-      (every (λ f. not (ltb maxFaceNodes (size (one (faceTerm (firstFace f (orNone o)) f))))) (functions p))) e
 
   -- What is recorded on the tables are the problem's faces: both are none where a letter is used both ways
   guarded : (b : Bool) (o : Option (List ℕ)) (x : Option (List Face)) → Both (Recorded p) o x → Both (Recorded p) (guard b o) (guard b x)
@@ -117,7 +110,7 @@ module _ (p : Problem) (w : WithinLimits p) where
 
       walked : (o : Option (List ℕ)) (x : Option (List Face)) → facesIn (patternTokens p) (expressionTokens p) ≡ o → faces p ≡ x
           → Both (Recorded p) o x → Says p new r
-      walked none none e a q = subst (Says p new) (sym (after none e)) (passed few (not-large a), a)
+      walked none none e a q = subst (Says p new) (sym (after none e)) (passed few (not-large p a), a)
       walked none (some xs) e a q = absurd q
       walked (some ns) none e a q = absurd q
       walked (some ns) (some xs) e a q = by-test (overlarge p) over under

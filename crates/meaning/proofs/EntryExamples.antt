@@ -175,9 +175,6 @@ pub record Verdict : Type 0 where
 abbrev says : Answer Bool → Bytes → Verdict
 says answer text = record { input = one; text = text; answer = answer }
 
-abbrev both : Bytes
-both = hex 16 0x07000D06000500050001000100020006
-
 abbrev pub verdicts : List Verdict
 verdicts =
     -- a yes, in either order of the fields, and whatever the bound names: (X, ∀y.y)
@@ -201,12 +198,6 @@ verdicts =
     ∷ says (got false) (hex 11 0x090004000A00000B000101)
     -- another value
     ∷ says (got false) (hex 16 0x090004000A0000080006010100020006)
-    -- T-09, (P(P), a): a body and a value for P, in either order, and either alone
-    ∷ record { input = both; text = hex 16 0x090004000A0000080006000100020006; answer = got false }
-    ∷ record { input = both; text = hex 16 0x080006000100020006090004000A0000; answer = got false }
-    ∷ record { input = both; text = hex 9 0x090006000100020006; answer = got false }
-    ∷ record { input = both; text = hex 9 0x080006000100020006; answer = got false }
-    ∷ record { input = both; text = 0 ∷ []; answer = refused 20 }
     -- 1 to 14, then 19, then 20
     ∷ record { input = 7 ∷ []; text = replicate 8193 0; answer = refused 2 }
     ∷ says (refused 19) (replicate 8193 0)
@@ -218,7 +209,29 @@ IsSaid v = checkCall (v .input) (v .text) ≡ v .answer
 
 pub verdicts-hold : All IsSaid verdicts
 unfolding accepts reads passes checkCall
-verdicts-hold = (refl, (refl, (refl, (refl, (refl, (refl, (refl, (refl, (refl, (refl, (refl, (refl, (refl, (refl, (refl, (refl, (refl, (refl, (refl, (refl, tt))))))))))))))))))))
+verdicts-hold = (refl, (refl, (refl, (refl, (refl, (refl, (refl, (refl, (refl, (refl, (refl, (refl, (refl, (refl, (refl, tt)))))))))))))))
+
+-- T-09, on (P(P), a): "the checker says no to every well-formed text"
+abbrev ofItself : Answer Bool → Bytes → Verdict
+ofItself answer text = record { input = hex 16 0x07000D06000500050001000100020006; text = text; answer = answer }
+
+abbrev pub bothWaysVerdicts : List Verdict
+bothWaysVerdicts =
+    -- a body and a value for P, in either order, and each alone
+    ofItself (got false) (hex 16 0x090004000A0000080006000100020006)
+    ∷ ofItself (got false) (hex 16 0x080006000100020006090004000A0000)
+    ∷ ofItself (got false) (hex 9 0x090006000100020006)
+    ∷ ofItself (got false) (hex 9 0x080006000100020006)
+    -- an open P, and no field
+    ∷ ofItself (got false) (hex 4 0x0B000100)
+    ∷ ofItself (got false) []
+    -- a text that is none
+    ∷ ofItself (refused 20) (0 ∷ [])
+    ∷ []
+
+pub both-ways-said : All IsSaid bothWaysVerdicts
+unfolding accepts reads passes checkCall
+both-ways-said = (refl, (refl, (refl, (refl, (refl, (refl, (refl, tt)))))))
 
 -- A problem without rows, (a, b): no masks name a row of it, empty ones neither
 no-row-named : (p : Problem) (mask : ℕ) → rows p ≡ [] → (place : Place Row) → Names p (valueWith mask) place → ⊥

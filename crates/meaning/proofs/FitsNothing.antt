@@ -3,50 +3,45 @@
 -- The theorems about lists, texts and calls speak of these problems too; here is what they, and the definitions, say of one.
 use mathlib.Core.Path.{_≡_, refl, ap, sym, _∙_, subst}
 use Prim.Native.Nat.{ℕ, _<_, _≤_}
-use mathlib.Core.Bool.{Bool, true, false, _&&_, not, true≢false}
-use mathlib.Core.List.{List, [], _∷_, _++_, map, List·Memᴰ·not-nil}
+use mathlib.Core.Bool.{Bool, true, false, true≢false}
+use mathlib.Core.List.{List, [], _∷_, map, List·Memᴰ·not-nil}
 use native.Mathlib.Omega.{arith}
 use lib.ListN.{length, length-append}
 use borrow.Author.Tests.{le-ltb}
-use lib.Dec.{ltb}
-use Rattle.meaning.specs.Limits.{maxFaceNodes, maxFunctions}
-use Rattle.meaning.specs.Basics.{All, Bytes, _∈_, every, isSome, keep}
-use Rattle.meaning.specs.Term.{one, size}
+use Rattle.meaning.specs.Limits.{maxFunctions}
+use Rattle.meaning.specs.Basics.{All, Bytes, _∈_, keep}
 use Rattle.meaning.specs.Problem.{Problem, bothWays, functions}
 use Rattle.meaning.specs.Filling.{Filling}
 use Rattle.meaning.specs.Solution.{Solution}
-use Rattle.meaning.specs.Row.{IsRow, Row, faceOf}
+use Rattle.meaning.specs.Row.{IsRow, Row}
 use Rattle.meaning.specs.Rows.{rows}
 use Rattle.meaning.specs.Candidate.{candidate, fullList, solutionRows, solves}
 use Rattle.meaning.specs.Read.{Answer, got, refused}
 use Rattle.meaning.specs.Readable.{Accepted, WithinLimits}
-use Rattle.meaning.specs.Accept.{accept, checkProblem, overlarge}
+use Rattle.meaning.specs.Accept.{accept, checkProblem}
 use Rattle.meaning.specs.Text.{Item, readText}
 use Rattle.meaning.specs.Passing.{passes}
-use Rattle.meaning.specs.Search.{Keeps, Place, Reply, at, end, ends, finds, past, pauses, placeOf}
-use Rattle.meaning.specs.PlaceValue.{Names, PlaceValue, placeValue}
+use Rattle.meaning.specs.Search.{Keeps, Place, Reply, end, ends, finds, past, pauses, placeOf}
+use Rattle.meaning.specs.PlaceValue.{PlaceValue, placeValue}
 use Rattle.meaning.specs.Entry.{HostReply, SearchCall, WriteCall, checkCall, replyValue, startCall}
 use Rattle.meaning.proofs.ByteLaws.{Byte}
 use Rattle.meaning.proofs.Lists.{by-test, choose-false}
 use Rattle.meaning.proofs.ChoiceLaws.{rows-are}
 use Rattle.meaning.proofs.OneWay.{no-faces}
 use Rattle.meaning.proofs.AgreeLaws.{both-ways-no-rows}
+use Rattle.meaning.proofs.PlaceLaws.{not-large}
 use Rattle.meaning.proofs.OneCall.{when-placed}
 use Rattle.meaning.proofs.WriteLaws.{when-nowhere}
 use Rattle.meaning.proofs.PassLaws.{passes-is-right}
 use Rattle.meaning.proofs.EntryLaws.{check-read}
 
 -- "14 isn't looked for in it": what can be read and has at most 8 functions is accepted, whatever the sizes of its faces
-not-large : (p : Problem) → bothWays p ≡ true → overlarge p ≡ false
-unfolding overlarge
-not-large p e = ap (λ (b : Bool). b && not (every (λ f. not (ltb maxFaceNodes (size (one (faceOf p f))))) (functions p))) (ap isSome (no-faces p e))
-
 pub both-ways-accepted : (p : Problem) → WithinLimits p → length (functions p) ≤ maxFunctions → bothWays p ≡ true → Accepted p
 unfolding checkProblem
 both-ways-accepted p w few e =
     record {
       within = w;
-      checked = choose-false _ _ (le-ltb maxFunctions (length (functions p)) few) ∙ choose-false _ _ (not-large p e);
+      checked = choose-false _ _ (le-ltb maxFunctions (length (functions p)) few) ∙ choose-false _ _ (not-large p (no-faces p e));
     }
 
 pub record FitsNothing (s : Bytes) (p : Problem) : Type 0 where

@@ -4,7 +4,7 @@ use mathlib.Core.Logic.{_⊎_, inl, inr, ⊎-elim}
 use mathlib.Core.Bool.{Bool, true, false, _&&_, not, false≢true, Bool-discrete}
 use mathlib.Core.List.{List, [], _∷_, _++_, map, append-nil, List-discrete, List·Memᴰ·head, List·Memᴰ·tail, List·Memᴰ·cases-cons}
 use mathlib.Core.List.{List·Memᴰ·not-nil, Memᴰ·append-right}
-use mathlib.Core.Option.{none, some}
+use mathlib.Core.Option.{Option, none, some}
 use Prim.Native.Nat.{ℕ, zero, suc, _-_, _^_, _<_, _≤_}
 use native.Mathlib.Nat.{pow-suc}
 use native.Mathlib.Decide.{ℕ-discrete}
@@ -17,7 +17,7 @@ use Rattle.meaning.specs.Limits.{maxFunctions, maxFaceNodes}
 use Rattle.meaning.specs.Basics.{every, isSome, _∈_}
 use Rattle.meaning.specs.Term.{one, size}
 use Rattle.meaning.specs.Problem.{Problem, placesOf, functions}
-use Rattle.meaning.specs.Face.{faces}
+use Rattle.meaning.specs.Face.{Face, faces}
 use Rattle.meaning.specs.Choice.{Marks, Choice}
 use Rattle.meaning.specs.Row.{Row, faceOf, IsRow, ChoiceEach}
 use Rattle.meaning.specs.Rows.{rows}
@@ -47,6 +47,12 @@ small-faces p a agree f m =
     let all = all-mem (λ g. fits g ≡ true) f (functions p)
     (every-all fits (functions p) (true-T (not-false (every fits (functions p)) e))) m in
     ltb-false maxFaceNodes (size (one (faceOf p f))) (not-true (ltb maxFaceNodes (size (one (faceOf p f)))) all)
+
+-- 14 is looked for only where there are faces
+pub not-large : (p : Problem) → faces p ≡ none → overlarge p ≡ false
+unfolding overlarge
+not-large p e =
+    ap (λ (o : Option (List Face)). isSome o && not (every (λ f. not (ltb maxFaceNodes (size (one (faceOf p f))))) (functions p))) e
 
 -- Masks of one place: a mark is there or not
 abbrev OnePlace : Marks → Type 0

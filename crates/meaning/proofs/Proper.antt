@@ -1,26 +1,25 @@
 -- What an accepted problem is like: the facts that the theorems on solutions use.
 --   IsPattern    an application has as many arguments as its label says, and there is none inside an argument
---   Proper       expressions are expressions, patterns are patterns, and metavariables have numbers that a byte's field allows
-use mathlib.Core.Path.{_≡_, refl, ap, ap₂, sym, _∙_, subst}
+--   Proper       expressions are expressions, patterns are patterns, and the metavariables are among those that there can be
+use mathlib.Core.Path.{_≡_, refl, ap, sym, _∙_, subst}
 use mathlib.Core.Logic.{_⊎_, inl, inr, ⊎-elim}
 use Prim.Native.Nat.{ℕ, zero, suc, _<_}
-use mathlib.Core.Bool.{Bool, true, false, _&&_, _||_, not, true≢false, false≢true}
+use mathlib.Core.Bool.{Bool, true, false, _||_, false≢true}
 use mathlib.Core.List.{List, [], _∷_, _++_, map, List·Memᴰ·head, List·Memᴰ·tail, List·Memᴰ·append-cases, List·Memᴰ·cases-cons}
 use mathlib.Core.List.{List·Memᴰ·not-nil}
 use native.Mathlib.Omega.{arith}
-use lib.ListN.{length}
-use lib.Dec.{T, ltb, eqb}
-use Rattle.meaning.specs.Limits.{metavariableCount, maxFunctions, maxDepth}
-use Rattle.meaning.specs.Basics.{choose, every, upTo, All, _∈_}
+use lib.Dec.{eqb}
+use Rattle.meaning.specs.Limits.{metavariableCount, maxDepth}
+use Rattle.meaning.specs.Basics.{choose, upTo, All, _∈_}
 use Rattle.meaning.specs.Term.{Forest, nil, cons, one, trees, relabel, symbol, variable, application, binder, own, slot, metavariable}
 use Rattle.meaning.specs.Term.{function, hole, Named, Nameless, NamedTerm, Terms, IsExpression}
 use Rattle.meaning.specs.Scope.{enter, namelessLabel, nameless}
 use Rattle.meaning.specs.Problem.{Constraint, Problem, forestOf, patterns, expressions, plain, applications, applied, placesAmong}
 use Rattle.meaning.specs.Problem.{placesOf, isFunction, isPlain, functions, metavariables, namedPatterns, namedExpressions}
-use Rattle.meaning.specs.Read.{Answer, refused, got, Context, inPattern, inArgument, inExpression, inBody, contextBelow}
+use Rattle.meaning.specs.Read.{Context, inPattern, inArgument, inExpression, inBody, contextBelow}
 use Rattle.meaning.specs.Readable.{NodeFits, Readable, ReadableConstraint, Accepted, WithinLimits}
-use Rattle.meaning.proofs.Lists.{never, or-left, or-right, by-test, choose-true, eqb-eq, eqb-self, mem-map, map-mem, mem-keep}
-use Rattle.meaning.proofs.Lists.{keep-mem, isIn-mem, mem-isIn, mem-upTo, all-mem, every-all}
+use Rattle.meaning.proofs.Lists.{or-left, or-right, eqb-eq, eqb-self, mem-map, map-mem, mem-keep}
+use Rattle.meaning.proofs.Lists.{keep-mem, isIn-mem, mem-isIn, mem-upTo}
 
 -- In an argument there are only metavariables besides the expression's own nodes
 abbrev pub argumentLabel : Nameless → Terms → Type 0

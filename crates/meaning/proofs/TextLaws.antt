@@ -17,7 +17,7 @@ use Rattle.meaning.specs.Scope.{enter, nameless, namelessTerm}
 use Rattle.meaning.specs.Shift.{ClosedTerm}
 use Rattle.meaning.specs.Problem.{Constraint, Problem, namedExpressions, patterns, expressions, plain, applied, placesOf, isFunction}
 use Rattle.meaning.specs.Problem.{isPlain, functions, metavariables}
-use Rattle.meaning.specs.Filling.{Entry, absent, value, body, fillHandler, IsBody}
+use Rattle.meaning.specs.Filling.{Entry, absent, value, body, IsBody}
 use Rattle.meaning.specs.Face.{Face, faces, isApplication, firstFace}
 use Rattle.meaning.specs.Choice.{Mark, Marks, mark, rest, punch, punchNode, punchTerm}
 use Rattle.meaning.specs.Row.{Row, faceTerm, faceOf, choiceIn, rowBody}

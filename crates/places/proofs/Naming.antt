@@ -1,6 +1,6 @@
 -- What a value names is what `meaning` says that it names, and the first place is the start.
-use mathlib.Core.Path.{_≡_, refl, ap, sym, _∙_, subst}
-use mathlib.Core.Bool.{Bool, true, false, true≢false, false≢true}
+use mathlib.Core.Path.{_≡_, refl, ap, sym, _∙_}
+use mathlib.Core.Bool.{Bool, true, false, true≢false}
 use mathlib.Core.List.{List, []}
 use mathlib.Core.Option.{Option, none, some}
 use Prim.Native.Nat.{ℕ}
@@ -17,7 +17,6 @@ use Rattle.meaning.specs.Entry.{startCall}
 use Rattle.meaning.specs.Search.{Place, at, past, placeOf, start}
 use Rattle.meaning.specs.PlaceValue.{PlaceValue, masksOf, placeValue, Names}
 use Rattle.meaning.proofs.ChoiceLaws.{rows-are}
-use Rattle.rows.specs.Rows.{MaskRow, maskRows, Tables}
 use Rattle.classes.specs.Tabled.{Tabled}
 use Rattle.classes.proofs.Problem.{row-masks, first-row-of, tabled-tables}
 use Rattle.accept.specs.declared.Standing.{Standing}
@@ -25,7 +24,7 @@ use Rattle.accept.specs.declared.Verdict.the-variants as verdicts
 use Rattle.prepare.specs.Prepared.{Prepares, Ready}
 use Rattle.prepare.specs.declared.Prepared.{Prepared}
 use Rattle.prepare.proofs.PreparedLaws.{prepared-refused, prepared-accepted, ready-tables}
-use Rattle.places.specs.Places.{valueOf, AtRow, AtPast, IsRowOf, Opens, Begins, Starts}
+use Rattle.places.specs.Places.{valueOf, AtPast, IsRowOf, Opens, Begins, Starts}
 use Rattle.places.specs.declared.Place as code
 use Rattle.places.specs.declared.Started.{Started}
 use Rattle.places.specs.declared.Start.the-variants as starts

@@ -1,6 +1,5 @@
 -- Laws over plain variables, one for each answer.
-use mathlib.Core.Path.{_≡_, refl, ap, sym, _∙_, subst}
-use mathlib.Core.Logic.{_↔_}
+use mathlib.Core.Path.{_≡_, ap, sym, _∙_}
 use mathlib.Core.Bool.{Bool, true, false, true≢false, false≢true}
 use mathlib.Core.List.{List}
 use Prim.Native.Nat.{ℕ, _<_}
@@ -12,7 +11,7 @@ use Rattle.meaning.specs.Basics.{_∈_}
 use Rattle.meaning.specs.Search.{at, placeOf}
 use Rattle.rows.specs.Rows.{MaskRow, maskRows}
 use Rattle.rows.proofs.Lists.{getD-zeros}
-use Rattle.places.specs.Places.{AtRow, AtPast, IsRowOf, Tells, Begins}
+use Rattle.places.specs.Places.{AtRow, AtPast, Tells, Begins}
 use Rattle.places.specs.declared.Place.{Place}
 use Rattle.places.specs.declared.Named.the-variants as named
 

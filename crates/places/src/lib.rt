@@ -8,10 +8,10 @@ use table::TABLE_ROOM;
 ghost use mathlib.Core.Path.{_≡_};
 ghost use mathlib.Core.Bool.{true};
 ghost use mathlib.Core.Logic.{_↔_};
-ghost use lib.ListN.{length, replicate};
+ghost use lib.ListN.{replicate};
 ghost use Rattle.meaning.specs.Limits.{maxFunctions};
 ghost use Rattle.meaning.specs.Entry.{startCall};
-ghost use Rattle.rows.specs.Rows.{Long, Tables};
+ghost use Rattle.rows.specs.Rows.{Long};
 ghost use Rattle.places.specs.Places.{AtRow, AtPast, Tells, Opens, Begins, Starts};
 
 pub struct Place {

@@ -1,7 +1,7 @@
 -- One call: a law for each answer, in document 01's terms.
 use mathlib.Core.Path.{_≡_, refl, ap, sym, _∙_, subst}
-use mathlib.Core.Bool.{Bool, true, false, true≢false, false≢true}
-use mathlib.Core.List.{List, [], _∷_, _++_, map, map-append, append-nil, List·Memᴰ·head, Memᴰ·append-right}
+use mathlib.Core.Bool.{Bool, true, false}
+use mathlib.Core.List.{List, [], _∷_, _++_, map, map-append, append-nil, Memᴰ·append-right}
 use mathlib.Core.Option.{Option}
 use Prim.Native.Nat.{ℕ, zero, suc, _<_, _≤_}
 use native.Mathlib.Omega.{arith}
@@ -10,14 +10,14 @@ use lib.Seq.{length-take-le}
 use Rattle.meaning.specs.Limits.{maxFunctions}
 use Rattle.meaning.specs.Basics.{Bytes, choose, isSome, orNone, _∈_}
 use Rattle.meaning.specs.Problem.{Problem}
-use Rattle.meaning.specs.Face.{Face, faces}
+use Rattle.meaning.specs.Face.{faces}
 use Rattle.meaning.specs.Row.{Row}
 use Rattle.meaning.specs.Rows.{rows}
 use Rattle.meaning.specs.Candidate.{solves}
-use Rattle.meaning.specs.Read.{refused, got}
+use Rattle.meaning.specs.Read.{refused}
 use Rattle.meaning.specs.Accept.{accept}
-use Rattle.meaning.specs.Search.{Place, at, past, placeOf, Reply, found, end, paused, refusedCall, Keeps, finds, ends, pauses, From}
-use Rattle.meaning.specs.PlaceValue.{PlaceValue, masksOf, placeValue, Names}
+use Rattle.meaning.specs.Search.{Place, at, past, placeOf, Reply, found, end, refusedCall, Keeps, finds, ends, pauses}
+use Rattle.meaning.specs.PlaceValue.{PlaceValue, masksOf, placeValue}
 use Rattle.meaning.specs.Entry.{HostReply, replyValue, SearchCall, notAccepted, noAllowance, noSuchPlace, searches}
 use Rattle.meaning.specs.Calls.{left}
 use Rattle.meaning.proofs.Lists.{never, is-some}
@@ -39,13 +39,13 @@ use Rattle.fit.specs.Laid as fit
 use Rattle.fit.specs.Judging.{judgedAt}
 use Rattle.fit.proofs.Meaning.{judge-means}
 use Rattle.classes.specs.Tabled.{Tabled}
-use Rattle.seeking.specs.Seeking.{judged, Grounded, Seekable, Ended, Clean, maskPlace, maskReply, Seeks}
+use Rattle.seeking.specs.Seeking.{judged, Seekable, Ended, Clean, maskPlace, maskReply}
 use Rattle.search.specs.Calling.{rowValue, replyWith, hostReply, Answers, Refuses, Callable, Sought, Placed}
 use Rattle.seeking.specs.declared.Fixed.{Fixed}
 use Rattle.seeking.specs.declared.Answer.{Answer}
 use Rattle.seeking.specs.declared.Answer.the-variants as answers
 use Rattle.seeking.specs.declared.Searched.{Searched}
-use Rattle.search.proofs.RowsBack.{placeTo, replyTo, Back, keeps-back}
+use Rattle.search.proofs.RowsBack.{placeTo, replyTo, keeps-back}
 
 -- The test of a row, as the code makes it, is document 01's
 judged-solves : (p : Problem) (ps es fs : List ℕ) (functions : ℕ) (firsts : Firsts) → fit.Laid p ps es fs functions firsts

@@ -13,9 +13,6 @@ use seeking::Searched;
 use seeking::ended;
 use seeking::seek;
 use table::TABLE_ROOM;
-ghost use mathlib.Core.Path.{_≡_};
-ghost use mathlib.Core.Bool.{true};
-ghost use Rattle.rows.specs.Rows.{Tables};
 ghost use Rattle.places.specs.Places.{IsRowOf};
 ghost use Rattle.search.specs.Calling.{Refuses, Callable, Sought, Placed, Answers};
 

@@ -13,7 +13,7 @@ use Rattle.meaning.specs.Basics.{choose, isSome, _∈_}
 use Rattle.meaning.specs.Problem.{Problem}
 use Rattle.meaning.specs.Search.{at, past, placeOf, Reply, found, end, paused, refusedCall, Keeps}
 use Rattle.meaning.specs.Search as meant
-use Rattle.rows.specs.Rows.{MaskRow, maskRows, Tables, Steps}
+use Rattle.rows.specs.Rows.{MaskRow, maskRows, Steps}
 use Rattle.classes.specs.Tabled.{Tabled}
 use Rattle.places.specs.Places.{AtRow, AtPast}
 use Rattle.places.specs.declared.Place.{Place}
