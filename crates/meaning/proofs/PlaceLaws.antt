@@ -36,6 +36,12 @@ unfolding checkProblem
 few-functions p a =
     ltb-false maxFunctions (length (functions p)) (unless-got (ltb maxFunctions (length (functions p))) 13 _ (a .checked) .0)
 
+-- 14 is looked for only where there are faces
+pub not-large : (p : Problem) → faces p ≡ none → overlarge p ≡ false
+unfolding overlarge
+not-large p e =
+    ap (λ (o : Option (List Face)). isSome o && not (every (λ f. not (ltb maxFaceNodes (size (one (faceOf p f))))) (functions p))) e
+
 pub small-faces : (p : Problem) → Accepted p → isSome (faces p) ≡ true
     → (f : ℕ) → f ∈ functions p → size (one (faceOf p f)) ≤ maxFaceNodes
 unfolding checkProblem overlarge
@@ -47,12 +53,6 @@ small-faces p a agree f m =
     let all = all-mem (λ g. fits g ≡ true) f (functions p)
     (every-all fits (functions p) (true-T (not-false (every fits (functions p)) e))) m in
     ltb-false maxFaceNodes (size (one (faceOf p f))) (not-true (ltb maxFaceNodes (size (one (faceOf p f)))) all)
-
--- 14 is looked for only where there are faces
-pub not-large : (p : Problem) → faces p ≡ none → overlarge p ≡ false
-unfolding overlarge
-not-large p e =
-    ap (λ (o : Option (List Face)). isSome o && not (every (λ f. not (ltb maxFaceNodes (size (one (faceOf p f))))) (functions p))) e
 
 -- Masks of one place: a mark is there or not
 abbrev OnePlace : Marks → Type 0

@@ -77,7 +77,7 @@ punch-one {X} {B} ms t = go (mark ms)
     go none = refl
     go (some i) = refl
 
--- The face of a function, when the shapes agree
+-- The face of a function, when there are faces
 pub record FaceOf (p : Problem) (xs : List Face) (f : ℕ) : Type 0 where
   pub face : Face
   pub among : face ∈ xs
