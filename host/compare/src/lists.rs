@@ -45,7 +45,7 @@ pub fn whole(subject: &dyn Subject, problem: &[u8], tally: &mut Tally) -> Result
     let solutions = read
         .solutions(rows.len())
         .ok_or_else(|| differ(problem, "more solutions than rows"))?;
-    count(&read, &solutions, tally);
+    count(problem, &read, &solutions, tally);
     listed(subject, problem, at, &solutions)
 }
 
@@ -99,7 +99,7 @@ fn written(subject: &dyn Subject, problem: &[u8], row: Words, text: &[u8]) -> Re
 }
 
 /// What there is to find in the problem.
-fn count(read: &Problem, solutions: &[Solution], tally: &mut Tally) {
+fn count(problem: &[u8], read: &Problem, solutions: &[Solution], tally: &mut Tally) {
     tally.count("problems");
     tally.add("solutions", solutions.len());
     match solutions.len() {
@@ -107,8 +107,10 @@ fn count(read: &Problem, solutions: &[Solution], tally: &mut Tally) {
         1 => tally.count("one solution"),
         _ => tally.count("several solutions"),
     }
-    if !read.has_rows() {
-        tally.count("no rows");
+    if !tree::both_ways(problem).is_empty() {
+        tally.count("fits nothing");
+    } else if !read.has_rows() {
+        tally.count("shapes that disagree");
     }
     if solutions.iter().any(|s| opens(&s.text)) {
         tally.count("an open metavariable");

@@ -22,7 +22,8 @@ fn whole_lists_agree() {
         ("no solution", 3_000),
         ("one solution", 3_000),
         ("several solutions", 3_000),
-        ("no rows", 3_000),
+        ("shapes that disagree", 500),
+        ("fits nothing", 2_000),
         ("an open metavariable", 3_000),
     ];
     cases.extend(FEATURES.iter().map(|(feature, _)| (*feature, 2_000)));
