@@ -15,7 +15,7 @@ use Rattle.meaning.specs.Face.{Face, faces}
 use Rattle.meaning.specs.Read.{Answer, got, refused}
 use Rattle.meaning.specs.Accept.{accept}
 use Rattle.meaning.specs.Text.{Item, readText, said}
-use Rattle.meaning.specs.Passing.{kinds, known, meets, once, openUnneeded, passes, unneededOpen}
+use Rattle.meaning.specs.Passing.{kinds, known, meets, openUnneeded, passes, unneededOpen}
 use Rattle.meaning.specs.Entry.{checkCall}
 use Rattle.meaning.proofs.Lists.{by-test, is-some}
 use Rattle.meaning.proofs.OneWay.{faces-one-way, faces-walk, walk-faces}
@@ -76,56 +76,43 @@ module _ (ps ts : List ℕ) (o : Occurring) (s : Said) (holed : ℕ) (isHoled : 
     }
 
 -- The fields
-module _ (ps ts : List ℕ) (o : Occurring) (s : Said) where
-  abbrev afterOnce : Problem → List Item → Bool
-  afterOnce p is = known p is && (kinds p (said is) && (openUnneeded p (said is) && unneededOpen p (said is)))
+module _ (ps ts : List ℕ) (o : Occurring) (s : Said) (found : Bool) (is-found : found ≡ knownAt s o) where
+  known-in : (p : Problem) (is : List Item) → Told p is ps ts o s
+      → fieldsPass p is ≡ found && (kinds p (said is) && (openUnneeded p (said is) && unneededOpen p (said is)))
+  known-in p is t =
+      ap (λ (b : Bool). b && (kinds p (said is) && (openUnneeded p (said is) && unneededOpen p (said is))))
+      (sym (is-found ∙ known-means p (t .accepted) ts is s (t .says) o (t .survey)))
 
-  pub fields-double : not (s .once) ≡ true → FieldsJudged ps ts o s false
-  fields-double q = record {
+  pub fields-foreign : not found ≡ true → FieldsJudged ps ts o s false
+  fields-foreign q = record {
     judged = λ p is t.
-        sym (ap (λ (b : Bool). b && afterOnce p is) (sym (t .says .once) ∙ not-true (s .once) q));
+        sym (known-in p is t
+        ∙ ap (λ (b : Bool). b && (kinds p (said is) && (openUnneeded p (said is) && unneededOpen p (said is)))) (not-true found q));
   }
 
-  module _ (single : not (s .once) ≡ false) where
-    once-holds : (p : Problem) (is : List Item) → Told p is ps ts o s → fieldsPass p is ≡ afterOnce p is
-    once-holds p is t = ap (λ (b : Bool). b && afterOnce p is) (sym (t .says .once) ∙ not-false (s .once) single)
+  module _ (all-known : not found ≡ false) (right : Bool) (is-right : right ≡ kindsAt s o) where
+    kinds-in : (p : Problem) (is : List Item) → Told p is ps ts o s
+        → fieldsPass p is ≡ right && (openUnneeded p (said is) && unneededOpen p (said is))
+    kinds-in p is t =
+        known-in p is t
+        ∙ ap (λ (b : Bool). b && (kinds p (said is) && (openUnneeded p (said is) && unneededOpen p (said is)))) (not-false found all-known)
+        ∙ ap (λ (b : Bool). b && (openUnneeded p (said is) && unneededOpen p (said is)))
+        (sym (is-right ∙ kinds-means p (t .accepted) ts is s (t .says) o (t .survey)))
 
-    module _ (found : Bool) (is-found : found ≡ knownAt s o) where
-      known-in : (p : Problem) (is : List Item) → Told p is ps ts o s → known p is ≡ found
-      known-in p is t = sym (is-found ∙ known-means p (t .accepted) ts is s (t .says) o (t .survey))
+    pub fields-kinds : not right ≡ true → FieldsJudged ps ts o s false
+    fields-kinds q = record {
+      judged = λ p is t.
+          sym (kinds-in p is t
+          ∙ ap (λ (b : Bool). b && (openUnneeded p (said is) && unneededOpen p (said is))) (not-true right q));
+    }
 
-      pub fields-foreign : not found ≡ true → FieldsJudged ps ts o s false
-      fields-foreign q = record {
-        judged = λ p is t.
-            sym (once-holds p is t
-            ∙ ap (λ (b : Bool). b && (kinds p (said is) && (openUnneeded p (said is) && unneededOpen p (said is))))
-            (known-in p is t ∙ not-true found q));
-      }
-
-      module _ (all-known : not found ≡ false) (right : Bool) (is-right : right ≡ kindsAt s o) where
-        kinds-in : (p : Problem) (is : List Item) → Told p is ps ts o s
-            → fieldsPass p is ≡ right && (openUnneeded p (said is) && unneededOpen p (said is))
-        kinds-in p is t =
-            once-holds p is t
-            ∙ ap (λ (b : Bool). b && (kinds p (said is) && (openUnneeded p (said is) && unneededOpen p (said is))))
-            (known-in p is t ∙ not-false found all-known)
-            ∙ ap (λ (b : Bool). b && (openUnneeded p (said is) && unneededOpen p (said is)))
-            (sym (is-right ∙ kinds-means p (t .accepted) ts is s (t .says) o (t .survey)))
-
-        pub fields-kinds : not right ≡ true → FieldsJudged ps ts o s false
-        fields-kinds q = record {
-          judged = λ p is t.
-              sym (kinds-in p is t
-              ∙ ap (λ (b : Bool). b && (openUnneeded p (said is) && unneededOpen p (said is))) (not-true right q));
-        }
-
-        pub fields-open : (r : Bool) → not right ≡ false → OpenJudged ps ts o s r → FieldsJudged ps ts o s r
-        fields-open r q h = record {
-          judged = λ p is t.
-              h .judged p is t
-              ∙ sym (kinds-in p is t
-              ∙ ap (λ (b : Bool). b && (openUnneeded p (said is) && unneededOpen p (said is))) (not-false right q));
-        }
+    pub fields-open : (r : Bool) → not right ≡ false → OpenJudged ps ts o s r → FieldsJudged ps ts o s r
+    fields-open r q h = record {
+      judged = λ p is t.
+          h .judged p is t
+          ∙ sym (kinds-in p is t
+          ∙ ap (λ (b : Bool). b && (openUnneeded p (said is) && unneededOpen p (said is))) (not-false right q));
+    }
 
 -- No letter is used both ways, and each filled pattern equals its expression
 is-none : (o : Option (List Face)) → isSome o ≡ false → o ≡ none
@@ -184,13 +171,12 @@ module _ (ps es fs ts : List ℕ) (a : Standing) (s : Said) where
   and-false true = refl
   and-false false = refl
 
-  regroup : (z a b c d e f : Bool) → z && (a && (b && (c && (d && (e && f))))) ≡ (a && (b && (c && (d && e)))) && (z && f)
-  regroup true true true true true e f = refl
-  regroup true true true true false e f = refl
-  regroup true true true false d e f = refl
-  regroup true true false c d e f = refl
-  regroup true false b c d e f = refl
-  regroup false a b c d e f = sym (and-false (a && (b && (c && (d && e)))))
+  regroup : (z a b c d e : Bool) → z && (a && (b && (c && (d && e)))) ≡ (a && (b && (c && d))) && (z && e)
+  regroup true true true true d e = refl
+  regroup true true true false d e = refl
+  regroup true true false c d e = refl
+  regroup true false b c d e = refl
+  regroup false a b c d e = sym (and-false (a && (b && (c && d))))
 
   decided-told : (p : Problem) (is : List Item) → Decided p is ps es fs ts a s → Told p is (take (a .patterns) ps) ts (a .occurring) s
   decided-told p is d =
@@ -205,8 +191,7 @@ module _ (ps es fs ts : List ℕ) (a : Standing) (s : Said) where
     parts : (p : Problem) (is : List Item) → Decided p is ps es fs ts a s → passes p is ≡ found && constraintsPass p is
     unfolding passes
     parts p is d =
-        regroup (not (bothWays p)) (once is) (known p is) (kinds p (said is)) (openUnneeded p (said is)) (unneededOpen p (said is))
-        (meets p (said is))
+        regroup (not (bothWays p)) (known p is) (kinds p (said is)) (openUnneeded p (said is)) (unneededOpen p (said is)) (meets p (said is))
         ∙ ap (λ (b : Bool). b && constraintsPass p is) (sym (h .judged p is (decided-told p is d)))
 
     pub passed-never : not found ≡ true → Passed ps es fs ts a s false

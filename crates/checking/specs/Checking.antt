@@ -14,7 +14,7 @@ use Rattle.meaning.specs.Problem.{Problem, bothWays}
 use Rattle.meaning.specs.Read.{Answer, after, got, refused}
 use Rattle.meaning.specs.Readable.{Accepted}
 use Rattle.meaning.specs.Text.{Item, readText, said}
-use Rattle.meaning.specs.Passing.{kinds, known, meets, once, openUnneeded, passes, unneededOpen}
+use Rattle.meaning.specs.Passing.{kinds, known, meets, openUnneeded, passes, unneededOpen}
 use Rattle.tokens.specs.Token.{patternTokens}
 use Rattle.metavariables.specs.Survey.{Surveyed}
 use Rattle.metavariables.specs.declared.Occurring.{Occurring}
@@ -38,9 +38,9 @@ SomeTold ps ts o s = (p : Problem) × (is : List Item) × Told p is ps ts o s
 pub record OpenJudged (ps ts : List ℕ) (o : Occurring) (s : Said) (r : Bool) : Type 0 where
   pub judged : (p : Problem) (is : List Item) → Told p is ps ts o s → r ≡ openUnneeded p (said is) && unneededOpen p (said is)
 
--- "A wrong, missing or double metavariable is a no"
+-- "A wrong, missing .. metavariable is a no"
 abbrev pub fieldsPass : Problem → List Item → Bool
-fieldsPass p is = once is && (known p is && (kinds p (said is) && (openUnneeded p (said is) && unneededOpen p (said is))))
+fieldsPass p is = known p is && (kinds p (said is) && (openUnneeded p (said is) && unneededOpen p (said is)))
 
 pub record FieldsJudged (ps ts : List ℕ) (o : Occurring) (s : Said) (r : Bool) : Type 0 where
   pub judged : (p : Problem) (is : List Item) → Told p is ps ts o s → r ≡ fieldsPass p is

@@ -1,6 +1,6 @@
-// The checker: "takes a problem and a text, fields in any order, bound names free, and says yes or no". Each part of the decision is a
-// function of its own: no metavariable twice, none that does not occur, the right kind of field for each, open just where no value is
-// needed, and, if the problem has rows, each filled pattern equal to its expression.
+// The checker: "takes a problem and a text, .. bound names free, and says yes or no". Each part of the decision is a function of its own:
+// no metavariable that does not occur, the right kind of field for each, open just where no value is needed, and, if the problem has rows,
+// each filled pattern equal to its expression.
 use accept::Standing;
 use accept::Verdict;
 use accept::accept;
@@ -49,9 +49,6 @@ fn fields_right(occurring: Occurring, ps: &[u64], ts: &[u64], said: Said) -> boo
     requires { ⌜ SomeTold (now ps) (now ts) occurring said ⌝ }
     ensures { λ r. ⌜ FieldsJudged (now (ps .entry)) (now (ts .entry)) occurring said r ⌝ }
 {
-    if !said.once {
-        return false;
-    }
     if !known(said, occurring) {
         return false;
     }
@@ -112,7 +109,7 @@ fn said_of(yes: bool) -> Checked
     if yes { Checked::Yes } else { Checked::No }
 }
 
-// 19 and 20, and else yes or no.
+// 19, 20 and 27, and else yes or no.
 fn check_text(a: Standing, ps: &[u64], es: &[u64], fs: &[u64], text: &[u8]) -> Checked
     requires { ⌜ Ground (now ps) (now es) (now fs) a ⌝ ∗ ⌜ length (now ps) ≤ tableRoom ⌝ }
     ensures { λ r. ⌜ CheckedText (now (ps .entry)) (now (es .entry)) (now (fs .entry)) a (now (text .entry)) r ⌝ }

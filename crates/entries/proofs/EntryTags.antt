@@ -47,7 +47,7 @@ module _ (n : ℕ) (ctx : Context) (noMetavariable : MetavariableAt ctx → ⊥)
   readable-whole t r =
       ap₂ _&&_ (readable-body maxDepth [] (one t) r) (T-true (closed-test 0 (nameless [] (one t)) (nameless-closed [] (one t))))
 
-pub absent-tag : (x : Entry NamedTerm) → eqb (entryTag x) 0 ≡ isAbsent x
+pub absent-tag : (x : Entry NamedTerm) → eqb (entryTag x) 0 ≡ isAbsent (meant x)
 absent-tag absent = refl
 absent-tag leftOpen = refl
 absent-tag (value t) = refl

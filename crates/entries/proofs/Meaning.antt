@@ -60,10 +60,11 @@ module _ (p : Problem) (a : Accepted p) (ts : List ℕ) (is : List Item) (s : Sa
     unfolding knownAt
     known-means =
         every-same (λ m. hasTag s 0 m || (has (o .functions) m || has (o .plain) m))
-        (λ m. isAbsent (entry m) || (isFunction p m || isPlain p m)) (upTo metavariableCount)
+        (λ m. isAbsent (said is m) || (isFunction p m || isPlain p m)) (upTo metavariableCount)
         (λ m i.
         let h : m < metavariableCount = upTo-mem metavariableCount m i in
-        ap₂ _||_ (tag-says 0 m h ∙ absent-tag (entry m)) (ap₂ _||_ (functions-are m h) (plain-are m h)))
+        ap₂ _||_ (tag-says 0 m h ∙ absent-tag (entry m) ∙ ap isAbsent (sym (said-item is m)))
+        (ap₂ _||_ (functions-are m h) (plain-are m h)))
         ∙ known-items (λ m. isFunction p m || isPlain p m) is (w .readable)
 
     -- "each function metavariable a body, and each other metavariable an expression or nothing (open)"

@@ -1,5 +1,5 @@
--- Every refusal that a C program is given has a number from 1 to 20, or 25: not 0, which is done, none from 256 on, which are answers, and
--- not 12, which is withdrawn.
+-- Every refusal that a C program is given has a number from 1 to 20, 25 or 27: not 0, which is done, none from 256 on, which are answers,
+-- and not 12, which is withdrawn.
 --   start-numbers, search-numbers, write-numbers, check-numbers   one for each exported function
 -- The rest goes through the definitions of reading in document 01's order.
 use mathlib.Core.Path.{_≡_, refl, subst}
@@ -17,7 +17,7 @@ use Rattle.meaning.specs.Read.{functionIn, holeIn, kindOf, wordAt, longAt, part
 use Rattle.meaning.specs.Read.{Reader, readExactly, readAll}
 use Rattle.meaning.specs.Read.{contextBelow, readContent, readTerm, readPair, constraintHead, readConstraints, readProblem}
 use Rattle.meaning.specs.Accept.{overlarge, checkProblem, accept}
-use Rattle.meaning.specs.Text.{orTwenty, readItems, readText}
+use Rattle.meaning.specs.Text.{inOrder, numbers, orTwenty, readItems, readText, rises}
 use Rattle.meaning.specs.Row.{Row}
 use Rattle.meaning.specs.Search.{found, end, paused, refusedCall, Place, Reply, Keeps, finds, ends, pauses}
 use Rattle.meaning.specs.PlaceValue.{PlaceValue}
@@ -167,14 +167,17 @@ accepted : (s : Bytes) → Refuses (accept s)
 unfolding accept
 accepted s = then (readProblem s) checkProblem (problem s) checked
 
--- A text: whatever is wrong in it is 20
+-- A text: whatever is wrong in its fields is 20
 or-twenty : {A : Type 0} (a : Answer A) → Refuses (orTwenty a)
 or-twenty (refused r) = refusal 20 refl
 or-twenty (got x) = answer x
 
 text : (t : Bytes) → Refuses (readText t)
 unfolding readText
-text t = either (ltb maxText (length t)) _ _ (refusal 19 refl) (or-twenty (readItems (length t) t))
+text t =
+    either (ltb maxText (length t)) _ _ (refusal 19 refl)
+    (then (orTwenty (readItems (length t) t)) inOrder (or-twenty (readItems (length t) t)) (λ is.
+    either (rises (numbers is)) _ _ (answer is) (refusal 27 refl)))
 
 -- `matcher_start`
 pub start-numbers : (words : List ℕ) (s : Bytes) → Refuses (startInto words s)

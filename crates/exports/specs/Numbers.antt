@@ -1,6 +1,6 @@
--- Which numbers refusals have in C: `include/matcher.h` says "0 or a number from 256 on, or else a refusal, 1 to 20 but for 12, or
--- 25", so that a program can tell them apart.
---   isRefusal      1 to 20 but for 12, or 25; T-09: "Refusal 12 is withdrawn and its number stays unused"
+-- Which numbers refusals have in C: `include/matcher.h` says "0 or a number from 256 on, or else a refusal, 1 to 20 but for 12, 25 or
+-- 27", so that a program can tell them apart.
+--   isRefusal      1 to 20 but for 12, 25 or 27; T-09: "Refusal 12 is withdrawn and its number stays unused"
 --   Refuses        a refusal has such a number
 --   RefusesReply   the same of a search call's reply
 use mathlib.Core.Path.{_≡_}
@@ -12,7 +12,7 @@ use Rattle.meaning.specs.Search.{found, end, paused, refusedCall}
 use Rattle.meaning.specs.Entry.{HostReply}
 
 abbrev pub isRefusal : ℕ → Bool
-isRefusal r = (ltb 0 r && (ltb r 21 && not (eqb r 12))) || eqb r 25
+isRefusal r = (ltb 0 r && (ltb r 21 && not (eqb r 12))) || (eqb r 25 || eqb r 27)
 
 pub data Refuses {A : Type 0} : Answer A → Type 0 where
   answer : (a : A) → Refuses (got a)

@@ -1,4 +1,5 @@
 -- What reading a solution text promises.
 pub mod Fields
 pub mod Noted
+pub mod Order
 pub mod Texts

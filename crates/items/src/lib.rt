@@ -1,5 +1,6 @@
-// Reads a solution text: 19, then its fields to the end, "8 (value), 9 (body), 11 (open)", with 20 for whatever is not as document 01 says.
-// Their terms go into one table, one after the other, and what the text says of each metavariable stands beside it.
+// Reads a solution text: 19, then its fields to the end, "8 (value), 9 (body), 11 (open)", with 20 for whatever is not as document 01 says,
+// and then 27 if their numbers do not rise (T-07). Their terms go into one table, one after the other, and what the text says of each
+// metavariable stands beside it.
 use fields::field::Parts;
 use fields::field::parts_of;
 use fields::number::Metavariable;
@@ -9,13 +10,15 @@ use terms::term::Term;
 use terms::term::read_body;
 use terms::term::read_expression;
 ghost use mathlib.Core.Path.{_≡_};
-ghost use Prim.Native.Nat.{_≤_};
+ghost use Prim.Native.Nat.{_<_, _≤_};
 ghost use lib.ListN.{length};
-ghost use Rattle.meaning.specs.Text.{readText};
+ghost use Rattle.meaning.specs.Limits.{metavariableCount};
+ghost use Rattle.meaning.specs.Text.{readItems, readText};
 ghost use Rattle.terms.specs.Reading.{Space};
 ghost use Rattle.items.specs.Fields.{RuleOf, endedOf, EndsIn, contentRead, readField, FieldDone};
 ghost use Rattle.items.specs.Noted.{Noting, notedOf};
-ghost use Rattle.items.specs.Texts.{textRoom, TextDone};
+ghost use Rattle.items.specs.Order.{followedBy};
+ghost use Rattle.items.specs.Texts.{textRoom, TextSpace, FieldsDone, RefusedText, TextDone};
 
 pub const MAX_TEXT: usize = 8192;
 
@@ -40,6 +43,25 @@ enum Field {
     Refused,
     // The bytes that it takes, its tag, its metavariable, and the nodes of its term.
     Item(usize, u8, Metavariable, usize),
+}
+
+// The order of the fields so far.
+struct Order {
+    // Whether each number is above the one before it.
+    rising: bool,
+    // The lowest number that the next field may have.
+    next: u8,
+}
+
+// What the fields of a text come to.
+struct Fields {
+    // Whether each is as document 01 says; if not, the rest means nothing.
+    sound: bool,
+    // Whether their numbers rise; if not, what they say means nothing.
+    rising: bool,
+    // How many entries at the front of the table hold their terms.
+    used: usize,
+    said: Said,
 }
 
 // The content rules. After the number comes an expression, "an expression in which 10 may stand for a term", or nothing.
@@ -111,50 +133,99 @@ fn read_field(s: &[u8], table: &mut [u64]) -> Field
     }
 }
 
-// A field more for a metavariable: the first is kept, and of a second it is only held that there is one.
+// What a field says of its metavariable.
 fn noted(said: Said, m: Metavariable, tag: u8, node: usize) -> Said
     requires { ⌜ Noting said (m .0) ⌝ }
     ensures { λ r. ⌜ r ≡ notedOf said (m .0) tag node ⌝ }
 {
     let i = m.0 as usize;
     let mut more = said;
-    if said.tags[i] != 0 {
-        more.once = false;
-        return more;
-    }
     more.tags[i] = tag;
     more.nodes[i] = node;
     more
 }
 
-// Any bytes: document 01's refusal, or the text's terms at the front of the table and what it says of each metavariable.
-pub fn read_text(text: &[u8], table: &mut [u64]) -> TextRead
-    requires { ⌜ textRoom ≤ length (now table) ⌝ }
-    ensures { λ r. ⌜ TextDone (readText (now (text .entry))) (now (table .exit)) r ⌝ }
+// The order of the fields with one more at their end.
+fn followed(order: Order, m: Metavariable) -> Order
+    requires { ⌜ m .0 < metavariableCount ⌝ }
+    ensures { λ r. ⌜ r ≡ followedBy order (m .0) ⌝ }
 {
-    let mut said = Said::nothing();
-    if MAX_TEXT < text.len() {
-        return TextRead {
-            answer: Answer::Refused(19),
-            said: said,
+    let next = m.0 + 1;
+    if m.0 < order.next {
+        return Order {
+            rising: false,
+            next: next,
         };
     }
+    Order {
+        rising: order.rising,
+        next: next,
+    }
+}
+
+// The fields of a text to its end, or to the first that is not as document 01 says.
+fn read_fields(text: &[u8], table: &mut [u64]) -> Fields
+    requires { ⌜ TextSpace (now text) (now table) ⌝ }
+    ensures { λ r. ⌜ FieldsDone (readItems (length (now (text .entry))) (now (text .entry))) (now (table .exit)) r ⌝ }
+{
+    let mut said = Said::nothing();
+    let mut order = Order {
+        rising: true,
+        next: 0,
+    };
     let mut used = 0;
     let mut at = 0;
     while at < text.len() {
         let field = read_field(&text[at..], &mut table[used..]);
         let Field::Item(took, tag, m, nodes) = field else {
-            return TextRead {
-                answer: Answer::Refused(20),
+            return Fields {
+                sound: false,
+                rising: order.rising,
+                used: used,
                 said: said,
             };
         };
         said = noted(said, m, tag, used);
+        order = followed(order, m);
         used += nodes;
         at += took;
     }
+    Fields {
+        sound: true,
+        rising: order.rising,
+        used: used,
+        said: said,
+    }
+}
+
+fn refused(number: u8) -> TextRead
+    ensures { λ r. ⌜ RefusedText number r ⌝ }
+{
     TextRead {
-        answer: Answer::Read(used),
+        answer: Answer::Refused(number),
+        said: Said::nothing(),
+    }
+}
+
+// Any bytes: document 01's refusal, or the text's terms at the front of the table and what it says of each metavariable. 27 is "checked
+// after 20 over the whole text".
+pub fn read_text(text: &[u8], table: &mut [u64]) -> TextRead
+    requires { ⌜ textRoom ≤ length (now table) ⌝ }
+    ensures { λ r. ⌜ TextDone (readText (now (text .entry))) (now (table .exit)) r ⌝ }
+{
+    if MAX_TEXT < text.len() {
+        return refused(19);
+    }
+    let read = read_fields(text, table);
+    if !read.sound {
+        return refused(20);
+    }
+    if !read.rising {
+        return refused(27);
+    }
+    let said = read.said;
+    TextRead {
+        answer: Answer::Read(read.used),
         said: said,
     }
 }

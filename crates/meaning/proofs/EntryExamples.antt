@@ -177,18 +177,16 @@ says answer text = record { input = one; text = text; answer = answer }
 
 abbrev pub verdicts : List Verdict
 verdicts =
-    -- a yes, in either order of the fields, and whatever the bound names: (X, ∀y.y)
+    -- a yes, and whatever the bound names: (X, ∀y.y)
     says (got true) (hex 16 0x090004000A0000080006010100020005)
     ∷ says (got true) (hex 13 0x0900060001000200050B000101)
-    ∷ says (got true) (hex 13 0x0B000101090006000100020005)
     ∷ record {
       input = hex 19 0x07001005000101040009000100040200020004;
       text = hex 16 0x08000D01040009000100070200020007;
       answer = got true;
     }
-    -- X missing, doubled, and a foreign metavariable
+    -- X missing, and a foreign metavariable
     ∷ says (got false) (hex 9 0x090006000100020005)
-    ∷ says (got false) (hex 17 0x0900060001000200050B0001010B000101)
     ∷ says (got false) (hex 17 0x0900060001000200050B0001010B000102)
     -- a body for X, a value for P
     ∷ says (got false) (hex 16 0x090004000A0000090006010100020005)
@@ -202,6 +200,11 @@ verdicts =
     ∷ record { input = 7 ∷ []; text = replicate 8193 0; answer = refused 2 }
     ∷ says (refused 19) (replicate 8193 0)
     ∷ says (refused 20) (0 ∷ [])
+    -- then 27: X before P, X doubled, P doubled; and 20 where the next field has a number that is none
+    ∷ says (refused 27) (hex 13 0x0B000101090006000100020005)
+    ∷ says (refused 27) (hex 17 0x0900060001000200050B0001010B000101)
+    ∷ says (refused 27) (hex 14 0x090004000A0000090004000A0000)
+    ∷ says (refused 20) (hex 17 0x0B0001010900060001000200050B000120)
     ∷ []
 
 abbrev pub IsSaid : Verdict → Type 0
@@ -209,7 +212,8 @@ IsSaid v = checkCall (v .input) (v .text) ≡ v .answer
 
 pub verdicts-hold : All IsSaid verdicts
 unfolding accepts reads passes checkCall
-verdicts-hold = (refl, (refl, (refl, (refl, (refl, (refl, (refl, (refl, (refl, (refl, (refl, (refl, (refl, (refl, (refl, tt)))))))))))))))
+verdicts-hold =
+    (refl, (refl, (refl, (refl, (refl, (refl, (refl, (refl, (refl, (refl, (refl, (refl, (refl, (refl, (refl, (refl, (refl, tt)))))))))))))))))
 
 -- T-09, on (P(P), a): "the checker says no to every well-formed text"
 abbrev ofItself : Answer Bool → Bytes → Verdict
@@ -217,16 +221,15 @@ ofItself answer text = record { input = hex 16 0x07000D0600050005000100010002000
 
 abbrev pub bothWaysVerdicts : List Verdict
 bothWaysVerdicts =
-    -- a body and a value for P, in either order, and each alone
-    ofItself (got false) (hex 16 0x090004000A0000080006000100020006)
-    ∷ ofItself (got false) (hex 16 0x080006000100020006090004000A0000)
-    ∷ ofItself (got false) (hex 9 0x090006000100020006)
+    -- a body for P, a value, an open P, and no field
+    ofItself (got false) (hex 9 0x090006000100020006)
     ∷ ofItself (got false) (hex 9 0x080006000100020006)
-    -- an open P, and no field
     ∷ ofItself (got false) (hex 4 0x0B000100)
     ∷ ofItself (got false) []
-    -- a text that is none
+    -- a text that is none, and a body and a value for P, in either order
     ∷ ofItself (refused 20) (0 ∷ [])
+    ∷ ofItself (refused 27) (hex 16 0x090004000A0000080006000100020006)
+    ∷ ofItself (refused 27) (hex 16 0x080006000100020006090004000A0000)
     ∷ []
 
 pub both-ways-said : All IsSaid bothWaysVerdicts

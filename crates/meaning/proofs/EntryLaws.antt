@@ -1,6 +1,6 @@
 -- The second demand of the entry points: what is written passes, and for every text that passes there is a row whose text names the same
 -- filling.
-use mathlib.Core.Path.{_≡_, refl, ap, sym, _∙_, subst, fun-ext}
+use mathlib.Core.Path.{_≡_, refl, ap, sym, _∙_}
 use mathlib.Core.Logic.{_↔_}
 use Prim.Native.Nat.{ℕ}
 use mathlib.Core.Bool.{true}
@@ -9,23 +9,25 @@ use lib.ListN.{take}
 use lib.Seq.{take-at}
 use Rattle.meaning.specs.Basics.{All, _∈_, Bytes}
 use Rattle.meaning.specs.Problem.{Problem}
-use Rattle.meaning.specs.Filling.{Filling}
+use Rattle.meaning.specs.Solution.{Solution}
 use Rattle.meaning.specs.Row.{Row, IsRow}
 use Rattle.meaning.specs.Rows.{rows}
 use Rattle.meaning.specs.Candidate.{solves}
-use Rattle.meaning.specs.Read.{Answer, got}
+use Rattle.meaning.specs.Read.{Answer, after, got}
 use Rattle.meaning.specs.Readable.{Accepted}
 use Rattle.meaning.specs.Accept.{accept}
-use Rattle.meaning.specs.Text.{Item, textOf, readText, Says, Passes}
+use Rattle.meaning.specs.Text.{Item, textOf, readText, said, Passes}
+use Rattle.meaning.specs.Textual.{AlphaText}
 use Rattle.meaning.specs.Passing.{passes}
 use Rattle.meaning.specs.Search.{at}
 use Rattle.meaning.specs.PlaceValue.{PlaceValue, placeValue, Names}
 use Rattle.meaning.specs.Entry.{rowText, WriteCall, notAccepted, noSuchRow, noSolutionRow, tooShort, writes, checkCall}
-use Rattle.meaning.proofs.ByteLaws.{Byte, got-is, refused-not}
+use Rattle.meaning.proofs.ByteLaws.{Byte, by-got, got-is, refused-not}
 use Rattle.meaning.proofs.ChoiceLaws.{rows-are}
 use Rattle.meaning.proofs.ProblemReading.{accept-accepted}
 use Rattle.meaning.proofs.SecondDemand.{text-read-back, text-passes, Written, solution-written}
 use Rattle.meaning.proofs.PassLaws.{passes-is-right}
+use Rattle.meaning.proofs.AlphaTexts.{same-filling}
 
 pub check-read : (s text : Bytes) (p : Problem) (is : List Item) → accept s ≡ got p → readText text ≡ got is
     → checkCall s text ≡ got (passes p is)
@@ -53,7 +55,7 @@ row-text-passes : (s : Bytes) (p : Problem) (r : Row) → All Byte s → accept 
 row-text-passes s p r b e i h =
     let a : Accepted p = accept-accepted s p b e .0 in
     let m : r ∈ rows p = rows-are p r .1 i in
-    check-is-right s (rowText p r) p (textOf p r) e (text-read-back p r a m h) .1 (text-passes p r a m h .0)
+    check-is-right s (rowText p r) p (textOf p r) e (text-read-back p r a m h) .1 (text-passes p r a m h)
 
 pub written-passes : (s : Bytes) (v : PlaceValue) (buffer after : Bytes) (n : ℕ)
     → All Byte s → WriteCall s v buffer (got n) after → WrittenText s v n after
@@ -81,17 +83,55 @@ pub record RowOfText (p : Problem) (is : List Item) : Type 0 where
   pub value : PlaceValue
   pub named : Names p value (at row)
   pub isSolutionRow : solves p row ≡ true
-  pub sameFilling : (σ : Filling) → Says is σ → Says (textOf p row) σ
+  pub sameFilling : said (textOf p row) ≡ said is
 
 pub passing-written : (s text : Bytes) (p : Problem) (is : List Item)
     → All Byte s → accept s ≡ got p → readText text ≡ got is → checkCall s text ≡ got true → RowOfText p is
 passing-written s text p is b e r h =
     let x : Passes p is = check-is-right s text p is e r .0 h in
-    let w : Written p (x .filling) = solution-written p (x .filling) (accept-accepted s p b e .0) (x .solution) in
+    let w : Written p (said is) = solution-written p (said is) (accept-accepted s p b e .0) x in
     record {
       row = w .row;
       value = placeValue (at (w .row));
       named = record { isPlace = rows-are p (w .row) .0 (w .isRow); isValue = refl };
       isSolutionRow = w .isSolutionRow;
-      sameFilling = λ σ y. subst (Says (textOf p (w .row))) (fun-ext (λ m. x .says .names m ∙ sym (y .names m))) (w .says);
+      sameFilling = w .says;
     }
+
+-- T-07: "Two passing texts of one problem then differ only in bound names exactly when they name the same solution"
+pub record PassingTexts (s text text′ : Bytes) : Type 0 where
+  pub problem : Problem
+  pub accepted : accept s ≡ got problem
+  pub items : List Item
+  pub reads : readText text ≡ got items
+  pub solution : Solution problem (said items)
+  pub items′ : List Item
+  pub reads′ : readText text′ ≡ got items′
+  pub solution′ : Solution problem (said items′)
+  pub same : (said items ≡ said items′) ↔ AlphaText items items′
+
+-- What a yes rests on: a problem that is accepted, and a text that can be read
+yes-read : (s text : Bytes) (p : Problem) → accept s ≡ got p → checkCall s text ≡ got true
+    → (is : List Item) × (readText text ≡ got is) × Solution p (said is)
+unfolding checkCall
+yes-read s text p a y =
+    by-got (readText text) (λ is. got (passes p is)) (rw a at y) (λ is r e. (is, r, passes-is-right p is .0 (got-is e)))
+
+pub passing-texts : (s text text′ : Bytes) → All Byte text → All Byte text′ → checkCall s text ≡ got true → checkCall s text′ ≡ got true
+    → PassingTexts s text text′
+unfolding checkCall
+passing-texts s text text′ b c y y′ =
+    by-got (accept s) _ y (λ p a e.
+    let (is, r, x) = yes-read s text p a y in
+    let (js, q, z) = yes-read s text′ p a y′ in
+    record {
+      problem = p;
+      accepted = a;
+      items = is;
+      reads = r;
+      solution = x;
+      items′ = js;
+      reads′ = q;
+      solution′ = z;
+      same = same-filling text text′ is js b c r q;
+    })

@@ -19,7 +19,7 @@ use Rattle.meaning.specs.Candidate.{candidate, fullList, solutionRows, s
 use Rattle.meaning.specs.Read.{Answer, got, refused}
 use Rattle.meaning.specs.Readable.{Accepted, WithinLimits}
 use Rattle.meaning.specs.Accept.{accept, checkProblem}
-use Rattle.meaning.specs.Text.{Item, readText}
+use Rattle.meaning.specs.Text.{Item, readText, said}
 use Rattle.meaning.specs.Passing.{passes}
 use Rattle.meaning.specs.Search.{Keeps, Place, Reply, end, ends, finds, past, pauses, placeOf}
 use Rattle.meaning.specs.PlaceValue.{PlaceValue, placeValue}
@@ -76,7 +76,7 @@ starts-past s p a e = rw a (ap (λ (rs : List Row). got (placeValue (placeOf rs)
 
 none-passes : (p : Problem) (is : List Item) → ((σ : Filling) → Solution p σ → ⊥) → passes p is ≡ false
 none-passes p is none =
-    by-test (passes p is) (λ y. let x = passes-is-right p is .0 y in absurd (none (x .filling) (x .solution))) (λ n. n)
+    by-test (passes p is) (λ y. absurd (none (said is) (passes-is-right p is .0 y))) (λ n. n)
 
 -- A LETTER BOTH WAYS FITS NOTHING
 pub fits-nothing : (s : Bytes) (p : Problem) → All Byte s → accept s ≡ got p → bothWays p ≡ true → FitsNothing s p

@@ -38,6 +38,8 @@ pub mod Uncaught
 pub mod NoCapture
 -- Solution texts
 pub mod Nodes
+pub mod FieldOrder
+pub mod AlphaTexts
 pub mod Sums
 pub mod Weights
 pub mod TextLaws

@@ -1,7 +1,7 @@
 -- "No variable of a value, body or argument is ever caught": filling with names and no index.
 -- Patterns and a filling, written with bound names that catch nothing, are filled as the text stands; what that gives equals the
 -- expressions, up to bound names, just when the filling by indices does. And there are always such bound names.
-use mathlib.Core.Path.{_≡_, refl, ap, ap₂, sym, _∙_, subst, fun-ext}
+use mathlib.Core.Path.{_≡_, refl, ap₂, sym, _∙_, subst, fun-ext}
 use mathlib.Core.Logic.{_↔_, _⊎_, inl, inr}
 use Prim.Native.Nat.{ℕ, zero, suc}
 use mathlib.Core.Bool.{true, false, true≢false}
@@ -14,15 +14,15 @@ use Rattle.meaning.specs.Rename.{Alpha}
 use Rattle.meaning.specs.Problem.{Problem, namedPatterns, namedExpressions, patterns, expressions, plain, applied}
 use Rattle.meaning.specs.Filling.{Entry, absent, leftOpen, value, body, Filling, filled}
 use Rattle.meaning.specs.Solution.{Solution}
-use Rattle.meaning.specs.Text.{meant}
-use Rattle.meaning.specs.Textual.{isFree, NamedFilling, textual, UncaughtIn, Uncaught, meantBy, ClosedEntry, Spelling, AlphaEntry}
-use Rattle.meaning.specs.Textual.{bothAbsent, bothOpen, values, bodies, Respelling}
+use Rattle.meaning.specs.Textual.{isFree, NamedFilling, textual, UncaughtIn, Uncaught, meantBy, ClosedEntry, Spelling}
+use Rattle.meaning.specs.Textual.{Respelling}
 use Rattle.meaning.specs.Case.{var, all, box, equals, notCaught}
 use Rattle.meaning.proofs.Lists.{never, by-test, isIn-mem, mem-isIn}
-use Rattle.meaning.proofs.Renaming.{alpha-nameless, nameless-alpha, equal-is-alpha}
+use Rattle.meaning.proofs.Renaming.{alpha-nameless, nameless-alpha}
 use Rattle.meaning.proofs.ViewLaws.{nameless-closed}
 use Rattle.meaning.proofs.TextualLaws.{textual-filled}
 use Rattle.meaning.proofs.Uncaught.{spellings-exist}
+use Rattle.meaning.proofs.AlphaTexts.{alpha-meant}
 
 -- Whatever the spelling, filling as the text stands means the filled patterns
 pub spelled-filled : (u : Terms) (σ : Filling) (s : Spelling u σ) → nameless [] (textual (s .filling) (s .pattern)) ≡ filled σ u
@@ -67,16 +67,10 @@ pub solution-spelled : (p : Problem) (σ : Filling) → Solution p σ → Spelli
 solution-spelled p σ s = problem-spelled p σ (solution-closed p σ s)
 
 -- "bound names are changed first where they would catch one": whatever change it is, it comes to the filling by indices
-entry-meant : (x y : Entry NamedTerm) → AlphaEntry x y → meant y ≡ meant x
-entry-meant x y bothAbsent = refl
-entry-meant x y bothOpen = refl
-entry-meant x y (values {t} {u} a) = ap value (sym (equal-is-alpha t u .1 a))
-entry-meant x y (bodies {t} {u} a) = ap body (sym (equal-is-alpha t u .1 a))
-
 pub respelled-filled : (u : Forest Named) (τ : NamedFilling) (r : Respelling u τ)
     → nameless [] (textual (r .filling) (r .pattern)) ≡ filled (meantBy τ) (nameless [] u)
 respelled-filled u τ r =
-    let entries = fun-ext (λ (m : ℕ). entry-meant (τ m) (r .filling m) (r .sameFilling m)) in
+    let entries = fun-ext (λ (m : ℕ). sym (alpha-meant (τ m) (r .filling m) (r .sameFilling m))) in
     textual-filled (r .filling) (r .pattern) (r .uncaught)
     ∙ ap₂ filled entries (sym (alpha-nameless u (r .pattern) (r .samePattern) []))
 

@@ -105,7 +105,7 @@ fronted-mem zs xs yss m =
     (x, ys, i, j, e)
 
 -- Marks
-countFrom-ordered : (k n : ℕ) → Ordered _<_ (countFrom k n)
+pub countFrom-ordered : (k n : ℕ) → Ordered _<_ (countFrom k n)
 countFrom-ordered k zero = empty
 countFrom-ordered k (suc n) = more (λ y m. let r = countFrom-mem (suc k) n y m in r .0) (countFrom-ordered (suc k) n)
 

@@ -177,6 +177,9 @@ atWidths =
 abbrev value : ℕ → Bytes → Bytes
 value m term = field 8 (m ∷ term)
 
+abbrev openField : ℕ → Bytes
+openField m = field 11 (m ∷ [])
+
 abbrev pub textRefusals : List Refusal
 textRefusals =
     -- 8,193 bytes
@@ -192,7 +195,7 @@ textRefusals =
     ∷ by 20 (value 1 (symbolField ++ (0 ∷ [])))
     -- metavariable 32 with a value and open; an open one with a term
     ∷ by 20 (value 32 symbolField)
-    ∷ by 20 (field 11 (32 ∷ []))
+    ∷ by 20 (openField 32)
     ∷ by 20 (field 11 (1 ∷ symbolField))
     -- a hole in a value, a metavariable and a function in a body
     ∷ by 20 (value 1 (field 10 []))
@@ -202,6 +205,20 @@ textRefusals =
     ∷ by 20 (field 9 (0 ∷ field 10 (0 ∷ [])))
     -- a symbol at depth 33
     ∷ by 20 (value 1 (deep 32 symbolField))
+    -- T-07: a number below the one before it, and the same one, next to each other and with a field between
+    ∷ by 27 (openField 1 ++ openField 0)
+    ∷ by 27 (openField 1 ++ openField 1)
+    ∷ by 27 (openField 1 ++ (openField 2 ++ openField 1))
+    -- .. in fields of each kind, and at the last number
+    ∷ by 27 (value 1 symbolField ++ field 9 (1 ∷ field 10 []))
+    ∷ by 27 (openField 31 ++ openField 31)
+    -- "checked after 20 over the whole text": another tag, a byte too many and metavariable 32, after such a field and before it
+    ∷ by 20 (openField 1 ++ (openField 1 ++ field 10 []))
+    ∷ by 20 (openField 1 ++ (openField 0 ++ (0 ∷ [])))
+    ∷ by 20 (openField 32 ++ (openField 1 ++ openField 1))
+    ∷ by 20 (openField 1 ++ (openField 1 ++ openField 32))
+    -- 19 before both: 2,049 fields of 4 bytes
+    ∷ by 19 (times 2049 (openField 1))
     ∷ []
 
 abbrev pub IsRefusedText : Refusal → Type 0
@@ -322,7 +339,7 @@ pub text-refusals-hold : All IsRefusedText textRefusals
 unfolding reads
 text-refusals-hold = (
   refl,
-  (refl, (refl, (refl, (refl, (refl, (refl, (refl, (refl, (refl, (refl, (refl, (refl, (refl, (refl, (refl, tt))))))))))))))),
+  (refl, (refl, (refl, (refl, (refl, (refl, (refl, (refl, (refl, (refl, (refl, (refl, (refl, (refl, (refl, (refl, (refl, (refl, (refl, (refl, (refl, (refl, (refl, (refl, (refl, tt))))))))))))))))))))))))),
 )
 
 -- In a body, though of a text every refusal becomes 20: "8 tag 5 or 6 in an expression", and a hole that is not empty
@@ -338,9 +355,9 @@ pub limits-accepted : All IsAccepted atLimits
 unfolding accepts
 limits-accepted = ((_, refl), ((_, refl), ((_, refl), ((_, refl), ((_, refl), tt)))))
 
--- Metavariable 31, a symbol at depth 32, and a body that is a hole
+-- A body that is a hole, metavariable 31 after 30, and a symbol at depth 32
 abbrev textAtLimits : Bytes
-textAtLimits = value 31 (deep 31 symbolField) ++ field 9 (30 ∷ field 10 [])
+textAtLimits = field 9 (30 ∷ field 10 []) ++ value 31 (deep 31 symbolField)
 
 pub limits-read : IsReadText textAtLimits
 unfolding reads

@@ -1,6 +1,6 @@
 -- The second demand, as far as it concerns definitions: every written text is read back and passes, and every solution has a row whose
 -- text names it. That a text passes exactly when the filling that it names is a solution is the definition `Passes`.
-use mathlib.Core.Path.{_≡_, refl, _∙_, subst}
+use mathlib.Core.Path.{_≡_, sym, _∙_, subst, fun-ext}
 use Prim.Native.Nat.{ℕ, suc, _≤_}
 use mathlib.Core.Bool.{Bool, true, false}
 use mathlib.Core.List.{List, [], _∷_}
@@ -15,7 +15,7 @@ use Rattle.meaning.specs.Row.{Row}
 use Rattle.meaning.specs.Rows.{rows}
 use Rattle.meaning.specs.Candidate.{candidate, solves}
 use Rattle.meaning.specs.Encoded.{encodeText}
-use Rattle.meaning.specs.Text.{textOf, readText, Says, Passes}
+use Rattle.meaning.specs.Text.{textOf, readText, said, Passes}
 use Rattle.meaning.specs.Field.{encodeProblem}
 use Rattle.meaning.specs.Read.{got}
 use Rattle.meaning.specs.Readable.{Accepted}
@@ -23,7 +23,7 @@ use Rattle.meaning.proofs.ChoiceLaws.{rows-are}
 use Rattle.meaning.proofs.Proper.{accepted-proper}
 use Rattle.meaning.proofs.Solutions.{row-solution-unique, solution-complete, solves-is-right, candidate-solution, OnlyRow}
 use Rattle.meaning.proofs.TextReading.{read-text}
-use Rattle.meaning.proofs.TextLaws.{text-says, text-readable}
+use Rattle.meaning.proofs.TextLaws.{text-says, text-ascends, text-readable}
 use Rattle.meaning.proofs.Sums.{length-upTo}
 use Rattle.meaning.proofs.TextLength.{text-length}
 
@@ -52,35 +52,23 @@ text-fits p r a e =
 -- EVERY WRITTEN TEXT READS BACK
 pub text-read-back : (p : Problem) (r : Row) → Accepted p → r ∈ rows p → solves p r ≡ true
     → readText (encodeText (textOf p r)) ≡ got (textOf p r)
-text-read-back p r a i e = read-text (textOf p r) (text-readable p r a i e) (text-fits p r a e)
+text-read-back p r a i e = read-text (textOf p r) (text-readable p r a i e) (text-ascends p r) (text-fits p r a e)
 
--- ... AND PASSES, as the row's one solution
-pub text-passes : (p : Problem) (r : Row) → Accepted p → r ∈ rows p → solves p r ≡ true
-    → (passes : Passes p (textOf p r)) × (passes .filling ≡ candidate p r)
-text-passes p r a i e = (
-  record {
-    filling = candidate p r;
-    says = text-says p r a e;
-    solution = candidate-solution p r (accepted-proper p a) (rows-are p r .0 i) e;
-  },
-  refl,
-)
+-- ... AND PASSES; it names the row's one solution (`text-says`)
+pub text-passes : (p : Problem) (r : Row) → Accepted p → r ∈ rows p → solves p r ≡ true → Passes p (textOf p r)
+text-passes p r a i e =
+    subst (Solution p) (sym (text-says p r a e)) (candidate-solution p r (accepted-proper p a) (rows-are p r .0 i) e)
 
 -- EVERY SOLUTION HAS A ROW WHOSE TEXT NAMES IT
 pub record Written (p : Problem) (σ : Filling) : Type 0 where
   pub row : Row
   pub isRow : row ∈ rows p
   pub isSolutionRow : solves p row ≡ true
-  pub says : Says (textOf p row) σ
+  pub says : said (textOf p row) ≡ σ
 
 pub solution-written : (p : Problem) (σ : Filling) → Accepted p → Solution p σ → Written p σ
 solution-written p σ a s =
     let o : OnlyRow p σ = solution-complete p σ a s in
     let e : solves p (o .row) ≡ true = solves-is-right p (o .row) a (o .isRow) .1 (σ, s, o .hasBodies) in
-    let t : Says (textOf p (o .row)) (candidate p (o .row)) = text-says p (o .row) a e in
-    record {
-      row = o .row;
-      isRow = o .isRow;
-      isSolutionRow = e;
-      says = record { once = t .once; names = λ m. row-solution-unique p (o .row) σ a s (o .hasBodies) m ∙ t .names m };
-    }
+    let unique : σ ≡ candidate p (o .row) = fun-ext (row-solution-unique p (o .row) σ a s (o .hasBodies)) in
+    record { row = o .row; isRow = o .isRow; isSolutionRow = e; says = text-says p (o .row) a e ∙ sym unique }

@@ -1,12 +1,13 @@
 -- The text that is written for a solution row.
 --   it names the row's solution: each metavariable that occurs once, with a term that means what the solution gives it
 --   it can be read: its terms fit the content rules and the depth
-use mathlib.Core.Path.{_≡_, refl, ap, sym, _∙_, subst}
+use mathlib.Core.Path.{_≡_, refl, ap, sym, _∙_, subst, fun-ext}
 use mathlib.Core.Logic.{_⊎_, inl, inr}
 use Prim.Native.Nat.{ℕ, zero, suc, _<_}
 use mathlib.Core.Bool.{Bool, true, false, _||_, true≢false, false≢true}
 use mathlib.Core.List.{List, [], _∷_, map, List·Memᴰ·head, List·Memᴰ·tail, List·Memᴰ·cases-cons, List·Memᴰ·not-nil}
 use mathlib.Core.Option.{Option, none, some}
+use native.Mathlib.Omega.{arith}
 use lib.ListN.{drop}
 use lib.Dec.{eqb, T}
 use Rattle.meaning.specs.Limits.{metavariableCount, maxDepth}
@@ -17,7 +18,7 @@ use Rattle.meaning.specs.Scope.{enter, nameless, namelessTerm}
 use Rattle.meaning.specs.Shift.{ClosedTerm}
 use Rattle.meaning.specs.Problem.{Constraint, Problem, namedExpressions, patterns, expressions, plain, applied, placesOf, isFunction}
 use Rattle.meaning.specs.Problem.{isPlain, functions, metavariables}
-use Rattle.meaning.specs.Filling.{Entry, absent, value, body, IsBody}
+use Rattle.meaning.specs.Filling.{Entry, value, body, IsBody}
 use Rattle.meaning.specs.Face.{Face, faces, isApplication, firstFace}
 use Rattle.meaning.specs.Choice.{Mark, Marks, mark, rest, punch, punchNode, punchTerm}
 use Rattle.meaning.specs.Row.{Row, faceTerm, faceOf, choiceIn, rowBody}
@@ -26,10 +27,13 @@ use Rattle.meaning.specs.Value.{Source, sources, lookup}
 use Rattle.meaning.specs.Candidate.{given, candidate, isClosedEntry, solves}
 use Rattle.meaning.specs.Read.{Context, inExpression, inBody, contextBelow}
 use Rattle.meaning.specs.Readable.{NodeFits, Readable, ReadableConstraint, Accepted, ReadableEntry, ReadableItem}
-use Rattle.meaning.specs.Text.{Item, termOr, termAt, faceNode, writtenBody, writtenValue, entryOf, textOf, meant, said, Says}
-use Rattle.meaning.proofs.Lists.{never, true-T, keep-distinct, eqb-eq, eqb-self, eqb-other, by-test, choose-true, choose-false}
-use Rattle.meaning.proofs.Lists.{keep-mem, isIn-mem, mem-isIn, not-isIn, upTo-mem, all-mem, mem-all, distinct-countFrom}
+use Rattle.meaning.specs.Text.{Item, termOr, termAt, faceNode, writtenBody, writtenValue, entryOf, textOf, meant, numbers, rises, said}
+use Rattle.meaning.proofs.Lists.{never, true-T, eqb-eq, eqb-self, by-test, choose-true, choose-false}
+use Rattle.meaning.proofs.Lists.{keep-mem, isIn-mem, mem-isIn, not-isIn, upTo-mem, all-mem, mem-all}
+use Rattle.meaning.specs.Difference.{Ordered}
 use Rattle.meaning.proofs.ShiftLaws.{test-closed}
+use Rattle.meaning.proofs.Ordered.{countFrom-ordered, keep-ordered, ordered-distinct}
+use Rattle.meaning.proofs.FieldOrder.{ordered-rises, said-nowhere}
 use Rattle.meaning.proofs.ChoiceLaws.{rows-are}
 use Rattle.meaning.proofs.Proper.{Proper, accepted-proper, hole-tagged, applied-occurs, plain-occurs}
 use Rattle.meaning.proofs.Candidate.{lookup-is, candidate-function, candidate-plain, candidate-other}
@@ -38,10 +42,14 @@ use Rattle.meaning.proofs.Solutions.{passes-walk, passes-faces, passes-
 use Rattle.meaning.proofs.Nodes.{Stands, here, below, beside, node-stands, face-node, source-node, named-node, scope-drop}
 use Rattle.meaning.proofs.Nodes.{punch-names}
 
--- Numbers in order, and so the metavariables of a problem, have none twice
-pub metavariables-once : (p : Problem) → Distinct (metavariables p)
+-- The metavariables of a problem are in order, and so none is there twice
+metavariables-ordered : (p : Problem) → Ordered _<_ (metavariables p)
 unfolding metavariables
-metavariables-once p = keep-distinct (λ m. isFunction p m || isPlain p m) (upTo metavariableCount) (distinct-countFrom 0 metavariableCount)
+metavariables-ordered p =
+    keep-ordered _<_ (λ m. isFunction p m || isPlain p m) (upTo metavariableCount) (countFrom-ordered 0 metavariableCount)
+
+pub metavariables-once : (p : Problem) → Distinct (metavariables p)
+metavariables-once p = ordered-distinct _<_ (λ m l. omega arith) (metavariables p) (metavariables-ordered p)
 
 -- Which metavariables are written: those that occur
 small-number : (p : Problem) (m : ℕ) → m ∈ metavariables p → m < metavariableCount
@@ -166,13 +174,7 @@ said-in says (k ∷ ms) m h = go (eqb m k) refl (said-in says ms m) (List·Mem�
     go false q ih (inl w) = absurd (false≢true (sym q ∙ ap (eqb m) (sym w) ∙ eqb-self m))
     go false q ih (inr w) = ih w
 
-said-out : (says : ℕ → Entry NamedTerm) (ms : List ℕ) (m : ℕ) → (m ∈ ms → ⊥) → said (itemsOf says ms) m ≡ absent
-said-out says [] m h = refl
-said-out says (k ∷ ms) m h =
-    choose-false (meant (says k)) (said (itemsOf says ms) m) (eqb-other m k (λ w. h (List·Memᴰ·head w)))
-    ∙ said-out says ms m (λ w. h (List·Memᴰ·tail w))
-
-numbers-of : (says : ℕ → Entry NamedTerm) (ms : List ℕ) → map (λ (i : Item). i .0) (itemsOf says ms) ≡ ms
+numbers-of : (says : ℕ → Entry NamedTerm) (ms : List ℕ) → numbers (itemsOf says ms) ≡ ms
 numbers-of says [] = refl
 numbers-of says (m ∷ ms) = ap (λ (r : List ℕ). m ∷ r) (numbers-of says ms)
 
@@ -256,25 +258,28 @@ punched-readable n tagged (suc levels) sc ms (cons l c s) h b =
     go (some i) d x y = (tagged i (d .0 .0), tt, y (d .2))
 
 -- THE TEXT NAMES THE SOLUTION
-pub text-says : (p : Problem) (r : Row) → Accepted p → solves p r ≡ true → Says (textOf p r) (candidate p r)
+pub text-says : (p : Problem) (r : Row) → Accepted p → solves p r ≡ true → said (textOf p r) ≡ candidate p r
 unfolding textOf
-text-says p r ok e =
-    record {
-      once = subst Distinct (sym (numbers-of (entryOf p r) (metavariables p))) (metavariables-once p);
-      names = λ m. by-test (isIn m (metavariables p)) (there m) (elsewhere m);
-    }
+text-says p r ok e = fun-ext (λ m. by-test (isIn m (metavariables p)) (there m) (elsewhere m))
   where
-    there : (m : ℕ) → isIn m (metavariables p) ≡ true → candidate p r m ≡ said (itemsOf (entryOf p r) (metavariables p)) m
+    there : (m : ℕ) → isIn m (metavariables p) ≡ true → said (itemsOf (entryOf p r) (metavariables p)) m ≡ candidate p r m
     there m q =
         let h : m ∈ metavariables p = isIn-mem m (metavariables p) q in
-        sym (text-entry p r ok e m h) ∙ sym (said-in (entryOf p r) (metavariables p) m h)
+        said-in (entryOf p r) (metavariables p) m h ∙ text-entry p r ok e m h
 
-    elsewhere : (m : ℕ) → isIn m (metavariables p) ≡ false → candidate p r m ≡ said (itemsOf (entryOf p r) (metavariables p)) m
+    elsewhere : (m : ℕ) → isIn m (metavariables p) ≡ false → said (itemsOf (entryOf p r) (metavariables p)) m ≡ candidate p r m
     elsewhere m q =
         let h : (m ∈ metavariables p → ⊥) = λ w. true≢false (sym (mem-isIn m (metavariables p) w) ∙ q) in
         let c : Proper p = accepted-proper p ok in
-        candidate-other p r m (λ a. h (applied-occurs p c m a)) (λ a. h (plain-occurs p c m a))
-        ∙ sym (said-out (entryOf p r) (metavariables p) m h)
+        said-nowhere (itemsOf (entryOf p r) (metavariables p)) m
+        (λ w. h (subst (λ (ms : List ℕ). m ∈ ms) (numbers-of (entryOf p r) (metavariables p)) w))
+        ∙ sym (candidate-other p r m (λ a. h (applied-occurs p c m a)) (λ a. h (plain-occurs p c m a)))
+
+-- ITS NUMBERS RISE: "one field for each metavariable that occurs, ascending"
+pub text-ascends : (p : Problem) (r : Row) → rises (numbers (textOf p r)) ≡ true
+unfolding textOf
+text-ascends p r =
+    ap rises (numbers-of (entryOf p r) (metavariables p)) ∙ ordered-rises (metavariables p) (metavariables-ordered p)
 
 -- THE TEXT CAN BE READ
 pub text-readable : (p : Problem) (r : Row) → Accepted p → r ∈ rows p → solves p r ≡ true → All ReadableItem (textOf p r)

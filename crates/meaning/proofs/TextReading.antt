@@ -15,7 +15,7 @@ use Rattle.meaning.specs.Filling.{Entry, absent, leftOpen, value, body}
 use Rattle.meaning.specs.Field.{field, encode}
 use Rattle.meaning.specs.Read.{Answer, refused, got, Context, inExpression, inBody, Parts, partsOf, readTerm}
 use Rattle.meaning.specs.Readable.{Readable, ReadableEntry, ReadableItem}
-use Rattle.meaning.specs.Text.{Item, orTwenty, readNumbered, readOpen, readItem, readItems, readText}
+use Rattle.meaning.specs.Text.{Item, orTwenty, readNumbered, readOpen, readItem, readItems, readText, numbers, rises}
 use Rattle.meaning.specs.Encoded.{encodeEntry, encodeText}
 use Rattle.meaning.proofs.Lists.{all-append}
 use Rattle.meaning.proofs.ByteLaws.{Byte, got-is, refused-not, by-got, unless-got, when-got, by-choice, none-left, one-byte}
@@ -177,10 +177,21 @@ twenty-got : (a : Answer (List Item)) {is : List Item} → orTwenty a ≡ got is
 twenty-got (refused r) e = absurd (refused-not e)
 twenty-got (got x) e = e
 
--- The main theorems. Every text of readable items that is not too long is read back from its encoding, which consists of bytes
-pub read-text : (is : List Item) → All ReadableItem is → length (encodeText is) ≤ maxText → readText (encodeText is) ≡ got is
+-- What a text was read as: its fields give these items, and their numbers rise
+reading : (s : Bytes) (is : List Item) → readText s ≡ got is → (readItems (length s) s ≡ got is) × (rises (numbers is) ≡ true)
 unfolding readText
-read-text is r h = rw (le-ltb maxText (length (encodeText is)) h, items-complete (length (encodeText is)) is r (omega arith))
+reading s is e =
+    by-got (orTwenty (readItems (length s) s)) _ (unless-got (ltb maxText (length s)) 19 _ e .1) (λ js read e.
+    let ordered = when-got (rises (numbers js)) 27 _ e in
+    subst (λ (ks : List Item). (readItems (length s) s ≡ got ks) × (rises (numbers ks) ≡ true)) (got-is (ordered .1))
+    (twenty-got (readItems (length s) s) read, ordered .0))
+
+-- The main theorems. Every text of readable items that is not too long and whose numbers rise is read back from its encoding, which
+-- consists of bytes
+pub read-text : (is : List Item) → All ReadableItem is → rises (numbers is) ≡ true → length (encodeText is) ≤ maxText
+    → readText (encodeText is) ≡ got is
+unfolding readText
+read-text is r o h = rw (le-ltb maxText (length (encodeText is)) h, items-complete (length (encodeText is)) is r (omega arith), o)
 
 pub text-bytes : (is : List Item) → All ReadableItem is → length (encodeText is) ≤ maxText → All (λ b. b < 256) (encodeText is)
 unfolding maxText
@@ -188,6 +199,8 @@ text-bytes is r h = items-bytes is r (omega arith)
 
 -- The items read from a text encode to exactly its bytes, and are readable
 pub text-read : (s : Bytes) (is : List Item) → All (λ b. b < 256) s → readText s ≡ got is → (encodeText is ≡ s) × All ReadableItem is
-unfolding readText
-text-read s is b e =
-    items-faithful (length s) s is b (omega arith) (twenty-got (readItems (length s) s) (unless-got (ltb maxText (length s)) 19 _ e .1))
+text-read s is b e = items-faithful (length s) s is b (omega arith) (reading s is e .0)
+
+-- T-07: "metavariable numbers must rise from field to field"
+pub text-rises : (s : Bytes) (is : List Item) → readText s ≡ got is → rises (numbers is) ≡ true
+text-rises s is e = reading s is e .1

@@ -69,6 +69,6 @@ pub data WriteCall (s : Bytes) (v : PlaceValue) (buffer : Bytes) : Answer ℕ �
       → solves p r ≡ true → length (rowText p r) ≤ length buffer
       → WriteCall s v buffer (got (length (rowText p r))) (rowText p r ++ drop (length (rowText p r)) buffer)
 
--- "The checker takes a problem and a text .. and says yes or no": 1 to 14 and 25, then 19 and 20
+-- "The checker takes a problem and a text .. and says yes or no": 1 to 14 and 25, then 19, 20 and 27
 unfoldable pub checkCall : Bytes → Bytes → Answer Bool
 checkCall s text = after (accept s) (λ p. after (readText text) (λ is. got (passes p is)))

@@ -1,28 +1,23 @@
 -- The checker's test. It is yes exactly for the texts that pass (`passes-is-right`), so that nobody has to believe it.
 --   bothWays   T-09: "the checker says no to every well-formed text"
---   once     no metavariable twice
---   known    none that does not occur
+--   known    no metavariable that does not occur
 --   kinds    a body for each function, a value or nothing for each other metavariable
 --   openUnneeded, unneededOpen   open just where no value is needed
 --   meets    each filled pattern equals its expression
 -- The parts stand apart, since an editor will ask which of them fails.
 use Prim.Native.Nat.{ℕ}
 use mathlib.Core.Bool.{Bool, true, false, _&&_, _||_, not}
-use mathlib.Core.List.{List, [], _∷_, map}
+use mathlib.Core.List.{List}
 use lib.Dec.{eqb, ltb}
-use Rattle.meaning.specs.Basics.{every, isIn}
+use Rattle.meaning.specs.Basics.{every}
 use Rattle.meaning.specs.Term.{Nameless, Term, Terms, cons, function, hole, metavariable, nil, one, own, slot}
 use Rattle.meaning.specs.Problem.{Problem, Standing, applied, bothWays, expressions, isFunction, isPlain, patterns, placesOf, plain}
 use Rattle.meaning.specs.Problem.{standings}
 use Rattle.meaning.specs.Filling.{Entry, Filling, absent, body, filled, leftOpen, value}
 use Rattle.meaning.specs.Solution.{needs}
-use Rattle.meaning.specs.Text.{Item, said}
+use Rattle.meaning.specs.Text.{Item, numbers, said}
 use Rattle.meaning.specs.Same.{sameTerms}
 use Rattle.meaning.specs.ClosedTest.{isClosed}
-
-abbrev pub isOnce : List ℕ → Bool
-isOnce [] = true
-isOnce (m ∷ ms) = not (isIn m ms) && isOnce ms
 
 -- A body of n places, and an expression: a body of none
 abbrev pub isBodyLabel : ℕ → Nameless → Terms → Bool
@@ -58,7 +53,7 @@ isOpen leftOpen = true
 isOpen (value t) = false
 isOpen (body b) = false
 
-abbrev pub isAbsent : {T : Type 0} → Entry T → Bool
+abbrev pub isAbsent : Entry Term → Bool
 isAbsent absent = true
 isAbsent leftOpen = false
 isAbsent (value t) = false
@@ -68,11 +63,8 @@ isAbsent (body b) = false
 abbrev pub isNeeded : Filling → List Standing → ℕ → Bool
 isNeeded σ ws m = not (every (λ (w : Standing). not (eqb m (w .0) && needs σ (w .1))) ws)
 
-abbrev pub once : List Item → Bool
-once is = isOnce (map (λ (i : Item). i .0) is)
-
 abbrev pub known : Problem → List Item → Bool
-known p is = every (λ (i : Item). isAbsent (i .1) || (isFunction p (i .0) || isPlain p (i .0))) is
+known p is = every (λ m. isAbsent (said is m) || (isFunction p m || isPlain p m)) (numbers is)
 
 abbrev pub kinds : Problem → Filling → Bool
 kinds p σ = every (λ f. isBodyEntry (placesOf p f) (σ f)) (applied (patterns p)) && every (λ m. isValueEntry (σ m)) (plain (patterns p))
@@ -91,4 +83,4 @@ meets p σ = sameTerms (filled σ (patterns p)) (expressions p)
 unfoldable pub passes : Problem → List Item → Bool
 passes p is =
     not (bothWays p)
-    && (once is && (known p is && (kinds p (said is) && (openUnneeded p (said is) && (unneededOpen p (said is) && meets p (said is))))))
+    && (known p is && (kinds p (said is) && (openUnneeded p (said is) && (unneededOpen p (said is) && meets p (said is)))))

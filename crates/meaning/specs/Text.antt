@@ -1,16 +1,17 @@
 -- Solution texts: what is written for a solution row, what a text says, and which texts pass.
 --   Item      a metavariable with what the text says of it: "8 (value), 9 (body), 11 (open)"
 --   textOf    the items written for a row: "one field for each metavariable that occurs, ascending"
---   Says      the filling that a text names
+--   rises     T-07: "metavariable numbers must rise from field to field"
+--   said      the filling that a text names
 --   Passes    the checker says yes
-use mathlib.Core.Path.{_≡_}
 use Prim.Native.Nat.{ℕ, zero, suc}
+use mathlib.Core.Bool.{Bool, true, _&&_}
 use mathlib.Core.List.{List, [], _∷_, map}
 use mathlib.Core.Option.{Option, none, some}
 use lib.ListN.{length, drop, getD}
 use lib.Dec.{eqb, ltb}
 use Rattle.meaning.specs.Limits.{maxDepth, maxText, metavariableCount}
-use Rattle.meaning.specs.Basics.{Bytes, Distinct, choose, orNone}
+use Rattle.meaning.specs.Basics.{Bytes, choose, orNone}
 use Rattle.meaning.specs.Term.{NamedTerm, Term, hole, nil, nodeAt, slot}
 use Rattle.meaning.specs.Scope.{namelessTerm}
 use Rattle.meaning.specs.Problem.{Problem, functions, isFunction, metavariables, namedExpressions}
@@ -50,7 +51,7 @@ entryOf p r m = choose (isFunction p m) (writtenBody p r m) (writtenValue p (loo
 unfoldable pub textOf : Problem → Row → List Item
 textOf p r = map (λ m. (m, entryOf p r m)) (metavariables p)
 
--- Reading a text: 19, then 20 for whatever is not as above; T-05, of 25: "20 in a text"
+-- Reading a text: 19, then 20 for whatever is not as above, then 27; T-05, of 25: "20 in a text"
 abbrev pub orTwenty : {A : Type 0} → Answer A → Answer A
 orTwenty (refused r) = refused 20
 orTwenty (got a) = got a
@@ -82,9 +83,27 @@ readItems (suc n) s =
     let more : Answer (List Item) = after (partsOf s) (λ p. after (readItem p) (λ i. after (readItems n (p .later)) (λ is. got (i ∷ is)))) in
     choose (eqb (length s) 0) (got []) more
 
--- "19 text over 8,192 bytes; 20 not fields 8, 9, 11 with contents as above, depth over 32 (its term has depth 1), or metavariable over 31"
+-- The numbers of the fields, in their order
+abbrev pub numbers : List Item → List ℕ
+numbers is = map (λ (i : Item). i .0) is
+
+-- Each number is above the one before it; m is the one before the first
+abbrev pub risesAfter : ℕ → List ℕ → Bool
+risesAfter m [] = true
+risesAfter m (n ∷ ns) = ltb m n && risesAfter n ns
+
+abbrev pub rises : List ℕ → Bool
+rises [] = true
+rises (m ∷ ms) = risesAfter m ms
+
+-- T-07: "27 when a number isn't above the one before it"
+abbrev pub inOrder : List Item → Answer (List Item)
+inOrder is = choose (rises (numbers is)) (got is) (refused 27)
+
+-- "19 text over 8,192 bytes; 20 not fields 8, 9, 11 with contents as above, depth over 32 (its term has depth 1), or metavariable over 31";
+-- T-07, of 27: "checked after 20 over the whole text"
 unfoldable pub readText : Bytes → Answer (List Item)
-readText s = choose (ltb maxText (length s)) (refused 19) (orTwenty (readItems (length s) s))
+readText s = choose (ltb maxText (length s)) (refused 19) (after (orTwenty (readItems (length s) s)) inOrder)
 
 -- What an item's term means
 abbrev pub meant : Entry NamedTerm → Entry Term
@@ -97,12 +116,6 @@ abbrev pub said : List Item → Filling
 said [] m = absent
 said (i ∷ is) m = choose (eqb m (i .0)) (meant (i .1)) (said is m)
 
--- "fields in any order, bound names free"; "A wrong, missing or double metavariable is a no."
-pub record Says (is : List Item) (σ : Filling) : Type 0 where
-  pub once : Distinct (map (λ (i : Item). i .0) is)
-  pub names : (m : ℕ) → σ m ≡ said is m
-
-pub record Passes (p : Problem) (is : List Item) : Type 0 where
-  pub filling : Filling
-  pub says : Says is filling
-  pub solution : Solution p filling
+-- "A solution text passes exactly when the filling it names is a solution", "bound names free"
+abbrev pub Passes : Problem → List Item → Type 0
+Passes p is = Solution p (said is)

@@ -4,12 +4,13 @@
 --   put        each slot replaced, as the text stands: no name is changed
 --   textual    patterns filled so: a metavariable by its value, P(t) by P's body with the filled t in each hole
 --   Uncaught   no binder's name is free in what is put below it: the case in which no bound name has to be changed
+--   AlphaEntry, AlphaText   entries, and texts, that differ at most in bound names
 --   Spelling, Respelling   bound names so chosen, for what is given without names and with names
 -- Where nothing is caught, `textual` gives what `filled` means; and there is always a spelling in which nothing is.
 use mathlib.Core.Path.{_≡_}
 use Prim.Native.Nat.{ℕ}
 use mathlib.Core.Bool.{Bool, false, _||_}
-use mathlib.Core.List.{List, []}
+use mathlib.Core.List.{List, [], _∷_}
 use lib.Dec.{eqb}
 use Rattle.meaning.specs.Basics.{All, choose, holds}
 use Rattle.meaning.specs.Term.{Forest, Named, NamedTerm, Slot, Term, Terms, cons, function, graft, hole, metavariable, nil, one, own}
@@ -17,7 +18,7 @@ use Rattle.meaning.specs.Term.{slot, variableOf}
 use Rattle.meaning.specs.Scope.{enter, nameless}
 use Rattle.meaning.specs.Shift.{ClosedTerm}
 use Rattle.meaning.specs.Filling.{Entry, Filling, absent, argument, body, bodyOr, leftOpen, value, valueOr}
-use Rattle.meaning.specs.Text.{meant}
+use Rattle.meaning.specs.Text.{Item, meant}
 use Rattle.meaning.specs.Rename.{Alpha, binds}
 
 -- Free names
@@ -122,6 +123,13 @@ pub data AlphaEntry : Entry NamedTerm → Entry NamedTerm → Type 0 where
   bothOpen : AlphaEntry leftOpen leftOpen
   values : {t u : NamedTerm} → Alpha (one t) (one u) → AlphaEntry (value t) (value u)
   bodies : {t u : NamedTerm} → Alpha (one t) (one u) → AlphaEntry (body t) (body u)
+
+-- T-07: texts that "differ only in bound names": the same fields in the same order, with terms equal up to bound names
+abbrev pub AlphaText : List Item → List Item → Type 0
+AlphaText [] [] = Unit {0}
+AlphaText [] (j ∷ js) = ⊥
+AlphaText (i ∷ is) [] = ⊥
+AlphaText (i ∷ is) (j ∷ js) = (i .0 ≡ j .0) × AlphaEntry (i .1) (j .1) × AlphaText is js
 
 -- Patterns and a filling with bound names "changed first where they would catch one"
 pub record Respelling (u : Forest Named) (τ : NamedFilling) : Type 0 where

@@ -11,7 +11,7 @@ use Rattle.meaning.specs.Basics.{choose}
 use Rattle.meaning.specs.Text.{Item, meant, said}
 use Rattle.said.specs.Said.{SaidBy, itemOf}
 
--- The filling that a text names gives each metavariable what its first field means
+-- The filling that a text names gives each metavariable what its field means
 pub said-item : (is : List Item) (m : ℕ) → said is m ≡ meant (itemOf is m)
 said-item [] m = refl
 said-item (i ∷ is) m = go (eqb m (i .0)) (said-item is m)
@@ -21,7 +21,7 @@ said-item (i ∷ is) m = go (eqb m (i .0)) (said-item is m)
     go false e = e
 
 -- An empty text
-pub said-nothing : SaidBy [] [] (record { tags = replicate 32 0; nodes = replicate 32 0; once = true })
+pub said-nothing : SaidBy [] [] (record { tags = replicate 32 0; nodes = replicate 32 0 })
 unfolding metavariableCount
 said-nothing = record {
   isTable = record { counted = λ k h. absurd (omega arith); small = omega arith };
@@ -30,5 +30,4 @@ said-nothing = record {
   nodesLong = refl;
   tags = λ m h. getD-replicate 32 m 0 0 h;
   nodes = λ m h. tt;
-  once = refl;
 }

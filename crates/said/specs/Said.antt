@@ -1,11 +1,11 @@
 -- What a text says of each metavariable.
---   itemOf     the first entry that a text's items have for a metavariable
+--   itemOf     the entry that a text's items have for a metavariable
 --   entryTag   the tag of its field, and 0 where there is none
 --   TermAt     a term of the text stands in the table of the text
 --   SaidBy     what is held of a text's items, whose terms stand in the table
 use mathlib.Core.Path.{_≡_}
 use Prim.Native.Nat.{ℕ, _<_}
-use mathlib.Core.List.{List, [], _∷_, map}
+use mathlib.Core.List.{List, [], _∷_}
 use lib.ListN.{length}
 use lib.Dec.{eqb}
 use Rattle.meaning.specs.Limits.{maxDepth, metavariableCount}
@@ -15,7 +15,6 @@ use Rattle.meaning.specs.Read.{Context, inBody, inExpression}
 use Rattle.meaning.specs.Filling.{Entry, absent, body, leftOpen, value}
 use Rattle.meaning.specs.Text.{Item}
 use Rattle.meaning.specs.Readable.{ReadableItem}
-use Rattle.meaning.specs.Passing.{isOnce}
 use Rattle.tokens.specs.Token.{Table}
 use Rattle.tokens.specs.Key.{Held, Stands, at}
 use Rattle.said.specs.declared.Said.{Said}
@@ -48,5 +47,3 @@ pub record SaidBy (table : List ℕ) (is : List Item) (s : Said) : Type 0 where
   pub nodesLong : length (s .nodes) ≡ metavariableCount
   pub tags : (m : ℕ) → m < metavariableCount → at (s .tags) m ≡ entryTag (itemOf is m)
   pub nodes : (m : ℕ) → m < metavariableCount → EntryAt table (at (s .nodes) m) (itemOf is m)
-  -- "A wrong, missing or double metavariable is a no"
-  pub once : s .once ≡ isOnce (map (λ (i : Item). i .0) is)

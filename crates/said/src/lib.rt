@@ -1,5 +1,4 @@
-// What a text says of each metavariable, as the checker holds it: the first field that the text has for it, and whether some metavariable
-// has more than one.
+// What a text says of each metavariable, as the checker holds it: the one field that the text has for it, if there is one.
 use metavariables::METAVARIABLES;
 ghost use mathlib.Core.List.{[]};
 ghost use Rattle.said.specs.Said.{SaidBy};
@@ -9,8 +8,6 @@ pub struct Said {
     pub tags: [u8; METAVARIABLES as usize],
     // Where the term of the field stands in the table of the text.
     pub nodes: [usize; METAVARIABLES as usize],
-    // Whether no metavariable has two fields.
-    pub once: bool,
 }
 
 impl Said {
@@ -21,7 +18,6 @@ impl Said {
         Said {
             tags: [0u8; METAVARIABLES as usize],
             nodes: [0usize; METAVARIABLES as usize],
-            once: true,
         }
     }
 }

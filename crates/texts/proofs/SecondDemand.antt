@@ -1,6 +1,6 @@
 -- THE SECOND DEMAND, of what `write` and `check` answer: "Every written text reads back as its solution; every filling that passes has a
 -- row whose text names it." That a text passes exactly when the filling it names is a solution is `check-is-right` of `meaning`.
-use mathlib.Core.Path.{_≡_, refl, ap, sym, _∙_, subst}
+use mathlib.Core.Path.{_≡_, refl, ap, sym, _∙_, subst, fun-ext}
 use mathlib.Core.Bool.{true, false}
 use mathlib.Core.List.{List}
 use Prim.Native.Nat.{ℕ, _≤_}
@@ -13,16 +13,17 @@ use Rattle.meaning.specs.Problem.{Problem}
 use Rattle.meaning.specs.Read.{Answer, got, refused}
 use Rattle.meaning.specs.Readable.{Accepted}
 use Rattle.meaning.specs.Accept.{accept}
-use Rattle.meaning.specs.Row.{Row}
+use Rattle.meaning.specs.Row.{HasBodies, Row}
 use Rattle.meaning.specs.Rows.{rows}
 use Rattle.meaning.specs.Search.{at}
 use Rattle.meaning.specs.PlaceValue.{Names, masksOf}
 use Rattle.meaning.specs.Candidate.{solves}
-use Rattle.meaning.specs.Text.{Item, readText, textOf}
+use Rattle.meaning.specs.Solution.{Solution}
+use Rattle.meaning.specs.Text.{Item, readText, said, textOf}
 use Rattle.meaning.specs.Entry.{WriteCall, checkCall, noSolutionRow, noSuchRow, notAccepted, rowText, tooShort, writes}
 use Rattle.meaning.proofs.ByteLaws.{Byte}
 use Rattle.meaning.proofs.ChoiceLaws.{rows-are}
-use Rattle.meaning.proofs.EntryLaws.{RowOfText, passing-written, written-passes}
+use Rattle.meaning.proofs.EntryLaws.{PassingTexts, RowOfText, passing-texts, passing-written, written-passes}
 use Rattle.meaning.proofs.ProblemReading.{accept-accepted}
 use Rattle.meaning.proofs.SecondDemand.{text-fits, text-read-back}
 use Rattle.meaning.proofs.Solutions.{row-solution-unique, solves-is-right}
@@ -49,7 +50,7 @@ row-confirmed s row p r b e n h =
     let a : Accepted p = accept-accepted s p b e .0 in
     let m : r ∈ rows p = rows-are p r .1 (n .isPlace) in
     let (σ, solution, bodies) = solves-is-right p r a m .0 h in
-    let t = text-says p r a h in
+    let names : σ ≡ said (textOf p r) = fun-ext (row-solution-unique p r σ a solution bodies) ∙ sym (text-says p r a h) in
     record {
       problem = p;
       accepted = e;
@@ -57,10 +58,8 @@ row-confirmed s row p r b e n h =
       named = n;
       items = textOf p r;
       reads = text-read-back p r a m h;
-      filling = σ;
-      says = record { once = t .once; names = λ k. row-solution-unique p r σ a solution bodies k ∙ t .names k };
-      solution = solution;
-      bodies = bodies;
+      solution = subst (Solution p) names solution;
+      bodies = subst (HasBodies p r) names bodies;
     }
 
 -- What `check` answers
@@ -122,7 +121,7 @@ module _ (s : Bytes) (bytes : All Byte s) where
             reads = f;
             items′ = textOf p r;
             reads′ = ap readText front ∙ text-read-back p r a m (found .isSolutionRow);
-            same = found .sameFilling;
+            same = sym (found .sameFilling);
           },
         )
 
@@ -139,3 +138,9 @@ module _ (s : Bytes) (bytes : All Byte s) where
       go (refused n) e y f = never (cc)
       go (got p) e (refused n) f = never (cc)
       go (got p) e (got is) f = (place text p is e f (sym c), row-for text p is e f (sym c))
+
+-- T-07: TWO TEXTS OF ONE PROBLEM THAT `check` PASSES "differ only in bound names exactly when they name the same solution"
+pub checked-same : (s text text′ : Bytes) → All Byte text → All Byte text′ → checking.answerOf checked.Yes ≡ checkCall s text
+    → checking.answerOf checked.Yes ≡ checkCall s text′
+    → PassingTexts s text text′
+checked-same s text text′ b c y y′ = passing-texts s text text′ b c (sym y) (sym y′)
