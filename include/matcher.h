@@ -11,8 +11,8 @@
  *         if (answer == MATCHER_FOUND) { .. matcher_write(problem, len, row, MATCHER_PLACE_WORDS, ..) .. }
  *     } while (answer == MATCHER_FOUND || answer == MATCHER_PAUSED);
  *
- * Every function takes any bytes, words and buffers. It answers 0 or a number from 256 on, or else a refusal, 1 to 20 but for 12, or 25;
- * of several that apply the first is given, in the order in which the function's description names them. After a refusal no buffer is
+ * Every function takes any bytes, words and buffers. It answers 0 or a number from 256 on, or else a refusal, 1 to 20 but for 12, 25 or
+ * 27; of several that apply the first is given, in the order in which the function's description names them. After a refusal no buffer is
  * changed.
  * Every call takes the problem anew and keeps nothing, so that calls may run side by side; no memory is allocated.
  *
@@ -76,6 +76,7 @@ extern "C" {
 #define MATCHER_BUFFER 18                  /* buffer too short; a row buffer that has not the words of a place */
 #define MATCHER_TEXT_TOO_LONG 19           /* a text over 8,192 bytes */
 #define MATCHER_TEXT_MALFORMED 20          /* a text that is not fields 8, 9, 11 with their contents; depth over 32; metavariable over 31 */
+#define MATCHER_TEXT_ORDER 27              /* a text in which a metavariable's number is not above the one before it */
 
 /* The start of the problem into `place`: its first row, or past the last if there is none. MATCHER_OK, or refused: 1 to 14 or 25; 16 where
    `words` is not MATCHER_PLACE_WORDS. */
@@ -95,9 +96,10 @@ uint32_t matcher_search(const uint8_t *problem, size_t len, uint64_t *place, siz
 uint32_t matcher_write(const uint8_t *problem, size_t len, const uint64_t *row, size_t words, uint8_t *out, size_t out_len,
                        uint64_t *written);
 
-/* Whether the filling that the text names is a solution of the problem: MATCHER_YES or MATCHER_NO. The text's fields may come in any
-   order and its bound names are free; a wrong, missing or double metavariable is a no. Refused: 1 to 14 or 25; 19 a text over 8,192 bytes;
-   20 a malformed one. */
+/* Whether the filling that the text names is a solution of the problem: MATCHER_YES or MATCHER_NO. Metavariable numbers must rise from
+   field to field, and bound names are free: two texts that pass name the same solution exactly when they differ only in bound names. A
+   wrong or missing metavariable is a no. Refused: 1 to 14 or 25; 19 a text over 8,192 bytes; 20 a malformed one; 27 one whose numbers do
+   not rise. */
 uint32_t matcher_check(const uint8_t *problem, size_t len, const uint8_t *text, size_t text_len);
 
 #ifdef __cplusplus

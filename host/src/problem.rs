@@ -62,8 +62,9 @@ impl Problem {
         }
     }
 
-    /// Whether the filling that a text names is a solution. The text's fields may come in any order, and its bound names
-    /// are free; a wrong, missing or double metavariable is a no.
+    /// Whether the filling that a text names is a solution. Metavariable numbers must rise from field to field
+    /// ([`Refusal::TextOutOfOrder`]), and bound names are free: two texts that pass name the same solution exactly when
+    /// they differ only in bound names. A wrong or missing metavariable is a no.
     pub fn check(&self, text: &[u8]) -> Result<bool, Refusal> {
         match raw::check(&self.bytes, text) {
             raw::YES => Ok(true),

@@ -1,8 +1,8 @@
 //! The functions of the proved library as they stand in `include/matcher.h`, with slices in place of pointers.
 //!
 //! Every function takes any bytes, words and buffers, and answers a number: 0 or one from 256 on, or else a refusal, 1 to
-//! 20 ([`Refusal`](crate::Refusal)). After a refusal no buffer is changed. A host that has a [`Problem`](crate::Problem)
-//! needs none of this; it is here for programs that keep places and rows in their own way.
+//! 20 but for 12, 25 or 27 ([`Refusal`](crate::Refusal)). After a refusal no buffer is changed. A host that has a
+//! [`Problem`](crate::Problem) needs none of this; it is here for programs that keep places and rows in their own way.
 
 /// A place has so many words: a mask for each of 8 functions by ascending number, then 0 for a row or 1 for past the last.
 /// Node k of a function's face, a hole of its body, is bit 63 - k of its mask.
@@ -98,7 +98,7 @@ pub fn write(problem: &[u8], row: &[u64], out: &mut [u8], written: &mut u64) -> 
 }
 
 /// Whether the filling that the text names is a solution: [`YES`] or [`NO`]. Refused: 1 to 14 or 25; 19 a text over
-/// [`LARGEST_TEXT`] bytes; 20 a malformed one.
+/// [`LARGEST_TEXT`] bytes; 20 a malformed one; 27 one whose numbers do not rise from field to field.
 pub fn check(problem: &[u8], text: &[u8]) -> u32 {
     // SAFETY: as in `start`.
     unsafe { matcher_check(problem.as_ptr(), problem.len(), text.as_ptr(), text.len()) }

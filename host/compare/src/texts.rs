@@ -26,19 +26,25 @@ pub fn random(subject: &dyn Subject, seeds: Range<u64>) -> Result<Tally, String>
             tally.add(BOTH_WAYS, TEXTS);
         }
         let fillings = fillings(random, &made, listed(&problem, &read));
-        fillings
-            .into_iter()
-            .try_for_each(|filling| compare(subject, &problem, &read, &changed(random, filling, tally), tally))
+        fillings.into_iter().try_for_each(|mut filling| {
+            change_up_to_twice(random, &mut filling);
+            put_in_order(random, &mut filling);
+            let text = damaged(random, tree::text(&filling), tally);
+            let expected = compare(subject, &problem, &read, &text, tally)?;
+            count_order(&filling, expected, tally);
+            Ok(())
+        })
     })
 }
 
+/// What both answer.
 fn compare(
     subject: &dyn Subject,
     problem: &[u8],
     read: &Problem,
     text: &[u8],
     tally: &mut Tally,
-) -> Result<(), String> {
+) -> Result<u32, String> {
     let expected = match read.check(text) {
         Ok(true) => YES,
         Ok(false) => NO,
@@ -61,7 +67,18 @@ fn compare(
             &format!("checking: got {got}, expected {expected}\ntext {shown}"),
         ));
     }
-    Ok(())
+    Ok(expected)
+}
+
+/// Numbers that do not rise, by how they fail to, and whether another fault of the text comes first.
+fn count_order(entries: &[Entry], expected: u32, tally: &mut Tally) {
+    let rise = entries.is_sorted_by(|before, entry| before.number() < entry.number());
+    match expected {
+        27 if entries.is_sorted_by_key(Entry::number) => tally.count("equal numbers"),
+        27 => tally.count("falling numbers"),
+        20 if !rise => tally.count("malformed, and numbers that do not rise"),
+        _ => (),
+    }
 }
 
 /// The solutions of the problem; of one that uses a letter both ways, what would be solutions if the letter that stands
@@ -99,12 +116,26 @@ fn fillings(random: &mut Random, made: &Made, listed: Vec<Vec<Entry>>) -> Vec<Ve
         .collect()
 }
 
-/// The bytes of a filling after up to two changes.
-fn changed(random: &mut Random, mut entries: Vec<Entry>, tally: &mut Tally) -> Vec<u8> {
+fn change_up_to_twice(random: &mut Random, entries: &mut Vec<Entry>) {
     for _ in 0..random.between(0, 2) {
-        change(random, &mut entries);
+        change(random, entries);
     }
-    let mut bytes = tree::text(&entries);
+}
+
+/// Most fillings in number order, and most of these with one field for each number: in all others 27 hides what else may
+/// be wrong.
+fn put_in_order(random: &mut Random, entries: &mut Vec<Entry>) {
+    if random.once_in(4) {
+        return;
+    }
+    entries.sort_by_key(Entry::number);
+    if !random.once_in(4) {
+        entries.dedup_by_key(|entry| entry.number());
+    }
+}
+
+/// The bytes of a text, some of them damaged.
+fn damaged(random: &mut Random, mut bytes: Vec<u8>, tally: &mut Tally) -> Vec<u8> {
     match random.below(12) {
         0 if !bytes.is_empty() => {
             let at = random.below(bytes.len());

@@ -136,7 +136,14 @@ impl Entry {
         }
     }
 
-    /// The number of its metavariable, to be changed.
+    /// The number of its metavariable.
+    pub fn number(&self) -> u8 {
+        match self {
+            Entry::Value(m, _) | Entry::Body(m, _) | Entry::Open(m) => *m,
+        }
+    }
+
+    /// The same, to be changed.
     pub fn number_mut(&mut self) -> &mut u8 {
         match self {
             Entry::Value(m, _) | Entry::Body(m, _) | Entry::Open(m) => m,
@@ -173,12 +180,12 @@ fn read(bytes: &[u8]) -> Tree {
     }
 }
 
-/// The fields that fill the bytes, each as its tag and content.
-fn fields(bytes: &[u8]) -> impl Iterator<Item = (u8, &[u8])> {
+/// The fields that fill the bytes, each as its tag and content, up to the first that goes past their end.
+pub fn fields(bytes: &[u8]) -> impl Iterator<Item = (u8, &[u8])> {
     let mut rest = bytes;
     std::iter::from_fn(move || {
         let (head, after) = rest.split_at_checked(3)?;
-        let (content, later) = after.split_at(usize::from(u16::from_be_bytes([head[1], head[2]])));
+        let (content, later) = after.split_at_checked(usize::from(u16::from_be_bytes([head[1], head[2]])))?;
         rest = later;
         Some((head[0], content))
     })

@@ -55,13 +55,21 @@ pub enum Wrong {
     ListsBothWays,
     /// Looks for 14 in such a problem.
     LooksForFourteen,
-    /// Passes a text that gives such a letter a body and a value.
+    /// Passes a text in which such a letter has a body, where its standing alone needs no value.
     PassesBothWays,
+    /// Takes a text's fields in any order, and says no to a doubled one.
+    TakesAnyOrder,
+    /// Lets a number through that is equal to the one before it.
+    TakesEqualNumbers,
+    /// Looks for 27 before 20.
+    LooksFor27First,
+    /// Says no where a letter is used both ways before it looks for 27.
+    SaysNoBefore27,
 }
 
 impl Wrong {
     /// All of them.
-    pub const ALL: [Wrong; 25] = [
+    pub const ALL: [Wrong; 29] = [
         Wrong::Refuses,
         Wrong::Ends,
         Wrong::EndsAtOnce,
@@ -87,6 +95,10 @@ impl Wrong {
         Wrong::ListsBothWays,
         Wrong::LooksForFourteen,
         Wrong::PassesBothWays,
+        Wrong::TakesAnyOrder,
+        Wrong::TakesEqualNumbers,
+        Wrong::LooksFor27First,
+        Wrong::SaysNoBefore27,
     ];
 }
 
@@ -128,17 +140,36 @@ fn faces_too_much(problem: &[u8]) -> bool {
     Proved.start(&apart(problem), &mut [0; PLACE_WORDS]) == 14
 }
 
-/// Whether a well-formed text would pass then, its values and open fields being those of the other letter.
+/// Whether a well-formed text would pass then, the other letters being open.
 fn passes_apart(problem: &[u8], text: &[u8]) -> bool {
-    let letters = both_ways(problem);
     let mut entries = tree::read_text(text);
-    for entry in entries.iter_mut().filter(|entry| !matches!(entry, Entry::Body(..))) {
-        let number = entry.number_mut();
-        if let Some((_, other)) = letters.iter().find(|(m, _)| m == number) {
-            *number = *other;
-        }
+    entries.extend(both_ways(problem).iter().map(|(_, other)| Entry::Open(*other)));
+    raw::check(&apart(problem), &ordered(entries)) == YES
+}
+
+/// The text of these fields in number order.
+fn ordered(mut entries: Vec<Entry>) -> Vec<u8> {
+    entries.sort_by_key(Entry::number);
+    tree::text(&entries)
+}
+
+/// What the checker would say to a well-formed text if fields came in any order and a doubled one were a no.
+fn in_any_order(problem: &[u8], text: &[u8]) -> u32 {
+    match raw::check(problem, &ordered(tree::read_text(text))) {
+        27 => NO,
+        answer => answer,
     }
-    raw::check(&apart(problem), &tree::text(&entries)) == YES
+}
+
+/// The numbers of a text's fields, up to the first that has none.
+fn numbers(text: &[u8]) -> Vec<u8> {
+    tree::fields(text)
+        .map_while(|(_, content)| content.first().copied())
+        .collect()
+}
+
+fn rise(numbers: &[u8]) -> bool {
+    numbers.is_sorted_by(|before, number| before < number)
 }
 
 /// A written text with the low half of every symbol, in two bytes.
@@ -271,6 +302,10 @@ impl Subject for Wrong {
             Wrong::PassesAll if answer == NO => YES,
             Wrong::ReadsAnyText if answer == 20 => NO,
             Wrong::PassesBothWays if answer == NO && passes_apart(problem, text) => YES,
+            Wrong::TakesAnyOrder if answer == 27 => in_any_order(problem, text),
+            Wrong::TakesEqualNumbers if answer == 27 && numbers(text).is_sorted() => NO,
+            Wrong::LooksFor27First if answer == 20 && !rise(&numbers(text)) => 27,
+            Wrong::SaysNoBefore27 if answer == 27 && !both_ways(problem).is_empty() => NO,
             _ => answer,
         }
     }

@@ -1,5 +1,5 @@
-//! Document 01's examples, and those of T-05 and T-09, worked out by hand: what the proved matcher lists, and what the second
-//! implementation lists.
+//! Document 01's examples, and those of T-05, T-07 and T-09, worked out by hand: what the proved matcher lists and says of a
+//! text, and what the second implementation does.
 
 use compare::tree::{self, Entry, Tree};
 use matcher::{Problem, Refusal};
@@ -259,6 +259,58 @@ fn both_widths() {
     assert_eq!(second::Problem::read(&bytes).err(), Some(25));
 }
 
+/// What both checkers say of a text.
+fn checked(problem: &[(Tree, Tree)], text: &[Entry], answer: Result<bool, Refusal>) {
+    let bytes = tree::problem(problem);
+    let text = tree::text(text);
+    assert_eq!(Problem::new(&bytes).and_then(|p| p.check(&text)), answer);
+    let second = second::Problem::read(&bytes).and_then(|p| p.check(&text));
+    assert_eq!(second, answer.map_err(Refusal::number));
+}
+
+/// T-07: numbers rise from field to field, and 27 comes after 20 and before yes or no.
+#[test]
+fn fields_in_number_order() {
+    let problem = [(call(P, meta(X)), s(1))];
+    let [p, x] = [body(P, hole()), value(X, s(1))];
+    let renamed = |name: u16| value(X, all(name, v(name)));
+    let over_31 = Entry::Open(32);
+    checked(&problem, &[p.clone(), x.clone()], Ok(true));
+    checked(&problem, &[x.clone(), p.clone()], Err(Refusal::TextOutOfOrder));
+    checked(
+        &problem,
+        &[p.clone(), x.clone(), x.clone()],
+        Err(Refusal::TextOutOfOrder),
+    );
+    checked(
+        &problem,
+        &[p.clone(), p.clone(), x.clone()],
+        Err(Refusal::TextOutOfOrder),
+    );
+    checked(
+        &problem,
+        &[p.clone(), x.clone(), p.clone()],
+        Err(Refusal::TextOutOfOrder),
+    );
+    checked(
+        &problem,
+        &[x.clone(), p.clone(), over_31.clone()],
+        Err(Refusal::TextMalformed),
+    );
+    checked(&problem, &[over_31, x, p.clone()], Err(Refusal::TextMalformed));
+    // A text that would be a no whatever its order, and texts that differ only in bound names.
+    checked(
+        &problem,
+        &[Entry::Open(X), Entry::Open(P)],
+        Err(Refusal::TextOutOfOrder),
+    );
+    checked(&problem, &[Entry::Open(P), Entry::Open(X)], Ok(false));
+    let bound = [(meta(X), all(5, v(5)))];
+    checked(&bound, &[renamed(5)], Ok(true));
+    checked(&bound, &[renamed(7)], Ok(true));
+    checked(&bound, &[renamed(5), renamed(7)], Err(Refusal::TextOutOfOrder));
+}
+
 /// T-09: a rule in which P stands both as a function and alone fits nothing, and no text passes.
 #[test]
 fn a_letter_both_ways() {
@@ -281,18 +333,18 @@ fn a_letter_both_ways() {
         vec![body(P, s(1))],
         vec![value(P, s(1))],
         vec![Entry::Open(P)],
-        vec![body(P, hole()), value(P, s(1))],
-        vec![value(P, s(1)), body(P, hole())],
-        vec![body(P, s(1)), Entry::Open(P)],
+    ];
+    let doubled = [
+        [body(P, hole()), value(P, s(1))],
+        [value(P, s(1)), body(P, hole())],
+        [body(P, s(1)), Entry::Open(P)],
     ];
     for problem in &problems {
         lists(problem, &[]);
-        let bytes = tree::problem(problem);
-        for text in &texts {
-            let text = tree::text(text);
-            assert_eq!(Problem::new(&bytes).and_then(|p| p.check(&text)), Ok(false));
-            assert_eq!(second::Problem::read(&bytes).and_then(|p| p.check(&text)), Ok(false));
-        }
+        texts.iter().for_each(|text| checked(problem, text, Ok(false)));
+        doubled
+            .iter()
+            .for_each(|text| checked(problem, text, Err(Refusal::TextOutOfOrder)));
     }
     let nine: Vec<Tree> = (0..9).map(|m| call(m, meta(P))).collect();
     refused(

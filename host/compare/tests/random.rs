@@ -60,6 +60,10 @@ fn checked_texts_agree() {
         ("no", 5_000),
         ("refused 19", 50),
         ("refused 20", 1_000),
+        ("refused 27", 4_000),
+        ("equal numbers", 1_000),
+        ("falling numbers", 1_000),
+        ("malformed, and numbers that do not rise", 500),
         ("spelled too wide", 500),
         (BOTH_WAYS, 2_000),
     ];

@@ -1,9 +1,10 @@
 //! The checker.
 //!
-//! Document 01: "The checker takes a problem and a text, fields in any order,
-//! bound names free, and says yes or no. A wrong, missing or double
-//! metavariable is a no." T-09, where a letter is used both ways: "the checker
-//! says no to every well-formed text".
+//! Document 01: "The checker takes a problem and a text", "bound names free, and
+//! says yes or no"; a "wrong" or "missing" metavariable "is a no". T-07: "A
+//! doubled metavariable thus no longer reaches a no", nor do fields out of
+//! order. T-09, where a letter is used both ways: "the checker says no to every
+//! well-formed text".
 
 use crate::apply::Filling;
 use crate::body::has_hole;
@@ -14,15 +15,14 @@ use crate::term::{Meta, Name, Term};
 use crate::text::Field;
 use std::collections::BTreeSet;
 
-/// Whether the fields are a solution of the problem. The other tests don't see
-/// a letter used both ways: to (P(P), a) they would pass the body a alone,
-/// since in the argument of a body without hole P needs no value.
+/// Whether the fields, whose numbers rise, are a solution of the problem. The
+/// other tests don't see a letter used both ways: to (P(P), a) they would pass
+/// the body a alone, since in the argument of a body without hole P needs no
+/// value.
 pub fn is_solution(problem: &Problem, fields: &[Field]) -> bool {
-    let named: BTreeSet<Meta> = fields.iter().map(Field::meta).collect();
-    let each_once = named.len() == fields.len() && named == *problem.metas();
     let filling = filling(fields);
     !problem.both_ways()
-        && each_once
+        && fields.iter().map(Field::meta).eq(problem.metas().iter().copied())
         && filling.bodies.keys().eq(problem.function_metas())
         && filling.values.keys().eq(&due_values(problem, &filling))
         && problem.constraints().iter().all(|c| fits(c, &filling))

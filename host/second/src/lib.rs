@@ -1,9 +1,10 @@
 //! A second, independent matcher for patterns with one-place functions.
 //!
-//! It renders the definitions of document 01, as request T-05 widens them and
-//! T-09 changes them for a letter used both ways, by the Huet–Lang procedure of
-//! document 001 on named terms, and is there to be compared with another
-//! matcher. Errors are the documents' refusal numbers.
+//! It renders the definitions of document 01, as request T-05 widens them, T-07
+//! puts a text's fields in number order and T-09 changes them for a letter used
+//! both ways, by the Huet–Lang procedure of document 001 on named terms, and is
+//! there to be compared with another matcher. Errors are the documents' refusal
+//! numbers.
 
 #![forbid(unsafe_code)]
 #![warn(missing_docs)]

@@ -155,7 +155,7 @@ impl Problem {
         }
     }
 
-    /// Whether the text is a solution. Refusals: 19 and 20.
+    /// Whether the text is a solution. Refusals: 19, 20 and 27.
     pub fn check(&self, text: &[u8]) -> Result<bool, u8> {
         Ok(check::is_solution(self, &text::read(text)?))
     }
@@ -165,7 +165,7 @@ impl Problem {
         &self.constraints
     }
 
-    /// All metavariables that occur.
+    /// All metavariables that occur, ascending.
     pub(crate) fn metas(&self) -> &BTreeSet<Meta> {
         &self.metas
     }

@@ -1,6 +1,6 @@
-//! The refusals, by document 01's table "Where each check is made", and 25 by
-//! request T-05. Request T-09: "Refusal 12 is withdrawn and its number stays
-//! unused."
+//! The refusals, by document 01's table "Where each check is made", 25 by
+//! request T-05 and 27 by T-07. Request T-09: "Refusal 12 is withdrawn and its
+//! number stays unused."
 
 /// 1: the input is over 4,096 bytes.
 pub const INPUT_TOO_LONG: u8 = 1;
@@ -38,3 +38,5 @@ pub const TEXT_TOO_LONG: u8 = 19;
 pub const BAD_TEXT: u8 = 20;
 /// 25: a symbol's number below 65,536 has four bytes.
 pub const SPELLED_TOO_WIDE: u8 = 25;
+/// 27: a field's number in a text is not above the one before it.
+pub const NOT_RISING: u8 = 27;

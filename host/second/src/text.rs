@@ -2,7 +2,8 @@
 //!
 //! Document 01: "Fields: 8 (value: number, 1 byte, then an expression), 9
 //! (body: number, 1 byte, then an expression in which 10 may stand for a
-//! term), 10 (hole, length 0), 11 (open: number, 1 byte)."
+//! term), 10 (hole, length 0), 11 (open: number, 1 byte)." T-07: "From now on
+//! metavariable numbers must rise from field to field."
 
 use crate::encode;
 use crate::read::{self, tag, Part};
@@ -31,7 +32,8 @@ impl Field {
     }
 }
 
-/// Reads a text; refusals 19 and 20.
+/// Reads a text; refusals 19, 20 and 27. T-07 has 27 "checked after 20 over the
+/// whole text", so the numbers are compared when all fields are there.
 pub fn read(mut text: &[u8]) -> Result<Vec<Field>, u8> {
     if text.len() > MAX_TEXT {
         return Err(TEXT_TOO_LONG);
@@ -39,6 +41,9 @@ pub fn read(mut text: &[u8]) -> Result<Vec<Field>, u8> {
     let mut fields = Vec::new();
     while !text.is_empty() {
         fields.push(read_field(&mut text).map_err(|_| BAD_TEXT)?);
+    }
+    if !fields.is_sorted_by(|before, field| before.meta() < field.meta()) {
+        return Err(NOT_RISING);
     }
     Ok(fields)
 }

@@ -5,9 +5,14 @@ use crate::term::Meta;
 use crate::text::{write, Field};
 
 /// The checker's answer for fields as `9 0 body`, `8 1 value` and `11 2`.
-fn says(text: &str, fields: &[&str]) -> bool {
+fn answer(text: &str, fields: &[&str]) -> Result<bool, u8> {
     let fields: Vec<Field> = fields.iter().map(|text| field(text)).collect();
-    problem(text).check(&write(&fields)).expect("a good text")
+    problem(text).check(&write(&fields))
+}
+
+/// The same for a text that is not refused.
+fn says(text: &str, fields: &[&str]) -> bool {
+    answer(text, fields).expect("a good text")
 }
 
 /// One field.
@@ -26,22 +31,49 @@ fn field(text: &str) -> Field {
 const READINGS: &str = "?0{?1} = s5";
 
 #[test]
-fn any_order_is_good() {
+fn only_number_order_is_good() {
     assert!(says(READINGS, &["9 0 _", "8 1 s5"]));
-    assert!(says(READINGS, &["8 1 s5", "9 0 _"]));
-    assert!(says(READINGS, &["11 1", "9 0 s5"]));
+    assert!(says(READINGS, &["9 0 s5", "11 1"]));
+    assert_eq!(answer(READINGS, &["8 1 s5", "9 0 _"]), Err(27));
+    assert_eq!(answer(READINGS, &["11 1", "9 0 s5"]), Err(27));
+    // Of three fields, in any other order.
+    let three = "(?0{?3} ?31) = (s5 s6)";
+    let [zero, middle, last] = ["9 0 _", "8 3 s5", "8 31 s6"];
+    assert_eq!(answer(three, &[zero, middle, last]), Ok(true));
+    assert_eq!(answer(three, &[zero, last, middle]), Err(27));
+    assert_eq!(answer(three, &[middle, zero, last]), Err(27));
+    assert_eq!(answer(three, &[middle, last, zero]), Err(27));
+    assert_eq!(answer(three, &[last, zero, middle]), Err(27));
+    assert_eq!(answer(three, &[last, middle, zero]), Err(27));
 }
 
 #[test]
-fn each_metavariable_comes_once() {
+fn a_doubled_metavariable_is_no_longer_a_no() {
+    assert_eq!(answer(READINGS, &["9 0 _", "8 1 s5", "8 1 s5"]), Err(27));
+    assert_eq!(answer(READINGS, &["9 0 _", "9 0 _", "8 1 s5"]), Err(27));
+    assert_eq!(answer(READINGS, &["9 0 _", "8 1 s5", "9 0 _"]), Err(27));
+    assert_eq!(answer(READINGS, &["9 0 s5", "11 1", "11 1"]), Err(27));
+    // With another content or another tag.
+    assert_eq!(answer(READINGS, &["9 0 _", "9 0 s5", "8 1 s5"]), Err(27));
+    assert_eq!(answer(READINGS, &["9 0 _", "8 1 s5", "11 1"]), Err(27));
+    // Of one that doesn't occur.
+    assert_eq!(answer(READINGS, &["9 0 _", "8 1 s5", "11 2", "11 2"]), Err(27));
+}
+
+#[test]
+fn each_metavariable_comes() {
     assert!(!says(READINGS, &["9 0 _"]));
     assert!(!says(READINGS, &["9 0 s5"]));
     assert!(!says(READINGS, &["8 1 s5"]));
     assert!(!says(READINGS, &[]));
-    assert!(!says(READINGS, &["9 0 _", "8 1 s5", "8 1 s5"]));
-    assert!(!says(READINGS, &["9 0 s5", "11 1", "11 1"]));
+}
+
+#[test]
+fn no_other_metavariable_comes() {
     assert!(!says(READINGS, &["9 0 _", "8 1 s5", "11 2"]));
+    assert!(!says(READINGS, &["9 0 _", "8 1 s5", "8 2 s5"]));
     assert!(!says(READINGS, &["9 0 _", "8 2 s5"]));
+    assert!(!says("?1 = s5", &["11 0", "8 1 s5"]));
 }
 
 #[test]
@@ -71,31 +103,33 @@ fn nothing_fills_a_letter_used_both_ways() {
     let itself = "?0{?0} = s5";
     // Document 01's clauses would pass this one.
     assert!(!says(itself, &["9 0 s5"]));
-    assert!(!says(itself, &["9 0 _", "8 0 s5"]));
-    assert!(!says(itself, &["8 0 s5", "9 0 _"]));
-    assert!(!says(itself, &["9 0 s5", "11 0"]));
     assert!(!says(itself, &["9 0 _"]));
     assert!(!says(itself, &["8 0 s5"]));
     assert!(!says(itself, &["11 0"]));
     assert!(!says(itself, &[]));
     assert!(!says(itself, &["8 1 s5"]));
+    // One field for each way is refused before anything is filled.
+    assert_eq!(answer(itself, &["9 0 _", "8 0 s5"]), Err(27));
+    assert_eq!(answer(itself, &["8 0 s5", "9 0 _"]), Err(27));
+    assert_eq!(answer(itself, &["9 0 s5", "11 0"]), Err(27));
 }
 
 #[test]
 fn nothing_fills_a_letter_used_both_ways_far_apart() {
     // In a later constraint.
     let later = "?0{s5} = s5 ; ?0 = s5";
-    assert!(!says(later, &["9 0 _", "8 0 s5"]));
     assert!(!says(later, &["9 0 s5"]));
     assert!(!says(later, &["8 0 s5"]));
     assert!(!says(later, &[]));
+    assert_eq!(answer(later, &["9 0 _", "8 0 s5"]), Err(27));
     // In another function's argument; document 01's clauses would pass the
     // first two.
     let argument = "?0{s5} = s5 ; ?1{?0} = s6";
     assert!(!says(argument, &["9 0 _", "9 1 s6"]));
     assert!(!says(argument, &["9 0 s5", "9 1 s6"]));
-    assert!(!says(argument, &["9 0 _", "8 0 s6", "9 1 _"]));
     assert!(!says(argument, &["11 0", "9 1 s6"]));
+    assert_eq!(answer(argument, &["9 0 _", "8 0 s6", "9 1 _"]), Err(27));
+    assert_eq!(answer(argument, &["9 1 s6", "9 0 _"]), Err(27));
     // The same with another letter.
     assert!(says("?0{s5} = s5 ; ?1{?2} = s6", &["9 0 _", "9 1 s6", "11 2"]));
 }

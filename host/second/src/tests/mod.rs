@@ -1,7 +1,8 @@
-//! Tests, with outputs worked out by hand from document 01.
+//! Tests, with outputs worked out by hand from the documents.
 
 mod checker;
 mod examples;
+mod naming;
 mod notation;
 mod random;
 mod refusals;

@@ -9,12 +9,13 @@ use crate::rename::{rename_bound, Names};
 use crate::term::{Meta, Name, Term};
 use crate::text::{self, Field};
 use crate::{read_term, Choice, Kind, Problem, Row, Solution};
+use std::collections::BTreeSet;
 
 /// A generator of pseudo-random numbers (xorshift).
-struct Random(u64);
+pub struct Random(pub u64);
 
 impl Random {
-    fn below(&mut self, n: u32) -> u32 {
+    pub fn below(&mut self, n: u32) -> u32 {
         self.0 ^= self.0 << 13;
         self.0 ^= self.0 >> 7;
         self.0 ^= self.0 << 17;
@@ -124,7 +125,7 @@ fn filling(random: &mut Random) -> Filling {
 }
 
 /// The bytes of a random problem of one to three constraints.
-fn problem_bytes(random: &mut Random) -> Vec<u8> {
+pub fn problem_bytes(random: &mut Random) -> Vec<u8> {
     let filling = filling(random);
     let whole = random.once_in(2);
     let mut bytes = Vec::new();
@@ -297,7 +298,7 @@ fn put_back(field: Field) -> Field {
 }
 
 /// Some solutions that the problem would have with its letters told apart, as
-/// fields with its own letters.
+/// fields with its own letters, in number order, doubled ones side by side.
 fn nearly_solutions(problem: &Problem) -> Vec<Vec<Field>> {
     let constraints = problem.constraints().iter();
     let bytes = constraints.flat_map(|c| constraint_bytes(&told_apart(&c.pattern), &c.expression));
@@ -305,8 +306,19 @@ fn nearly_solutions(problem: &Problem) -> Vec<Vec<Field>> {
     let listed = apart.solutions(20).unwrap_or_default().into_iter();
     let fields = listed.map(|solution| text::read(&solution.text).expect("a well-formed text"));
     fields
-        .map(|fields| fields.into_iter().map(put_back).collect())
+        .map(|fields| {
+            let mut fields: Vec<Field> = fields.into_iter().map(put_back).collect();
+            fields.sort_by_key(Field::meta);
+            fields
+        })
         .collect()
+}
+
+/// Whether numbers rise from field to field: they are in order and none is
+/// there twice, as in a set of them.
+pub fn rise(fields: &[Field]) -> bool {
+    let numbers = || fields.iter().map(|field| field.meta().number());
+    numbers().eq(numbers().collect::<BTreeSet<u8>>())
 }
 
 #[test]
@@ -329,7 +341,8 @@ fn a_letter_used_both_ways_fits_nothing_whatever_else_there_is() {
             near += 1;
             for set in all_sets(fields.len()) {
                 let chosen: Vec<Field> = set.iter().map(|i| fields[*i].clone()).collect();
-                assert_eq!(problem.check(&text::write(&chosen)), Ok(false), "{problem}");
+                let answer = if rise(&chosen) { Ok(false) } else { Err(27) };
+                assert_eq!(problem.check(&text::write(&chosen)), answer, "{problem}");
             }
         }
     }

@@ -1,4 +1,4 @@
-//! Refusals 1 to 14 without 12, 19, 20 and 25.
+//! Refusals 1 to 14 without 12, 19, 20, 25 and 27.
 
 use super::notation::{bytes, hex, problem, term};
 use crate::encode;
@@ -244,42 +244,49 @@ fn refusal_19_text_too_long() {
     for any in ["?0 = s1", BOTH_WAYS].map(problem) {
         assert_eq!(any.check(&[0; 8193]), Err(19));
         assert_eq!(any.check(&[0; 8192]), Err(20));
-        // However well-formed: 2,048 open metavariables, and one more.
+        // However well-formed: a value of 1,637 symbols, and an open one more.
+        let value = encode::term(&term(&format!("({})", vec!["s1"; 1637].join(" "))));
+        let longest = encode::field(tag::VALUE, &[&[0], &value[..]].concat());
+        assert_eq!((longest.len(), any.check(&longest)), (8192, Ok(false)));
+        assert_eq!(any.check(&[&longest[..], &hex("0B000101")].concat()), Err(19));
+        // Before 27: a metavariable 2,048 times open, and once more.
         let open = hex("0B000100").repeat(2048);
-        assert_eq!(any.check(&open), Ok(false));
+        assert_eq!(any.check(&open), Err(27));
         assert_eq!(any.check(&[&open[..], &hex("0B000100")].concat()), Err(19));
     }
 }
 
+/// Texts with a fault.
+const FAULTS: [&str; 23] = [
+    "09",                              // a head that is cut
+    "090005 00 0A0000",                // a length past the end
+    "010002 0001",                     // no field of a text
+    "0A0000",                          // a hole that is no term
+    "0C0001 00",                       // an unknown tag
+    "080004 01 0A0000",                // a hole in a value
+    "090008 00 010002 0001 00",        // a byte left
+    "080001 01",                       // no term
+    "080000",                          // no number
+    "0B0002 01 00",                    // a byte left
+    "080006 20 010002 0001",           // a number over 31
+    "0B0001 20",                       // a number over 31
+    "090005 00 050001 01",             // a metavariable in a body
+    "09000A 00 060006 00 010002 0001", // a function in a body
+    "090005 00 0A0001 00",             // a hole with content
+    "090004 00 030000",                // an empty application
+    "080004 01 010000",                // a symbol without number
+    "080005 01 010001 00",             // a symbol of one byte
+    "080007 01 010003 000001",         // a symbol of three bytes
+    "090009 00 010005 0001000000",     // a symbol of five bytes
+    "080008 01 010004 0000FFFF",       // 65,535 in four bytes
+    "090008 00 010004 00000001",       // 1 in four bytes
+    "080008 01 020004 00010000",       // a variable of four bytes
+];
+
 #[test]
 fn refusal_20_bad_text() {
-    let faults = [
-        "09",                              // a head that is cut
-        "090005 00 0A0000",                // a length past the end
-        "010002 0001",                     // no field of a text
-        "0A0000",                          // a hole that is no term
-        "0C0001 00",                       // an unknown tag
-        "080004 01 0A0000",                // a hole in a value
-        "090008 00 010002 0001 00",        // a byte left
-        "080001 01",                       // no term
-        "080000",                          // no number
-        "0B0002 01 00",                    // a byte left
-        "080006 20 010002 0001",           // a number over 31
-        "0B0001 20",                       // a number over 31
-        "090005 00 050001 01",             // a metavariable in a body
-        "09000A 00 060006 00 010002 0001", // a function in a body
-        "090005 00 0A0001 00",             // a hole with content
-        "090004 00 030000",                // an empty application
-        "080004 01 010000",                // a symbol without number
-        "080005 01 010001 00",             // a symbol of one byte
-        "080007 01 010003 000001",         // a symbol of three bytes
-        "090009 00 010005 0001000000",     // a symbol of five bytes
-        "080008 01 010004 0000FFFF",       // 65,535 in four bytes
-        "090008 00 010004 00000001",       // 1 in four bytes
-        "080008 01 020004 00010000",       // a variable of four bytes
-    ];
     for any in ["?0{?1} = s1", BOTH_WAYS].map(problem) {
-        for fault in faults {
+        for fault in FAULTS {
             assert_eq!(any.check(&hex(fault)), Err(20), "{fault}");
         }
         // Both widths of a symbol are well-formed.
@@ -302,8 +309,93 @@ fn refusal_20_text_too_deep() {
         for any in ["?0{?1} = s1", BOTH_WAYS].map(problem) {
             assert_eq!(any.check(&field(32)), Ok(false));
             assert_eq!(any.check(&field(33)), Err(20));
+            // Before 27, the second field's depth too.
+            let doubled = |depths: [usize; 2]| depths.map(field).concat();
+            assert_eq!(any.check(&doubled([32, 32])), Err(27));
+            assert_eq!(any.check(&doubled([32, 33])), Err(20));
+            assert_eq!(any.check(&doubled([33, 32])), Err(20));
         }
     }
+}
+
+/// The checker's answer to open metavariables of these numbers.
+fn answer_to_open(problem: &Problem, numbers: &[u8]) -> Result<bool, u8> {
+    let fields = numbers.iter().map(|number| encode::field(tag::OPEN, &[*number]));
+    problem.check(&fields.flatten().collect::<Vec<u8>>())
+}
+
+/// Problems to whose texts the checker would say nothing but no: the shapes of
+/// the first disagree.
+const NEVER_YES: [&str; 2] = ["s1 = s2", BOTH_WAYS];
+
+#[test]
+fn refusal_27_a_number_not_above_the_one_before() {
+    for never in NEVER_YES.map(problem) {
+        // The first two, the last two, or two with others between them.
+        let falling: [&[u8]; 9] = [
+            &[1, 0],
+            &[31, 0],
+            &[31, 30],
+            &[1, 0, 2],
+            &[2, 0, 1],
+            &[0, 2, 1],
+            &[1, 2, 0],
+            &[5, 6, 7, 8, 4],
+            &[5, 6, 8, 7, 9],
+        ];
+        let doubled: [&[u8]; 6] = [&[0, 0], &[31, 31], &[0, 0, 1], &[0, 1, 1], &[0, 1, 0], &[7, 7, 7]];
+        for numbers in falling.into_iter().chain(doubled) {
+            assert_eq!(answer_to_open(&never, numbers), Err(27), "{numbers:?}");
+        }
+        // They may begin and leave out as they like.
+        let rising: [&[u8]; 7] = [&[], &[0], &[31], &[0, 1], &[30, 31], &[0, 31], &[3, 7, 8, 20]];
+        for numbers in rising {
+            assert_eq!(answer_to_open(&never, numbers), Ok(false), "{numbers:?}");
+        }
+        let mut all: Vec<u8> = (0..32).collect();
+        assert_eq!(answer_to_open(&never, &all), Ok(false));
+        all.push(31);
+        assert_eq!(answer_to_open(&never, &all), Err(27));
+    }
+}
+
+#[test]
+fn refusal_27_whatever_the_tags() {
+    let tags = ["080006 N 0100020001", "090004 N 0A0000", "0B0001 N"];
+    let pairs = tags.iter().flat_map(|first| tags.map(|second| (first, second)));
+    for (first, second) in pairs {
+        let text = |n: &str, m: &str| hex(&[first.replace('N', n), second.replace('N', m)].concat());
+        for never in NEVER_YES.map(problem) {
+            assert_eq!(never.check(&text("00", "01")), Ok(false), "{first} {second}");
+            assert_eq!(never.check(&text("01", "01")), Err(27), "{first} {second}");
+            assert_eq!(never.check(&text("01", "00")), Err(27), "{first} {second}");
+        }
+    }
+}
+
+#[test]
+fn refusal_27_only_where_20_applies_nowhere() {
+    // Two fields of one number, and two of a falling one.
+    for [first, second] in [["0B0001 01"; 2], ["0B0001 01", "0B0001 00"]] {
+        for any in ["?0{?1} = s1", BOTH_WAYS].map(problem) {
+            assert_eq!(any.check(&hex(&[first, second].concat())), Err(27));
+            for fault in FAULTS {
+                let before = [fault, first, second];
+                let between = [first, fault, second];
+                let after = [first, second, fault];
+                for text in [before, between, after].map(|parts| parts.concat()) {
+                    assert_eq!(any.check(&hex(&text)), Err(20), "{text}");
+                }
+            }
+            // Both faults in one field: a value 0 or 1 with a byte left.
+            for number in ["00", "01"] {
+                let text = format!("{first} 080007 {number} 0100020001 00");
+                assert_eq!(any.check(&hex(&text)), Err(20), "{text}");
+            }
+        }
+    }
+    // A number over 31, twice.
+    assert_eq!(answer_to_open(&problem("?0 = s1"), &[32, 32]), Err(20));
 }
 
 /// A problem whose pattern and expression are this symbol.
