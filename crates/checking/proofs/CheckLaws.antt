@@ -247,7 +247,7 @@ module _ (text : Bytes) (table : List ℕ) (read : TextRead) (h : TextDone (read
   text-inside used e = read-as used e .inside
 
   module _ (ps es fs : List ℕ) (a : Standing) where
-    -- 19 and 20
+    -- 19, 20 and 27
     pub text-refused : (n : ℕ) → read .answer ≡ reads.Refused n → CheckedText ps es fs a text (answers.Refused n)
     text-refused n e = record {
       answer = λ p l.

@@ -1,5 +1,5 @@
 -- Tests that look only at which field a text has for each metavariable: "8 (value ..), 9 (body ..), 11 (open ..)".
---   hasTag           the first field for a metavariable has this tag; 0 stands for no field
+--   hasTag           the field for a metavariable has this tag; 0 stands for no field
 --   knownAt          a metavariable that has a field occurs: "A wrong .. metavariable is a no"
 --   kindsAt          "each function metavariable a body, and each other metavariable an expression or nothing (open)"
 --   openUnneededAt   "an open metavariable stands only in arguments of functions whose body has no hole": it is not in the set of those

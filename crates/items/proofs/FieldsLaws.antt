@@ -109,16 +109,16 @@ module _ (text table : List ℕ) (used at : ℕ) (s : Said) (o : Order) (r : Rea
   pub used-inside : used ≤ length table
   used-inside = omega (arith, r .few, r .within, r .short, r .long)
 
-  abbrev read : Bool → Fields
-  read sound = record { sound = sound; rising = o .rising; used = used; said = s }
+  abbrev found : Bool → Fields
+  found readable = record { readable = readable; rising = o .rising; used = used; said = s }
 
-  pub reading-ends : length text ≤ at → FieldsDone (readItems (length text) text) table (read true)
+  pub reading-ends : length text ≤ at → FieldsDone (readItems (length text) text) table (found true)
   unfolding FieldsDone
   reading-ends h =
       let none : readItems (r .bound) (drop at text) ≡ got [] =
       items-none (r .bound) (drop at text) (omega (arith, length-drop at text)) in
       let all : readItems (length text) text ≡ got (r .items) = r .leads ∙ rw (none, append-nil (r .items)) in
-      rw (all, FieldsDone) (record { sound = refl; rising = r .order .rising; within = used-inside; says = r .says })
+      rw (all, FieldsDone) (record { readable = refl; rising = r .order .rising; within = used-inside; says = r .says })
 
   module _ (some : at < length text) where
     abbrev rest : Bytes
@@ -151,7 +151,7 @@ module _ (text table : List ℕ) (used at : ℕ) (s : Said) (o : Order) (r : Rea
     bounded = (r .bound - 1, omega (arith, r .enough))
 
     pub reading-refused : (x table′ : List ℕ) → FieldDone rest (readField rest) room x fields.Refused
-        → FieldsDone (readItems (length text) text) table′ (read false)
+        → FieldsDone (readItems (length text) text) table′ (found false)
     unfolding FieldsDone
     reading-refused x table′ d =
         let n = not-taken rest room x d in

@@ -1,4 +1,5 @@
 -- The returns of `read_text`: 19, then 20, then 27, and else what the text says.
+--   Answered   the answer for a text that is not too long, from that for its fields
 use mathlib.Core.Path.{_≡_, refl, ap, sym, _∙_}
 use mathlib.Core.Bool.{true, false, not, true≢false, false≢true}
 use mathlib.Core.List.{List}
@@ -18,40 +19,40 @@ module _ (text table : List ℕ) where
   unfolding readText maxText TextDone
   text-over r h d = rw (lt-ltb 8192 (length text) h, TextDone) d
 
-  module _ (short : length text ≤ 8192) (read : Fields) (done : FieldsDone (readItems (length text) text) table read) where
-    abbrev Ordered : Answer (List Item) → TextRead → Type 0
-    Ordered a r = TextDone (after (orTwenty a) inOrder) table r
+  module _ (short : length text ≤ 8192) (found : Fields) (done : FieldsDone (readItems (length text) text) table found) where
+    abbrev Answered : Answer (List Item) → TextRead → Type 0
+    Answered a r = TextDone (after (orTwenty a) inOrder) table r
 
-    within-limit : (r : TextRead) → Ordered (readItems (length text) text) r → TextDone (readText text) table r
+    within-limit : (r : TextRead) → Answered (readItems (length text) text) r → TextDone (readText text) table r
     unfolding readText maxText
     within-limit r d = rw (le-ltb 8192 (length text) short) d
 
-    pub text-unsound : (r : TextRead) → not (read .sound) ≡ true → RefusedText 20 r → TextDone (readText text) table r
+    pub text-malformed : (r : TextRead) → not (found .readable) ≡ true → RefusedText 20 r → TextDone (readText text) table r
     unfolding TextDone FieldsDone
-    text-unsound r n d = within-limit r (go (readItems (length text) text) done)
+    text-malformed r n d = within-limit r (go (readItems (length text) text) done)
       where
-        go : (a : Answer (List Item)) → FieldsDone a table read → Ordered a r
+        go : (a : Answer (List Item)) → FieldsDone a table found → Answered a r
         go (refused k) f = d
-        go (got is) f = absurd (false≢true (sym (ap not (f .sound)) ∙ n))
+        go (got is) f = absurd (false≢true (sym (ap not (f .readable)) ∙ n))
 
-    module _ (sound : not (read .sound) ≡ false) where
-      text-sound : (r : TextRead) → ((is : List Item) → FieldsRead is table read → TextDone (inOrder is) table r)
+    module _ (readable : not (found .readable) ≡ false) where
+      when-readable : (r : TextRead) → ((is : List Item) → FieldsRead is table found → TextDone (inOrder is) table r)
           → TextDone (readText text) table r
       unfolding FieldsDone
-      text-sound r k = within-limit r (go (readItems (length text) text) done)
+      when-readable r k = within-limit r (go (readItems (length text) text) done)
         where
-          go : (a : Answer (List Item)) → FieldsDone a table read → Ordered a r
-          go (refused n) f = absurd (true≢false (sym (ap not f) ∙ sound))
+          go : (a : Answer (List Item)) → FieldsDone a table found → Answered a r
+          go (refused n) f = absurd (true≢false (sym (ap not f) ∙ readable))
           go (got is) f = k is f
 
-      pub text-falls : (r : TextRead) → not (read .rising) ≡ true → RefusedText 27 r → TextDone (readText text) table r
+      pub text-falls : (r : TextRead) → not (found .rising) ≡ true → RefusedText 27 r → TextDone (readText text) table r
       unfolding TextDone
-      text-falls r n d = text-sound r (λ is f. rw (sym (f .rising) ∙ not-true (read .rising) n, TextDone) d)
+      text-falls r n d = when-readable r (λ is f. rw (sym (f .rising) ∙ not-true (found .rising) n, TextDone) d)
 
-      pub text-got : (r : TextRead) → not (read .rising) ≡ false → r ≡ record { answer = answers.Read (read .used); said = read .said }
+      pub text-got : (r : TextRead) → not (found .rising) ≡ false → r ≡ record { answer = answers.Read (found .used); said = found .said }
           → TextDone (readText text) table r
       unfolding TextDone
       text-got r n e =
-          text-sound r (λ is f.
-          let up : rises (numbers is) ≡ true = sym (f .rising) ∙ not-false (read .rising) n in
-          rw (up, TextDone, e) (read .used, refl, f .within, f .says up))
+          when-readable r (λ is f.
+          let up : rises (numbers is) ≡ true = sym (f .rising) ∙ not-false (found .rising) n in
+          rw (up, TextDone, e) (found .used, refl, f .within, f .says up))

@@ -1,8 +1,8 @@
 -- What reading a solution text promises. "19 text over 8,192 bytes; 20 not fields 8, 9, 11 with contents as above, .."; T-07: "27 when a
 -- number isn't above the one before it".
 --   textRoom     the entries of a table that has room for the terms of every text
---   FieldsDone   a field is not as document 01 says; or whether the numbers rise, and, if they do, what the items say is held, with their
---                terms at the front of the table
+--   FieldsDone   a field cannot be read; or whether the numbers rise, and, if they do, what the items say is held, with their terms at
+--                the front of the table
 --   TextDone     the refusal; or the same of the whole text
 use mathlib.Core.Path.{_≡_}
 use Prim.Native.Nat.{ℕ, _≤_}
@@ -27,13 +27,13 @@ pub record TextSpace (text : Bytes) (table : List ℕ) : Type 0 where
   pub room : textRoom ≤ length table
 
 pub record FieldsRead (is : List Item) (table : List ℕ) (r : Fields) : Type 0 where
-  pub sound : r .sound ≡ true
+  pub readable : r .readable ≡ true
   pub rising : r .rising ≡ rises (numbers is)
   pub within : r .used ≤ length table
   pub says : rises (numbers is) ≡ true → SaidBy (take (r .used) table) is (r .said)
 
 unfoldable pub FieldsDone : Answer (List Item) → List ℕ → Fields → Type 0
-FieldsDone (refused n) table r = r .sound ≡ false
+FieldsDone (refused n) table r = r .readable ≡ false
 FieldsDone (got is) table r = FieldsRead is table r
 
 abbrev pub RefusedText : ℕ → TextRead → Type 0

@@ -55,8 +55,8 @@ struct Order {
 
 // What the fields of a text come to.
 struct Fields {
-    // Whether each is as document 01 says; if not, the rest means nothing.
-    sound: bool,
+    // Whether each can be read; if not, the rest means nothing.
+    readable: bool,
     // Whether their numbers rise; if not, what they say means nothing.
     rising: bool,
     // How many entries at the front of the table hold their terms.
@@ -179,7 +179,7 @@ fn read_fields(text: &[u8], table: &mut [u64]) -> Fields
         let field = read_field(&text[at..], &mut table[used..]);
         let Field::Item(took, tag, m, nodes) = field else {
             return Fields {
-                sound: false,
+                readable: false,
                 rising: order.rising,
                 used: used,
                 said: said,
@@ -191,7 +191,7 @@ fn read_fields(text: &[u8], table: &mut [u64]) -> Fields
         at += took;
     }
     Fields {
-        sound: true,
+        readable: true,
         rising: order.rising,
         used: used,
         said: said,
@@ -216,16 +216,16 @@ pub fn read_text(text: &[u8], table: &mut [u64]) -> TextRead
     if MAX_TEXT < text.len() {
         return refused(19);
     }
-    let read = read_fields(text, table);
-    if !read.sound {
+    let found = read_fields(text, table);
+    if !found.readable {
         return refused(20);
     }
-    if !read.rising {
+    if !found.rising {
         return refused(27);
     }
-    let said = read.said;
+    let said = found.said;
     TextRead {
-        answer: Answer::Read(read.used),
+        answer: Answer::Read(found.used),
         said: said,
     }
 }

@@ -1,6 +1,7 @@
 -- T-07: "metavariable numbers must rise from field to field", and what a text then says.
---   rises-..      said of neighbours, that numbers rise; said of any two, that they are in order
---   said-..       what a text says of a metavariable: what its field means, and nothing where it has none
+--   rises-ordered, ordered-rises   numbers rise, said of neighbours, when they are in order, said of any two
+--   never-doubled                  no text that can be read has a metavariable twice
+--   said-..                        what a text says of a metavariable: what its field means, and nothing where it has none
 use mathlib.Core.Path.{_≡_, refl, sym, _∙_, subst}
 use mathlib.Core.Logic.{⊎-elim}
 use Prim.Native.Nat.{ℕ, _<_}
@@ -9,11 +10,14 @@ use mathlib.Core.List.{List, [], _∷_, List·Memᴰ·head, List·Memᴰ·tail, 
 use native.Mathlib.Omega.{arith}
 use lib.Dec.{eqb, ltb}
 use borrow.Author.Tests.{ltb-true, lt-ltb}
-use Rattle.meaning.specs.Basics.{_∈_}
+use Rattle.meaning.specs.Basics.{Bytes, Distinct, _∈_}
 use Rattle.meaning.specs.Filling.{absent}
-use Rattle.meaning.specs.Text.{Item, meant, numbers, rises, risesAfter, said}
+use Rattle.meaning.specs.Read.{got}
+use Rattle.meaning.specs.Text.{Item, meant, numbers, readText, rises, risesAfter, said}
 use Rattle.meaning.specs.Difference.{Ordered, empty, more}
 use Rattle.meaning.proofs.Lists.{T-true, true-T, and-T, T-and, choose-true, choose-false, eqb-other}
+use Rattle.meaning.proofs.Ordered.{ordered-distinct}
+use Rattle.meaning.proofs.TextReading.{text-rises}
 
 -- Neighbours that rise, and any two
 rises-after : (m : ℕ) (ns : List ℕ) → risesAfter m ns ≡ true → Ordered _<_ (m ∷ ns)
@@ -39,6 +43,10 @@ ordered-after m (n ∷ ns) (more g o) =
 pub ordered-rises : (ms : List ℕ) → Ordered _<_ ms → rises ms ≡ true
 ordered-rises [] o = refl
 ordered-rises (m ∷ ms) o = ordered-after m ms o
+
+-- "A doubled metavariable thus no longer reaches a no"
+pub never-doubled : (s : Bytes) (is : List Item) → readText s ≡ got is → Distinct (numbers is)
+never-doubled s is e = ordered-distinct _<_ (λ m l. omega arith) (numbers is) (rises-ordered (numbers is) (text-rises s is e))
 
 -- What a text says of a metavariable
 pub said-first : (i : Item) (is : List Item) (m : ℕ) → eqb m (i .0) ≡ true → said (i ∷ is) m ≡ meant (i .1)

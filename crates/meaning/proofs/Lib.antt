@@ -31,6 +31,9 @@ pub mod Sources
 pub mod Candidate
 pub mod RowBodies
 pub mod Solutions
+-- Fields in number order, and texts that differ only in bound names
+pub mod FieldOrder
+pub mod AlphaTexts
 -- Filling with names
 pub mod TextualLaws
 pub mod Spelling
@@ -38,8 +41,6 @@ pub mod Uncaught
 pub mod NoCapture
 -- Solution texts
 pub mod Nodes
-pub mod FieldOrder
-pub mod AlphaTexts
 pub mod Sums
 pub mod Weights
 pub mod TextLaws

@@ -87,7 +87,7 @@ readItems (suc n) s =
 abbrev pub numbers : List Item → List ℕ
 numbers is = map (λ (i : Item). i .0) is
 
--- Each number is above the one before it; m is the one before the first
+-- T-07: "metavariable numbers must rise from field to field". Each is above the one before it; m is the one before the first
 abbrev pub risesAfter : ℕ → List ℕ → Bool
 risesAfter m [] = true
 risesAfter m (n ∷ ns) = ltb m n && risesAfter n ns
@@ -96,7 +96,7 @@ abbrev pub rises : List ℕ → Bool
 rises [] = true
 rises (m ∷ ms) = risesAfter m ms
 
--- T-07: "27 when a number isn't above the one before it"
+-- "27 when a number isn't above the one before it"
 abbrev pub inOrder : List Item → Answer (List Item)
 inOrder is = choose (rises (numbers is)) (got is) (refused 27)
 
@@ -112,10 +112,11 @@ meant leftOpen = leftOpen
 meant (value t) = value (namelessTerm [] t)
 meant (body t) = body (namelessTerm [] t)
 
+-- The filling that a text names. Where numbers rise no metavariable has a second field, which would be passed over here
 abbrev pub said : List Item → Filling
 said [] m = absent
 said (i ∷ is) m = choose (eqb m (i .0)) (meant (i .1)) (said is m)
 
--- "A solution text passes exactly when the filling it names is a solution", "bound names free"
+-- "bound names free"; "A wrong, missing .. metavariable is a no": the filling that the text names is a solution
 abbrev pub Passes : Problem → List Item → Type 0
 Passes p is = Solution p (said is)

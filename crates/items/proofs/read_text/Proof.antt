@@ -4,7 +4,7 @@ use Prim.Native.Nat.{_≤_}
 use lib.ListN.{length}
 use borrow.Author.Needs.{needs}
 use Rattle.meaning.specs.Limits.{maxText}
-use Rattle.items.proofs.TextLaws.{text-falls, text-got, text-over, text-unsound}
+use Rattle.items.proofs.TextLaws.{text-falls, text-got, text-over, text-malformed}
 use Rattle.items.proofs.read_text.Statement.{statement}
 use Rattle.items.proofs.read_text.Tie as tie
 
@@ -31,7 +31,7 @@ same-length c = search needs
 returns-2 : tie.Need-returns-2
 returns-2 c =
     let read = c .before .before .before .before .before in
-    text-unsound _ _ (short read) _ (read .read-fields .ensures) _ (c .before .if2 .taken) (c .refused2 .ensures)
+    text-malformed _ _ (short read) _ (read .read-fields .ensures) _ (c .before .if2 .taken) (c .refused2 .ensures)
 
 refused-requires-3 : tie.Need-refused-requires-3
 refused-requires-3 c κs = search needs
@@ -41,18 +41,18 @@ same-length-2 c = search needs
 
 returns-3 : tie.Need-returns-3
 returns-3 c =
-    let sound = c .before .before .before in
-    let read = sound .before .before .before .before in
-    text-falls _ _ (short read) _ (read .read-fields .ensures) (sound .if2 .left) _ (c .before .if3 .taken) (c .refused3 .ensures)
+    let formed = c .before .before .before in
+    let read = formed .before .before .before .before in
+    text-falls _ _ (short read) _ (read .read-fields .ensures) (formed .if2 .left) _ (c .before .if3 .taken) (c .refused3 .ensures)
 
 same-length-3 : tie.Need-same-length-3
 same-length-3 c = search needs
 
 returns-4 : tie.Need-returns-4
 returns-4 c =
-    let sound = c .before .before .before in
-    let read = sound .before .before .before .before in
-    text-got _ _ (short read) _ (read .read-fields .ensures) (sound .if2 .left) _ (c .before .if3 .left) refl
+    let formed = c .before .before .before in
+    let read = formed .before .before .before .before in
+    text-got _ _ (short read) _ (read .read-fields .ensures) (formed .if2 .left) _ (c .before .if3 .left) refl
 
 pub read-text-spec : {M : Type 1} → statement M
 read-text-spec =
