@@ -2,14 +2,14 @@
 --   Agrees        two texts say the same of each metavariable
 --   same-filling  of two texts that can be read; of two that pass it is `passing-texts` (EntryLaws)
 use mathlib.Core.Path.{_≡_, refl, ap, ap₂, sym, _∙_, fun-ext}
-use mathlib.Core.Logic.{_↔_}
+use mathlib.Core.Logic.{⊎-elim, _↔_}
 use Prim.Native.Nat.{ℕ, _<_}
 use mathlib.Core.Bool.{false}
-use mathlib.Core.List.{List, [], _∷_}
+use mathlib.Core.List.{List, [], _∷_, List·Memᴰ·cases-cons}
 use native.Mathlib.Omega.{arith}
 use lib.Dec.{eqb, ltb}
 use borrow.Author.Tests.{ltb-true, ltb-false}
-use Rattle.meaning.specs.Basics.{All, Bytes, choose}
+use Rattle.meaning.specs.Basics.{All, Bytes, choose, _∈_}
 use Rattle.meaning.specs.Term.{NamedTerm}
 use Rattle.meaning.specs.Filling.{Entry, absent, leftOpen, value, body}
 use Rattle.meaning.specs.Read.{got}
@@ -21,7 +21,7 @@ use Rattle.meaning.proofs.Lists.{never, by-test, eqb-self, eqb-eq}
 use Rattle.meaning.proofs.Renaming.{equal-is-alpha}
 use Rattle.meaning.proofs.ByteLaws.{Byte}
 use Rattle.meaning.proofs.TextReading.{text-read, text-rises}
-use Rattle.meaning.proofs.FieldOrder.{rises-ordered, said-first, said-later, said-nowhere, above-not, below-first}
+use Rattle.meaning.proofs.FieldOrder.{rises-ordered, said-first, said-later, said-nowhere}
 
 -- Entries mean the same exactly when they differ at most in bound names
 meant-alpha : (x y : Entry NamedTerm) → meant x ≡ meant y → AlphaEntry x y
@@ -54,6 +54,14 @@ something absent r e = r
 something leftOpen r e = never (cc)
 something (value t) r e = never (cc)
 something (body t) r e = never (cc)
+
+-- A number below the first is nowhere
+above-not : (m : ℕ) (ns : List ℕ) → ((n : ℕ) → n ∈ ns → m < n) → m ∈ ns → ⊥
+above-not m ns g q = let l = g m q in omega arith
+
+below-first : (m : ℕ) (j : Item) (js : List Item) → Ordered _<_ (numbers (j ∷ js)) → m < j .0 → said (j ∷ js) m ≡ absent
+below-first m j js (more g o) l =
+    said-nowhere (j ∷ js) m (λ q. ⊎-elim (λ (e : m ≡ j .0). omega arith) (λ i. let h = g m i in omega arith) (List·Memᴰ·cases-cons q))
 
 -- Two texts in number order that name the same filling
 abbrev Agrees : List Item → List Item → Type 0

@@ -59,11 +59,3 @@ pub said-nowhere : (is : List Item) (m : ℕ) → (m ∈ numbers is → ⊥) →
 said-nowhere [] m h = refl
 said-nowhere (i ∷ is) m h =
     said-later i is m (eqb-other m (i .0) (λ e. h (List·Memᴰ·head e))) ∙ said-nowhere is m (λ q. h (List·Memᴰ·tail q))
-
--- A number below the first is nowhere
-pub above-not : (m : ℕ) (ns : List ℕ) → ((n : ℕ) → n ∈ ns → m < n) → m ∈ ns → ⊥
-above-not m ns g q = let l = g m q in omega arith
-
-pub below-first : (m : ℕ) (j : Item) (js : List Item) → Ordered _<_ (numbers (j ∷ js)) → m < j .0 → said (j ∷ js) m ≡ absent
-below-first m j js (more g o) l =
-    said-nowhere (j ∷ js) m (λ q. ⊎-elim (λ (e : m ≡ j .0). omega arith) (λ i. let h = g m i in omega arith) (List·Memᴰ·cases-cons q))
