@@ -273,42 +273,31 @@ fn checked(problem: &[(Tree, Tree)], text: &[Entry], answer: Result<bool, Refusa
 fn fields_in_number_order() {
     let problem = [(call(P, meta(X)), s(1))];
     let [p, x] = [body(P, hole()), value(X, s(1))];
-    let renamed = |name: u16| value(X, all(name, v(name)));
-    let over_31 = Entry::Open(32);
     checked(&problem, &[p.clone(), x.clone()], Ok(true));
-    checked(&problem, &[x.clone(), p.clone()], Err(Refusal::TextOutOfOrder));
-    checked(
-        &problem,
-        &[p.clone(), x.clone(), x.clone()],
-        Err(Refusal::TextOutOfOrder),
-    );
-    checked(
-        &problem,
-        &[p.clone(), p.clone(), x.clone()],
-        Err(Refusal::TextOutOfOrder),
-    );
-    checked(
-        &problem,
-        &[p.clone(), x.clone(), p.clone()],
-        Err(Refusal::TextOutOfOrder),
-    );
-    checked(
-        &problem,
-        &[x.clone(), p.clone(), over_31.clone()],
-        Err(Refusal::TextMalformed),
-    );
-    checked(&problem, &[over_31, x, p.clone()], Err(Refusal::TextMalformed));
-    // A text that would be a no whatever its order, and texts that differ only in bound names.
-    checked(
-        &problem,
-        &[Entry::Open(X), Entry::Open(P)],
-        Err(Refusal::TextOutOfOrder),
-    );
     checked(&problem, &[Entry::Open(P), Entry::Open(X)], Ok(false));
-    let bound = [(meta(X), all(5, v(5)))];
-    checked(&bound, &[renamed(5)], Ok(true));
-    checked(&bound, &[renamed(7)], Ok(true));
-    checked(&bound, &[renamed(5), renamed(7)], Err(Refusal::TextOutOfOrder));
+    let out_of_order = [
+        vec![x.clone(), p.clone()],
+        vec![p.clone(), x.clone(), x.clone()],
+        vec![p.clone(), p.clone(), x.clone()],
+        vec![p.clone(), x, p],
+        vec![Entry::Open(X), Entry::Open(P)],
+    ];
+    let over_31 = [Entry::Open(32)];
+    for text in &out_of_order {
+        checked(&problem, text, Err(Refusal::TextOutOfOrder));
+        checked(&problem, &[text, &over_31[..]].concat(), Err(Refusal::TextMalformed));
+        checked(&problem, &[&over_31[..], text].concat(), Err(Refusal::TextMalformed));
+    }
+}
+
+/// T-07: texts that differ only in bound names both pass, and name the same solution; one after the other they are none.
+#[test]
+fn bound_names_are_free() {
+    let problem = [(meta(X), all(5, v(5)))];
+    let named = |name: u16| value(X, all(name, v(name)));
+    checked(&problem, &[named(5)], Ok(true));
+    checked(&problem, &[named(7)], Ok(true));
+    checked(&problem, &[named(5), named(7)], Err(Refusal::TextOutOfOrder));
 }
 
 /// T-09: a rule in which P stands both as a function and alone fits nothing, and no text passes.
