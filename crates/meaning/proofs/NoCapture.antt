@@ -14,8 +14,7 @@ use Rattle.meaning.specs.Rename.{Alpha}
 use Rattle.meaning.specs.Problem.{Problem, namedPatterns, namedExpressions, patterns, expressions, plain, applied}
 use Rattle.meaning.specs.Filling.{Entry, absent, leftOpen, value, body, Filling, filled}
 use Rattle.meaning.specs.Solution.{Solution}
-use Rattle.meaning.specs.Textual.{isFree, NamedFilling, textual, UncaughtIn, Uncaught, meantBy, ClosedEntry, Spelling}
-use Rattle.meaning.specs.Textual.{Respelling}
+use Rattle.meaning.specs.Textual.{isFree, NamedFilling, textual, UncaughtIn, Uncaught, meantBy, ClosedEntry, Spelling, Respelling}
 use Rattle.meaning.specs.Case.{var, all, box, equals, notCaught}
 use Rattle.meaning.proofs.Lists.{never, by-test, isIn-mem, mem-isIn}
 use Rattle.meaning.proofs.Renaming.{alpha-nameless, nameless-alpha}

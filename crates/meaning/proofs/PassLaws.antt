@@ -21,8 +21,7 @@ use Rattle.meaning.specs.Text.{Item, numbers, said, Passes}
 use Rattle.meaning.specs.Passing.{isBodyLabel, isBody, isWhole, isBodyEntry, isValueEntry, isOpen, isAbsent, isNeeded}
 use Rattle.meaning.specs.Passing.{known, kinds, openUnneeded, unneededOpen, meets, passes}
 use Rattle.meaning.proofs.Lists.{never, T-true, true-T, or-false, and-T, T-and, or-cases, or-left, or-right, eqb-self, eqb-eq}
-use Rattle.meaning.proofs.Lists.{by-test, isIn-mem, mem-isIn, all-mem}
-use Rattle.meaning.proofs.Lists.{mem-all, every-all, all-every}
+use Rattle.meaning.proofs.Lists.{by-test, isIn-mem, mem-isIn, all-mem, mem-all, every-all, all-every}
 use Rattle.meaning.proofs.ShiftLaws.{test-closed, closed-test}
 use Rattle.meaning.proofs.Alike.{sameTerms-eq, sameTerms-refl}
 use Rattle.meaning.proofs.FieldOrder.{said-nowhere}

@@ -28,9 +28,9 @@ use Rattle.meaning.specs.Candidate.{given, candidate, isClosedEntry, sol
 use Rattle.meaning.specs.Read.{Context, inExpression, inBody, contextBelow}
 use Rattle.meaning.specs.Readable.{NodeFits, Readable, ReadableConstraint, Accepted, ReadableEntry, ReadableItem}
 use Rattle.meaning.specs.Text.{Item, termOr, termAt, faceNode, writtenBody, writtenValue, entryOf, textOf, meant, numbers, rises, said}
+use Rattle.meaning.specs.Difference.{Ordered}
 use Rattle.meaning.proofs.Lists.{never, true-T, eqb-eq, eqb-self, by-test, choose-true, choose-false}
 use Rattle.meaning.proofs.Lists.{keep-mem, isIn-mem, mem-isIn, not-isIn, upTo-mem, all-mem, mem-all}
-use Rattle.meaning.specs.Difference.{Ordered}
 use Rattle.meaning.proofs.ShiftLaws.{test-closed}
 use Rattle.meaning.proofs.Ordered.{countFrom-ordered, keep-ordered, ordered-distinct}
 use Rattle.meaning.proofs.FieldOrder.{ordered-rises, said-nowhere}

@@ -168,6 +168,7 @@ fn numbers(text: &[u8]) -> Vec<u8> {
         .collect()
 }
 
+/// Whether each number is above the one before it.
 fn rise(numbers: &[u8]) -> bool {
     numbers.is_sorted_by(|before, number| before < number)
 }
