@@ -34,6 +34,8 @@ pub mod Solutions
 -- Fields in number order, and texts that differ only in bound names
 pub mod FieldOrder
 pub mod AlphaTexts
+-- Two subexpressions compared (T-02)
+pub mod CompareLaws
 -- Filling with names
 pub mod TextualLaws
 pub mod Spelling
@@ -59,3 +61,4 @@ pub mod Computed
 pub mod Examples
 pub mod RefusalExamples
 pub mod EntryExamples
+pub mod CompareExamples

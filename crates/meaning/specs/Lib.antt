@@ -37,6 +37,8 @@ pub mod Rows
 pub mod Candidate
 pub mod Passing
 pub mod Readable
+-- Two subexpressions compared (T-02)
+pub mod Compare
 -- The same in other words
 pub mod Rename
 pub mod Textual

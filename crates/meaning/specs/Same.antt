@@ -2,7 +2,9 @@
 -- to believe them.
 --   alike       two forests alike in shape and in each label, by a test of labels
 --   sameTerms   two nameless forests; sameView, two views
+--   allAlike    two lists alike in length and element by element, by a test of elements
 use mathlib.Core.Bool.{Bool, true, false, _&&_}
+use mathlib.Core.List.{List, [], _∷_}
 use lib.Dec.{eqb}
 use Rattle.meaning.specs.Term.{Forest, Label, Own, Slot, Terms, Variable, application, binder, bound, cons, free, function, hole}
 use Rattle.meaning.specs.Term.{metavariable, nil, own, slot, symbol, variable}
@@ -14,6 +16,12 @@ alike same nil nil = true
 alike same nil (cons l c s) = false
 alike same (cons l c s) nil = false
 alike same (cons l c s) (cons l′ c′ s′) = same l l′ && (alike same c c′ && alike same s s′)
+
+abbrev pub allAlike : {L M : Type 0} → (L → M → Bool) → List L → List M → Bool
+allAlike same [] [] = true
+allAlike same [] (y ∷ ys) = false
+allAlike same (x ∷ xs) [] = false
+allAlike same (x ∷ xs) (y ∷ ys) = same x y && allAlike same xs ys
 
 -- Tests: each label has a kind and two numbers at most
 abbrev pub sameSlot : Slot → Slot → Bool

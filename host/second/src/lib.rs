@@ -3,7 +3,8 @@
 //! It renders the definitions of document 01, as request T-05 widens them, T-07
 //! puts a text's fields in number order and T-09 changes them for a letter used
 //! both ways, by the Huet–Lang procedure of document 001 on named terms, and is
-//! there to be compared with another matcher. Errors are the documents' refusal
+//! there to be compared with another matcher. By request T-02 a comparison of
+//! two subexpressions says how far it went. Errors are the documents' refusal
 //! numbers.
 
 #![forbid(unsafe_code)]
@@ -16,6 +17,7 @@ mod compare;
 mod encode;
 mod faces;
 mod matches;
+mod nodes;
 mod problem;
 mod rank;
 mod read;
@@ -30,6 +32,7 @@ mod text;
 #[cfg(test)]
 mod tests;
 
+pub use compare::Compared;
 pub use problem::{Problem, Solution};
 pub use row::{Choice, Row};
 
