@@ -29,7 +29,7 @@ use Rattle.masks.proofs.Cases.{lt-or-ge, same-truth}
 use Rattle.classes.specs.Tabled.{isFree, areEqual, free, equal, FaceClasses}
 use Rattle.classes.specs.FaceTable.{sizeFrom, freeFrom, sameFrom, ClassesFrom, Whole, FaceAt}
 use Rattle.classes.proofs.FaceChoices.{views-same, same-views}
-use Rattle.classes.proofs.Spots.{Spot, spot}
+use Rattle.tokens.proofs.Spots.{Spot, spot}
 use Rattle.tokens.proofs.Owners.{equal-levels}
 
 at-past : {A : Type 0} (xs : List A) (i : ℕ) → length xs ≤ i → getElem? xs i ≡ none
@@ -43,20 +43,20 @@ module _ (es : List ℕ) (root : ℕ) (face : Term) (h : FaceAt es root face) wh
   above = length (h .scope)
 
   abbrev Node : ℕ → Type 0
-  Node i = Spot above (size (one (h .named))) (drop root es) (views face) (one face) i
+  Node i = Spot above (size (one (h .named))) (drop root es) i (drop root es) (views face) (one face) i
 
   face-size : size (one face) ≡ size (one (h .named))
   face-size = ap (λ (t : Term). size (one t)) (sym (h .is)) ∙ relabel-size enter namelessLabel (h .scope) (one (h .named))
 
   node : (i : ℕ) → i < size (one face) → Node i
-  node i l = subst (λ (t : Term). Spot above (size (one (h .named))) (drop root es) (views t) (one t) i) (h .is) here
+  node i l = subst (λ (t : Term). Spot above (size (one (h .named))) (drop root es) i (drop root es) (views t) (one t) i) (h .is) here
     where
-      here : Spot above (size (one (h .named))) (drop root es) (views (namelessTerm (h .scope) (h .named)))
+      here : Spot above (size (one (h .named))) (drop root es) i (drop root es) (views (namelessTerm (h .scope) (h .named)))
           (one (namelessTerm (h .scope) (h .named))) i
       here =
           rw (h .stands .split)
-          (spot above (h .levels) (h .ctx) (h .scope) [] 0 (one (h .named)) (h .stands .after) i (omega (arith, face-size))
-          (h .held .readable) (h .held .depths) (omega arith))
+          (spot above (h .levels) (h .ctx) (h .scope) [] 0 (one (h .named)) (h .stands .after) _ i i (omega arith) (omega (arith, face-size))
+          (h .held .readable) (h .held .depths) (omega arith) refl tt)
 
   module _ (i : ℕ) (s : Node i) where
     abbrev term : Term

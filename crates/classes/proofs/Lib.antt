@@ -1,7 +1,6 @@
 -- Laws of the class table of a face (FaceChoices to Entries), and of all functions (Filling to ProblemTables).
 pub mod Lists
 pub mod FaceChoices
-pub mod Spots
 pub mod FaceTable
 pub mod Entries
 pub mod Filling

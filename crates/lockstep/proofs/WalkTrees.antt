@@ -25,7 +25,8 @@ use Rattle.tokens.specs.Token.{tokens}
 use Rattle.tokens.specs.Key.{keyOf}
 use Rattle.tokens.proofs.TokenParts.{tokens-length}
 use Rattle.tokens.proofs.Levels.{enter-deep}
-use Rattle.tokens.proofs.Codes.{Viewed, code, code-injective, arity, seenLabel, viewFrom, label-code, fits-label}
+use Rattle.meaning.proofs.CompareLaws.{arity}
+use Rattle.tokens.proofs.Codes.{Viewed, code, code-injective, seenLabel, viewFrom, label-code, fits-label}
 use Rattle.tokens.proofs.ProblemTokens.{tokenAt, size-at, Room, room-depth, room-size, room-below, room-later}
 use Rattle.lockstep.specs.Walk.{Stop, faceCode, lockstep}
 use Rattle.lockstep.proofs.WalkLaws.{join-assoc, join-nothing, join-end, lockstep-end, lockstep-differs, lockstep-same}

@@ -2,16 +2,15 @@
 --   root     the scope around the term whose tokens are looked at; its length is the binder depth from which keys are seen
 --   k        the number of binders between the root and a node inside the term
 --   code     a label of a view as the number that is its key; codes, those of a view in preorder
---   Ranked   each label of a view says how many children it has and can be read back from its code, which makes the codes a prefix
---            code: two views with the same codes are the same
+--   Coded    a label that can be read back from its code, so that two ranked views with the same codes are the same
 use mathlib.Core.Path.{_≡_, refl, ap, ap₂, sym, _∙_}
-use mathlib.Core.List.{List, [], _∷_, _++_, map-append, append-assoc}
+use mathlib.Core.List.{List, [], _∷_, _++_, map, map-append}
 use Prim.Native.Nat.{ℕ, zero, suc, _+_, _*_, _-_, _/_, _%_, _<_, _≤_}
 use native.Mathlib.Omega.{arith}
 use native.Mathlib.Decide.{decLt}
 use lib.ListN.{length}
 use lib.Dec.{eqb}
-use Rattle.meaning.specs.Basics.{choose}
+use Rattle.meaning.specs.Basics.{choose, All}
 use Rattle.meaning.specs.Term.{Forest, nil, cons, size, trees, relabel, symbol, variable, application, binder, Label, own, slot}
 use Rattle.meaning.specs.Term.{metavariable, function, hole, Named, Variable, bound, Nameless, Terms, inner}
 use Rattle.meaning.specs.Scope.{resolve, enter, namelessLabel, nameless}
@@ -20,12 +19,13 @@ use Rattle.meaning.specs.Equal.{Seen, seenFree, inside, outside, see, View}
 use Rattle.meaning.specs.Field.{tagOf}
 use Rattle.meaning.specs.Read.{Context, contextBelow}
 use Rattle.meaning.specs.Readable.{NodeFits, Readable}
-use Rattle.meaning.proofs.Lists.{choose-true, choose-false}
+use Rattle.meaning.specs.Compare.{preorder}
+use Rattle.meaning.proofs.Lists.{never, choose-true, choose-false, all-append}
 use Rattle.meaning.proofs.ShiftLaws.{ltb-yes, ltb-no}
 use Rattle.tokens.specs.Token.{tokenOf, levelOf, payloadOf, tokens}
 use Rattle.tokens.specs.Key.{keyOfVariable, keyOfPayload, keyOf, keys, levelFrom, at}
 use Rattle.tokens.proofs.same.Laws.{key-free, key-inside, key-outside}
-use Rattle.meaning.proofs.Proper.{relabel-trees}
+use Rattle.meaning.proofs.CompareLaws.{arity, Ranked, preorder-injective}
 use Rattle.tokens.proofs.TokenParts.{key-token, enter-room}
 use Rattle.tokens.proofs.Levels.{Resolved, isFree, isBound, resolved, enter-deep}
 
@@ -48,8 +48,7 @@ code (slot (function f n)) = 6 + 256 * f
 code (slot (hole i)) = 10 + 256 * i
 
 abbrev pub codes : View ℕ → List ℕ
-codes nil = []
-codes (cons l c s) = code l ∷ (codes c ++ codes s)
+codes u = map code (preorder u)
 
 -- A code can be read back
 decodeSeen : ℕ → ℕ → Seen ℕ
@@ -105,34 +104,17 @@ code-back (slot (hole i)) h = read-back 10 i (omega arith)
 pub code-injective : (l m : Viewed) → Coded l → Coded m → code l ≡ code m → l ≡ m
 code-injective l m h g e = sym (code-back l h) ∙ ap (λ (n : ℕ). decode (n % 256) (n / 256)) e ∙ code-back m g
 
--- Views whose labels say how many children they have
-abbrev pub arity : {X B : Type 0} → Label X B → ℕ
-arity (own (symbol n)) = 0
-arity (own (variable v)) = 0
-arity (own (application n)) = n
-arity (own (binder b x)) = 1
-arity (slot (metavariable m)) = 0
-arity (slot (function f n)) = n
-arity (slot (hole i)) = 0
+map-code-injective : (xs ys : List Viewed) → All Coded xs → All Coded ys → map code xs ≡ map code ys → xs ≡ ys
+map-code-injective [] [] h g e = refl
+map-code-injective [] (y ∷ ys) h g e = never (cc)
+map-code-injective (x ∷ xs) [] h g e = never (cc)
+map-code-injective (x ∷ xs) (y ∷ ys) h g e =
+    ap₂ _∷_ (code-injective x y (h .0) (g .0) (cc)) (map-code-injective xs ys (h .1) (g .1) (cc))
 
-abbrev pub Ranked : View ℕ → Type 0
-Ranked nil = Unit {0}
-Ranked (cons l c s) = (Coded l × (trees c ≡ arity l)) × Ranked c × Ranked s
-
-pub codes-injective : (u v : View ℕ) (xs ys : List ℕ) → trees u ≡ trees v → Ranked u → Ranked v → codes u ++ xs ≡ codes v ++ ys
-    → (u ≡ v) × (xs ≡ ys)
-codes-injective nil nil xs ys n a b e = (refl, e)
-codes-injective nil (cons l c s) xs ys n a b e = absurd (omega arith)
-codes-injective (cons l c s) nil xs ys n a b e = absurd (omega arith)
-codes-injective (cons l c s) (cons l′ c′ s′) xs ys n a b e =
-    let el : l ≡ l′ = code-injective l l′ (a .0 .0) (b .0 .0) (cc) in
-    let rest : (codes c ++ codes s) ++ xs ≡ (codes c′ ++ codes s′) ++ ys = cc in
-    let nc : trees c ≡ trees c′ = a .0 .1 ∙ ap arity el ∙ sym (b .0 .1) in
-    let rc = codes-injective c c′ (codes s ++ xs) (codes s′ ++ ys) nc (a .1) (b .1) (simp append-assoc at rest) in
-    let rs = codes-injective s s′ xs ys (omega arith) (a .2) (b .2) (rc .1) in
-    let ec : c ≡ c′ = rc .0 in
-    let es : s ≡ s′ = rs .0 in
-    (cc, rs .1)
+pub codes-injective : (u v : View ℕ) → trees u ≡ trees v → Ranked u → Ranked v → All Coded (preorder u) → All Coded (preorder v)
+    → codes u ≡ codes v → u ≡ v
+codes-injective u v n a b h g e =
+    preorder-injective u v [] [] n a b (ap (λ (xs : List Viewed). xs ++ []) (map-code-injective (preorder u) (preorder v) h g e)) .0
 
 -- The key of a token is the code of the label's view. `root` is the scope of the term, and k binders of the term are above the node
 module _ (root : List ℕ) where
@@ -195,9 +177,12 @@ keys-codes root k (suc levels) ctx sc (cons l c s) deep r room small =
     keys-codes root (inner (namelessLabel sc l) k) levels (contextBelow l ctx) (enter l sc) c (enter-deep k (length root) sc l deep) (r .1)
     (omega (arith, enter-room sc l)) (omega arith) in
     let es = keys-codes root k (suc levels) ctx sc s deep (r .2) room (omega arith) in
-    ap₂ _∷_ el (map-append (keyOf (length root)) (tokens (enter l sc) c) (tokens sc s) ∙ ap₂ _++_ ec es)
+    let l′ = namelessLabel sc l in
+    ap₂ _∷_ el
+    (map-append (keyOf (length root)) (tokens (enter l sc) c) (tokens sc s) ∙ ap₂ _++_ ec es
+    ∙ sym (map-append code (preorder (viewFrom root (inner l′ k) (nameless (enter l sc) c))) (preorder (viewFrom root k (nameless sc s)))))
 
--- A readable term's view is ranked
+-- The labels of a readable term's view can be read back
 pub fits-label : (root : List ℕ) (k : ℕ) (ctx : Context) (sc : List ℕ) (l : Named) (c : Forest Named) → NodeFits ctx l c
     → Coded (seenLabel root k (namelessLabel sc l)) × (trees c ≡ arity (seenLabel root k (namelessLabel sc l)))
 fits-label root k ctx sc (own (symbol n)) c f = (tt, ap trees (f .1))
@@ -208,17 +193,14 @@ fits-label root k ctx sc (slot (metavariable m)) c f = (tt, ap trees (f .2))
 fits-label root k ctx sc (slot (function g n)) c f = (f .2, f .3)
 fits-label root k ctx sc (slot (hole i)) c f = (tt, ap trees (f .2))
 
-pub readable-ranked : (root : List ℕ) (k levels : ℕ) (ctx : Context) (sc : List ℕ) (u : Forest Named) → Readable levels ctx u
-    → Ranked (viewFrom root k (nameless sc u))
-readable-ranked root k levels ctx sc nil r = tt
-readable-ranked root k zero ctx sc (cons l c s) r = absurd r
-readable-ranked root k (suc levels) ctx sc (cons l c s) r =
-    let k′ = inner (namelessLabel sc l) k in
-    let fits = fits-label root k ctx sc l c (r .0) in (
-      (
-        fits .0,
-        relabel-trees inner (seenLabel root) k′ (nameless (enter l sc) c) ∙ relabel-trees enter namelessLabel (enter l sc) c ∙ fits .1,
-      ),
-      readable-ranked root k′ levels (contextBelow l ctx) (enter l sc) c (r .1),
-      readable-ranked root k (suc levels) ctx sc s (r .2),
+pub readable-coded : (root : List ℕ) (k levels : ℕ) (ctx : Context) (sc : List ℕ) (u : Forest Named) → Readable levels ctx u
+    → All Coded (preorder (viewFrom root k (nameless sc u)))
+readable-coded root k levels ctx sc nil r = tt
+readable-coded root k zero ctx sc (cons l c s) r = absurd r
+readable-coded root k (suc levels) ctx sc (cons l c s) r =
+    let k′ = inner (namelessLabel sc l) k in (
+      fits-label root k ctx sc l c (r .0) .0,
+      all-append Coded (preorder (viewFrom root k′ (nameless (enter l sc) c))) (preorder (viewFrom root k (nameless sc s)))
+          (readable-coded root k′ levels (contextBelow l ctx) (enter l sc) c (r .1))
+          (readable-coded root k (suc levels) ctx sc s (r .2)),
     )

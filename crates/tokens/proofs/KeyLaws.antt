@@ -24,10 +24,11 @@ use Rattle.meaning.specs.Readable.{Readable}
 use Rattle.meaning.proofs.Lists.{T-true, true-T}
 use Rattle.meaning.proofs.ShiftLaws.{test-closed, closed-test}
 use Rattle.tokens.specs.Token.{tokenOf, depthIn, sizeIn, payloadOf, tokens}
-use Rattle.tokens.specs.Key.{keys, levelFrom, at, part, keysAt, sameAcross, sameAt, Inside, anyReaches, usesAt, closedAt, Held, Stands}
-use Rattle.tokens.proofs.same.Laws.{sameList-true, same-sameList}
+use Rattle.tokens.specs.Key.{keys, levelFrom, at, part, sameAcross, sameAt, Inside, anyReaches, usesAt, closedAt, Held, Stands}
+use Rattle.tokens.proofs.same.Laws.{alike-keys, keys-alike}
 use Rattle.tokens.proofs.TokenParts.{depth-token, size-token, tokens-length, tag-room}
-use Rattle.tokens.proofs.Codes.{codes, Ranked, codes-injective, keys-codes, readable-ranked}
+use Rattle.meaning.proofs.CompareLaws.{Ranked, readable-ranked, view-ranked}
+use Rattle.tokens.proofs.Codes.{codes, codes-injective, keys-codes, readable-coded}
 use Rattle.tokens.proofs.Reaching.{allVariables, closed-all, sinks, Told, tokens-reach, told-closed, told-sinks, lower-term}
 
 no-some : {A : Type 0} (o : Option A) → (not (isSome o) ≡ true) ↔ (o ≡ none)
@@ -41,7 +42,7 @@ term-codes levels ctx sc t h = keys-codes sc 0 levels ctx sc (one t) (omega arit
 
 term-ranked : (levels : ℕ) (ctx : Context) (sc : List ℕ) (t : NamedTerm) → Held levels ctx sc t
     → Ranked (view (levelFrom sc) (one (namelessTerm sc t)))
-term-ranked levels ctx sc t h = readable-ranked sc 0 levels ctx sc (one t) (h .readable)
+term-ranked levels ctx sc t h = view-ranked (levelFrom sc) 0 (one (namelessTerm sc t)) (readable-ranked levels ctx sc (one t) (h .readable))
 
 -- A term in a table
 pub some-levels : (levels : ℕ) (ctx : Context) (t : NamedTerm) → Readable levels ctx (one t) → 0 < levels
@@ -73,8 +74,7 @@ module _ (levels : ℕ) (ctx : Context) (table : List ℕ) (a : ℕ) (sc : List 
   pub stands-part : part table a ≡ tokens sc (one t)
   stands-part = ap₂ take stands-size (s .split) ∙ take-at (tokens sc (one t)) (s .after) (size (one t)) (tokens-length sc (one t))
 
-  pub stands-keys : keysAt table a ≡ keys (length sc) (tokens sc (one t))
-  unfolding keysAt
+  pub stands-keys : keys (depthIn (at table a)) (part table a) ≡ keys (length sc) (tokens sc (one t))
   stands-keys = ap₂ keys stands-depth stands-part
 
   stands-uses : (p : ℕ → Variable → Bool) (d : ℕ) → Told p d (length sc)
@@ -93,10 +93,12 @@ pub keys-equal : (levels levels′ : ℕ) (ctx ctx′ : Context) (sc sc′ : Lis
     ↔ Equal (levelFrom sc) (levelFrom sc′) (namelessTerm sc t) (namelessTerm sc′ u)
 keys-equal levels levels′ ctx ctx′ sc sc′ t u h h′ = (
   λ e.
-      codes-injective (view (levelFrom sc) (one (namelessTerm sc t))) (view (levelFrom sc′) (one (namelessTerm sc′ u))) [] [] refl
+      codes-injective (view (levelFrom sc) (one (namelessTerm sc t))) (view (levelFrom sc′) (one (namelessTerm sc′ u))) refl
       (term-ranked levels ctx sc t h)
       (term-ranked levels′ ctx′ sc′ u h′)
-      (ap (λ (xs : List ℕ). xs ++ []) (sym (term-codes levels ctx sc t h) ∙ e ∙ term-codes levels′ ctx′ sc′ u h′)) .0,
+      (readable-coded sc 0 levels ctx sc (one t) (h .readable))
+      (readable-coded sc′ 0 levels′ ctx′ sc′ (one u) (h′ .readable))
+      (sym (term-codes levels ctx sc t h) ∙ e ∙ term-codes levels′ ctx′ sc′ u h′),
   λ e. term-codes levels ctx sc t h ∙ ap codes e ∙ sym (term-codes levels′ ctx′ sc′ u h′),
 )
 
@@ -139,7 +141,11 @@ across-means levels levels′ ctx ctx′ table table′ a b sc sc′ t u h h′ 
     let p = stands-keys levels ctx table a sc t h s in
     let q = stands-keys levels′ ctx′ table′ b sc′ u h′ s′ in
     let e = keys-equal levels levels′ ctx ctx′ sc sc′ t u h h′ in
-    (λ r. e .0 (sym p ∙ sameList-true _ _ r ∙ q), λ r. same-sameList _ _ (p ∙ e .1 r ∙ sym q))
+    let d = depthIn (at table a) in
+    let d′ = depthIn (at table′ b) in (
+      λ r. e .0 (sym p ∙ alike-keys d d′ (part table a) (part table′ b) r ∙ q),
+      λ r. keys-alike d d′ (part table a) (part table′ b) (p ∙ e .1 r ∙ sym q),
+    )
 
 pub same-means : (levels levels′ : ℕ) (ctx ctx′ : Context) (table : List ℕ) (a b : ℕ) (sc sc′ : List ℕ) (t u : NamedTerm)
     → Held levels ctx sc t

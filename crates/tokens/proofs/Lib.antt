@@ -6,4 +6,5 @@ pub mod Reaching
 pub mod KeyLaws
 pub mod Owners
 pub mod ProblemTokens
+pub mod Spots
 pub mod Examples

@@ -92,7 +92,7 @@ tokens-counted (suc levels) ctx sc (cons l c s) r h = (
       (tokens-counted (suc levels) ctx sc s (r .2) (room-later levels sc l c s h)),
 )
 
-all-at : (P : ℕ → Type 0) (xs : List ℕ) → All P xs → (k : ℕ) → k < length xs → P (at xs k)
+pub all-at : (P : ℕ → Type 0) (xs : List ℕ) → All P xs → (k : ℕ) → k < length xs → P (at xs k)
 all-at P [] a k h = absurd (omega arith)
 all-at P (x ∷ xs) a zero h = a .0
 all-at P (x ∷ xs) a (suc k) h = all-at P xs (a .1) k (omega arith)

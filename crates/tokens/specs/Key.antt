@@ -5,11 +5,12 @@
 --             count, or of a variable its name where it is free, its de Bruijn index where it is bound inside, its binder's level
 --             where it is bound outside
 --   part      the tokens of the subterm at a node
+--   shared    how many binders lie above both of two roots: the outermost ones, with the levels 1 to s
 --   reaches   a token is a variable whose level is above d and at most r: bound outside a root at depth r, inside one at depth d
 --   Held      a term whose tokens have room for what they say
 --   Stands    a term's tokens stand in the table at a node
 -- Caveat: levels number the binders above one node. For two nodes an outer level is the same binder only where that binder lies
--- above both; whoever compares two nodes by their keys owes that for each variable bound outside.
+-- above both; whoever compares two nodes by their keys owes that for each variable bound outside, or says how many are shared.
 use mathlib.Core.Path.{_≡_}
 use Prim.Native.Nat.{ℕ, suc, _+_, _*_, _-_, _/_, _%_, _<_, _≤_}
 use mathlib.Core.Bool.{Bool, true, false, _&&_, _||_, not}
@@ -20,6 +21,9 @@ use Rattle.meaning.specs.Basics.{choose}
 use Rattle.meaning.specs.Term.{one, size, NamedTerm}
 use Rattle.meaning.specs.Read.{Context}
 use Rattle.meaning.specs.Readable.{Readable}
+use Rattle.meaning.specs.Same.{allAlike}
+use Rattle.meaning.specs.Compare.{pairs}
+use Rattle.tokens.specs.declared.same.Compared.{Compared}
 use Rattle.tokens.specs.Token.{tagIn, depthIn, sizeIn, payloadIn, tokens}
 
 -- The halves of a payload: a variable's name and level, a binder's number and bound name
@@ -57,18 +61,13 @@ nodes t a n = take n (drop a t)
 abbrev pub part : List ℕ → ℕ → List ℕ
 part t a = nodes t a (sizeIn (at t a))
 
-unfoldable pub keysAt : List ℕ → ℕ → List ℕ
-keysAt t a = keys (depthIn (at t a)) (part t a)
-
-unfoldable pub sameList : List ℕ → List ℕ → Bool
-sameList [] [] = true
-sameList [] (y ∷ ys) = false
-sameList (x ∷ xs) [] = false
-sameList (x ∷ xs) (y ∷ ys) = eqb x y && sameList xs ys
+-- Two nodes that agree by their keys, seen from roots at depths d and e
+abbrev pub sameKeys : ℕ → ℕ → ℕ → ℕ → Bool
+sameKeys d e x y = eqb (keyOf d x) (keyOf e y)
 
 -- Subterms of two tables, and of one
 unfoldable pub sameAcross : List ℕ → ℕ → List ℕ → ℕ → Bool
-sameAcross t a u b = sameList (keysAt t a) (keysAt u b)
+sameAcross t a u b = allAlike (sameKeys (depthIn (at t a)) (depthIn (at u b))) (part t a) (part u b)
 
 abbrev pub sameAt : List ℕ → ℕ → ℕ → Bool
 sameAt t a b = sameAcross t a t b
@@ -80,6 +79,18 @@ pub record Inside (t : List ℕ) (a : ℕ) : Type 0 where
 
 unfoldable pub reaches : ℕ → ℕ → ℕ → Bool
 reaches d r x = eqb (tagIn x) 2 && (ltb d (upperHalf (payloadIn x)) && leb (upperHalf (payloadIn x)) r)
+
+-- Two nodes that agree where the roots share s binders: by their keys, and a variable bound outside by a shared one
+unfoldable pub agreeUnder : ℕ → ℕ → ℕ → ℕ → ℕ → Bool
+agreeUnder s d e x y = sameKeys d e x y && not (reaches s d x)
+
+-- What comparing two lists of nodes answers, by a test of nodes: T-02's yes or no, and its number of pairs
+abbrev pub comparedBy : (ℕ → ℕ → Bool) → List ℕ → List ℕ → Compared
+comparedBy agrees xs ys = record { equal = allAlike agrees xs ys; pairs = pairs agrees xs ys }
+
+-- Subterms of two tables, and of one, whose roots share s binders
+unfoldable pub comparedAcross : List ℕ → ℕ → List ℕ → ℕ → ℕ → Compared
+comparedAcross t a u b s = comparedBy (agreeUnder s (depthIn (at t a)) (depthIn (at u b))) (part t a) (part u b)
 
 unfoldable pub anyReaches : ℕ → ℕ → List ℕ → Bool
 anyReaches d r [] = false

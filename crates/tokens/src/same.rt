@@ -6,9 +6,14 @@ use crate::token::tag;
 ghost use mathlib.Core.Path.{_≡_};
 ghost use Prim.Native.Nat.{_+_, _-_, _*_, _<_, _≤_, min};
 ghost use lib.ListN.{length};
-ghost use lib.Dec.{eqb};
-ghost use Rattle.tokens.specs.Key.{keyOfVariable, keyOfPayload, keyOf, keys, nodes, sameList, sameAcross, sameAt, Inside, reaches, anyReaches};
-ghost use Rattle.tokens.specs.Key.{usesAt, closedAt};
+ghost use Rattle.tokens.specs.Key.{keyOfVariable, keyOfPayload, keyOf, nodes, sameKeys, sameAcross, sameAt, Inside, reaches, anyReaches};
+ghost use Rattle.tokens.specs.Key.{agreeUnder, comparedBy, comparedAcross, usesAt, closedAt};
+
+// What a comparison answers: whether the two are equal, and how many pairs of nodes it compared.
+pub struct Compared {
+    pub equal: bool,
+    pub pairs: usize,
+}
 
 // A bound variable's de Bruijn index. No term's table has a level past the depth; should one, the answer is 0.
 fn index(depth: u64, level: u64) -> u64
@@ -58,58 +63,9 @@ pub fn key_of(d: u64, x: u64) -> u64
 
 // Whether a pair of nodes agrees, each seen from its own root, at depths d and e.
 pub fn same_node(d: u64, x: u64, e: u64, y: u64) -> bool
-    ensures { λ r. ⌜ r ≡ eqb (keyOf d x) (keyOf e y) ⌝ }
+    ensures { λ r. ⌜ r ≡ sameKeys d e x y ⌝ }
 {
     key_of(d, x) == key_of(e, y)
-}
-
-// Whether n nodes in a row agree; the loop ends at the first pair that does not.
-fn same_run(t: &[u64], a: usize, d: u64, u: &[u64], b: usize, e: u64, n: usize) -> bool
-    requires { ⌜ a + n ≤ length (now t) ⌝ ∗ ⌜ b + n ≤ length (now u) ⌝ }
-    ensures { λ r. ⌜ r ≡ sameList (keys d (nodes (now (t .entry)) a n)) (keys e (nodes (now (u .entry)) b n)) ⌝ }
-{
-    let mut k = 0;
-    while k < n {
-        if !same_node(d, t[a + k], e, u[b + k]) {
-            return false;
-        }
-        k += 1;
-    }
-    true
-}
-
-fn least(m: u64, n: u64) -> u64
-    ensures { λ r. ⌜ r ≡ min m n ⌝ }
-{
-    if m < n {
-        return m;
-    }
-    n
-}
-
-// Whether the subterms at node a of one table and at node b of another are equal up to bound names. A binder outside them counts by its
-// level, which is the same binder for both only where it lies above both nodes: so the answer is right where each outer binder that they
-// use does. The sizes come last: two terms that differ do so in a pair that both have.
-pub fn same_across(t: &[u64], a: usize, u: &[u64], b: usize) -> bool
-    requires { ⌜ Inside (now t) a ⌝ ∗ ⌜ Inside (now u) b ⌝ }
-    ensures { λ r. ⌜ r ≡ sameAcross (now (t .entry)) a (now (u .entry)) b ⌝ }
-{
-    let x = t[a];
-    let y = u[b];
-    let m = size(x);
-    let n = size(y);
-    if !same_run(t, a, depth(x), u, b, depth(y), least(m, n) as usize) {
-        return false;
-    }
-    m == n
-}
-
-// The same within one table.
-pub fn same(t: &[u64], a: usize, b: usize) -> bool
-    requires { ⌜ Inside (now t) a ⌝ ∗ ⌜ Inside (now t) b ⌝ }
-    ensures { λ r. ⌜ r ≡ sameAt (now (t .entry)) a b ⌝ }
-{
-    same_across(t, a, t, b)
 }
 
 // Whether a token is a variable with a level above d and at most r: bound outside a root at depth r, inside one at depth d.
@@ -121,6 +77,77 @@ pub fn reaches(d: u64, r: u64, x: u64) -> bool
     }
     let level = payload(x) / 65536;
     d < level && level <= r
+}
+
+// Whether a pair of nodes agrees, each seen from its own root, at depths d and e, that share s binders.
+fn agree(d: u64, x: u64, e: u64, y: u64, s: u64) -> bool
+    ensures { λ r. ⌜ r ≡ agreeUnder s d e x y ⌝ }
+{
+    if !same_node(d, x, e, y) {
+        return false;
+    }
+    !reaches(s, d, x)
+}
+
+fn least(m: usize, n: usize) -> usize
+    ensures { λ r. ⌜ r ≡ min m n ⌝ }
+{
+    if m < n {
+        return m;
+    }
+    n
+}
+
+// Two lists of nodes compared, pair by pair: the loop ends at the first pair that disagrees, and looks at nothing past it. The lengths come
+// last: two terms that differ do so in a pair that both have.
+fn compare_nodes(xs: &[u64], d: u64, ys: &[u64], e: u64, s: u64) -> Compared
+    ensures { λ r. ⌜ r ≡ comparedBy (agreeUnder s d e) (now (xs .entry)) (now (ys .entry)) ⌝ }
+{
+    let n = least(xs.len(), ys.len());
+    let mut k = 0;
+    while k < n {
+        if !agree(d, xs[k], e, ys[k], s) {
+            return Compared {
+                equal: false,
+                pairs: k + 1,
+            };
+        }
+        k += 1;
+    }
+    Compared {
+        equal: xs.len() == ys.len(),
+        pairs: k,
+    }
+}
+
+// The subterms at node a of one table and at node b of another compared up to bound names, where s binders lie above both nodes: a variable
+// bound outside counts by its level, which is the same binder for both only where it is one of these.
+pub fn compare_across(t: &[u64], a: usize, u: &[u64], b: usize, s: u64) -> Compared
+    requires { ⌜ Inside (now t) a ⌝ ∗ ⌜ Inside (now u) b ⌝ }
+    ensures { λ r. ⌜ r ≡ comparedAcross (now (t .entry)) a (now (u .entry)) b s ⌝ }
+{
+    let x = t[a];
+    let y = u[b];
+    let end = a + size(x) as usize;
+    let other_end = b + size(y) as usize;
+    compare_nodes(&t[a..end], depth(x), &u[b..other_end], depth(y), s)
+}
+
+// Whether the two are equal, for one who knows that each binder outside them that they use lies above both: all are shared.
+pub fn same_across(t: &[u64], a: usize, u: &[u64], b: usize) -> bool
+    requires { ⌜ Inside (now t) a ⌝ ∗ ⌜ Inside (now u) b ⌝ }
+    ensures { λ r. ⌜ r ≡ sameAcross (now (t .entry)) a (now (u .entry)) b ⌝ }
+{
+    let compared = compare_across(t, a, u, b, depth(t[a]));
+    compared.equal
+}
+
+// The same within one table.
+pub fn same(t: &[u64], a: usize, b: usize) -> bool
+    requires { ⌜ Inside (now t) a ⌝ ∗ ⌜ Inside (now t) b ⌝ }
+    ensures { λ r. ⌜ r ≡ sameAt (now (t .entry)) a b ⌝ }
+{
+    same_across(t, a, t, b)
 }
 
 // Whether one of n nodes in a row is such a variable.

@@ -23,9 +23,9 @@ pub struct Meeting<'p, 'e> {
 pub struct Compared {
     /// Whether they "differ at most in the names of bound variables".
     pub equal: bool,
-    /// "The number of node pairs compared: taken together from the top, up to
-    /// and with the first pair whose kind, number, binder or child count
-    /// disagrees, or all of them if none does."
+    /// T-02: "the number of node pairs compared: taken together from the top,
+    /// up to and with the first pair whose kind, number, binder or child count
+    /// disagrees, or all of them if none does".
     pub pairs: usize,
 }
 

@@ -1,19 +1,25 @@
 -- What the functions of `same` owe: the law of each return and of each turn of a loop, over the numbers that the code holds.
---   left   what a loop has yet to look at: of n nodes in a row all but the first k
+--   left        what a loop has yet to look at: of n nodes in a row all but the first k
+--   ..From k    the same of two lists of nodes that are compared: whether those from k on are alike, and how many pairs are compared there
 use mathlib.Core.Path.{_≡_, refl, ap, ap₂, sym, _∙_}
-use mathlib.Core.Bool.{Bool, true, false, _&&_, _||_, not, true≢false}
+use mathlib.Core.Bool.{Bool, true, false, _&&_, _||_, not, and-true, and-false}
 use mathlib.Core.List.{List, [], _∷_}
 use Prim.Native.Nat.{ℕ, zero, suc, _+_, _*_, _-_, _<_, _≤_, min}
 use native.Mathlib.Omega.{arith}
 use native.Mathlib.Nat.{add-zero, sub-zero}
-use lib.ListN.{length, take, drop, length-map, length-take, length-drop}
-use lib.Seq.{drop-cons, take-take}
+use native.Mathlib.Decide.{decLt}
+use lib.ListN.{length, take, drop, length-drop}
+use lib.Seq.{drop-cons}
 use lib.Dec.{eqb, ltb, leb}
-use borrow.Author.Tests.{eq-eqb, ne-eqb, lt-ltb, le-ltb, eqb-true, eqb-false, not-true, not-false}
-use Rattle.meaning.proofs.Lists.{choose-true, choose-false, T-true, true-T, not-T, and-T, by-test}
+use borrow.Author.Tests.{eq-eqb, ne-eqb, lt-ltb, le-ltb, lt-leb, eqb-true, not-true, not-false}
+use Rattle.meaning.specs.Basics.{choose}
+use Rattle.meaning.specs.Same.{allAlike}
+use Rattle.meaning.specs.Compare.{pairs}
+use Rattle.meaning.proofs.Lists.{choose-true, choose-false, T-true, true-T, and-T}
 use Rattle.tokens.specs.Token.{tagIn, depthIn, sizeIn, payloadIn}
-use Rattle.tokens.specs.Key.{upperHalf, lowerHalf, keyOfVariable, keyOfPayload, keyOf, keys, at, nodes, keysAt, sameList, sameAcross}
-use Rattle.tokens.specs.Key.{Inside, reaches, anyReaches, usesAt}
+use Rattle.tokens.specs.Key.{upperHalf, lowerHalf, keyOfVariable, keyOfPayload, keyOf, keys, at, nodes, part, sameKeys, sameAcross}
+use Rattle.tokens.specs.Key.{reaches, agreeUnder, comparedBy, comparedAcross, anyReaches, usesAt}
+use Rattle.tokens.specs.declared.same.Compared.{Compared}
 
 -- The three keys of a variable, and the keys of a payload
 module _ (d depth name level : ℕ) where
@@ -59,26 +65,56 @@ module _ (d r x : ℕ) where
     pub reaches-below : level ≤ d → ltb d level ≡ reaches d r x
     reaches-below h = sym (reaches-level ∙ ap (λ (c : Bool). c && leb level r) (le-ltb d level h) ∙ sym (le-ltb d level h))
 
--- Lists of numbers
-sameList-refl : (xs : List ℕ) → sameList xs xs ≡ true
-unfolding sameList
-sameList-refl [] = refl
-sameList-refl (x ∷ xs) = rw (eq-eqb x x refl) (sameList-refl xs)
+-- Lists of nodes that are alike by their keys
+module _ (d e : ℕ) where
+  pub alike-keys : (xs ys : List ℕ) → allAlike (sameKeys d e) xs ys ≡ true → keys d xs ≡ keys e ys
+  alike-keys [] [] q = refl
+  alike-keys [] (y ∷ ys) q = cc
+  alike-keys (x ∷ xs) [] q = cc
+  alike-keys (x ∷ xs) (y ∷ ys) q =
+      let h = and-T (sameKeys d e x y) (allAlike (sameKeys d e) xs ys) (true-T q) in
+      ap₂ _∷_ (eqb-true (keyOf d x) (keyOf e y) (T-true (h .0))) (alike-keys xs ys (T-true (h .1)))
 
-pub sameList-true : (xs ys : List ℕ) → sameList xs ys ≡ true → xs ≡ ys
-unfolding sameList
-sameList-true [] [] e = refl
-sameList-true [] (y ∷ ys) e = cc
-sameList-true (x ∷ xs) [] e = cc
-sameList-true (x ∷ xs) (y ∷ ys) e =
-    let h = and-T (eqb x y) (sameList xs ys) (true-T e) in
-    ap₂ _∷_ (eqb-true x y (T-true (h .0))) (sameList-true xs ys (T-true (h .1)))
+  pub keys-alike : (xs ys : List ℕ) → keys d xs ≡ keys e ys → allAlike (sameKeys d e) xs ys ≡ true
+  keys-alike [] [] q = refl
+  keys-alike [] (y ∷ ys) q = cc
+  keys-alike (x ∷ xs) [] q = cc
+  keys-alike (x ∷ xs) (y ∷ ys) q =
+      let p : keyOf d x ≡ keyOf e y = cc in
+      let r : keys d xs ≡ keys e ys = cc in
+      ap₂ _&&_ (eq-eqb (keyOf d x) (keyOf e y) p) (keys-alike xs ys r)
 
-pub same-sameList : (xs ys : List ℕ) → xs ≡ ys → sameList xs ys ≡ true
-same-sameList xs ys e = rw (← e) (sameList-refl xs)
+-- A pair of nodes, by the two tests that the code makes
+module _ (s d e x y : ℕ) where
+  agree-both : agreeUnder s d e x y ≡ sameKeys d e x y && not (reaches s d x)
+  unfolding agreeUnder
+  agree-both = refl
 
-other-sameList : (xs ys : List ℕ) → (xs ≡ ys → ⊥) → sameList xs ys ≡ false
-other-sameList xs ys n = not-T (λ t. n (sameList-true xs ys (T-true t)))
+  module _ (same : Bool) (is-same : same ≡ sameKeys d e x y) where
+    pub agree-refused : not same ≡ true → false ≡ agreeUnder s d e x y
+    agree-refused q = sym (agree-both ∙ ap (λ (c : Bool). c && not (reaches s d x)) (sym is-same ∙ not-true same q))
+
+    pub agree-judged : (out : Bool) → out ≡ reaches s d x → not same ≡ false → not out ≡ agreeUnder s d e x y
+    agree-judged out is-out q = sym (agree-both ∙ ap₂ (λ (c b : Bool). c && not b) (sym is-same ∙ not-false same q) (sym is-out))
+
+-- Where all binders above the first root are shared, nodes agree by their keys alone
+reaches-none : (d x : ℕ) → reaches d d x ≡ false
+unfolding reaches
+reaches-none d x = ap (λ (c : Bool). eqb (tagIn x) 2 && c) (go (upperHalf (payloadIn x)) (decLt d (upperHalf (payloadIn x))))
+    ∙ and-false (eqb (tagIn x) 2)
+  where
+    go : (level : ℕ) → Dec (d < level) → ltb d level && leb level d ≡ false
+    go level (yes h) = ap (λ (c : Bool). ltb d level && c) (lt-leb level d h) ∙ and-false (ltb d level)
+    go level (no h) = ap (λ (c : Bool). c && leb level d) (le-ltb d level (omega arith))
+
+all-shared : (d e : ℕ) (xs ys : List ℕ) → allAlike (agreeUnder d d e) xs ys ≡ allAlike (sameKeys d e) xs ys
+all-shared d e [] [] = refl
+all-shared d e [] (y ∷ ys) = refl
+all-shared d e (x ∷ xs) [] = refl
+all-shared d e (x ∷ xs) (y ∷ ys) = ap₂ _&&_ (one x y) (all-shared d e xs ys)
+  where
+    one : (x y : ℕ) → agreeUnder d d e x y ≡ sameKeys d e x y
+    one x y = agree-both d d e x y ∙ ap (λ (c : Bool). sameKeys d e x y && not c) (reaches-none d x) ∙ and-true _
 
 -- What is left of n nodes in a row after the first k
 abbrev pub left : List ℕ → ℕ → ℕ → ℕ → List ℕ
@@ -95,30 +131,6 @@ left-next t a n k h g =
 
 left-none : (t : List ℕ) (a n k : ℕ) → n ≤ k → left t a n k ≡ []
 left-none t a n k h = let z : n - k ≡ 0 = omega arith in rw z
-
--- The loop over pairs of nodes
-module _ (d e : ℕ) (t : List ℕ) (a : ℕ) (u : List ℕ) (b n : ℕ) where
-  abbrev pub leftSame : ℕ → Bool
-  leftSame k = sameList (keys d (left t a n k)) (keys e (left u b n k))
-
-  pub same-begins : leftSame 0 ≡ sameList (keys d (nodes t a n)) (keys e (nodes u b n))
-  same-begins = rw (left-all t a n, left-all u b n)
-
-  pub same-ends : (k : ℕ) → n ≤ k → true ≡ leftSame k
-  unfolding sameList
-  same-ends k h = rw (left-none t a n k h, left-none u b n k h)
-
-  module _ (fa : a + n ≤ length t) (fb : b + n ≤ length u) (k : ℕ) (h : k < n) where
-    same-step : leftSame k ≡ eqb (keyOf d (at t (a + k))) (keyOf e (at u (b + k))) && leftSame (k + 1)
-    unfolding sameList
-    same-step = ap₂ (λ (xs ys : List ℕ). sameList (keys d xs) (keys e ys)) (left-next t a n k fa h) (left-next u b n k fb h)
-
-    module _ (found : Bool) (is-found : found ≡ eqb (keyOf d (at t (a + k))) (keyOf e (at u (b + k)))) where
-      pub same-goes-on : not found ≡ false → leftSame (k + 1) ≡ leftSame k
-      same-goes-on q = sym (same-step ∙ ap (λ (c : Bool). c && leftSame (k + 1)) (sym is-found ∙ not-false found q))
-
-      pub same-stops : not found ≡ true → false ≡ leftSame k
-      same-stops q = sym (same-step ∙ ap (λ (c : Bool). c && leftSame (k + 1)) (sym is-found ∙ not-true found q))
 
 -- The loop over the nodes of one subterm
 module _ (d r : ℕ) (t : List ℕ) (a n : ℕ) where
@@ -144,54 +156,64 @@ module _ (d r : ℕ) (t : List ℕ) (a n : ℕ) where
       pub reaches-stops : found ≡ true → true ≡ leftReaches k
       reaches-stops q = sym (reaches-step ∙ ap (λ (c : Bool). c || leftReaches (k + 1)) (sym is-found ∙ q))
 
--- Two subterms agree when the nodes agree that both have, and their sizes agree
-keys-cut : (d l n : ℕ) (t : List ℕ) (a : ℕ) → l ≤ n → take l (keys d (nodes t a n)) ≡ keys d (nodes t a l)
-keys-cut d l n t a h = take-map l (nodes t a n) ∙ ap (keys d) (take-take l n (drop a t) h)
-  where
-    take-map : (k : ℕ) (xs : List ℕ) → take k (keys d xs) ≡ keys d (take k xs)
-    take-map zero xs = refl
-    take-map (suc k) [] = refl
-    take-map (suc k) (x ∷ xs) = ap (λ (ys : List ℕ). keyOf d x ∷ ys) (take-map k xs)
+-- Lists of nodes compared by a test f: what a turn of the loop, and its end, make of those from k on
+module _ (f : ℕ → ℕ → Bool) (xs ys : List ℕ) where
+  abbrev pub alikeFrom : ℕ → Bool
+  alikeFrom k = allAlike f (drop k xs) (drop k ys)
 
-length-keys : (d n : ℕ) (t : List ℕ) (a : ℕ) → a + n ≤ length t → length (keys d (nodes t a n)) ≡ n
-length-keys d n t a h = simp (length-map, length-take, length-drop) (omega arith)
+  abbrev pub pairsFrom : ℕ → ℕ
+  pairsFrom k = pairs f (drop k xs) (drop k ys)
 
--- m and n are the sizes, d and e the depths of two nodes, and found whether the first l pairs agree, as the code has them
-module _ (t : List ℕ) (a : ℕ) (u : List ℕ) (b m n d e l : ℕ) (found : Bool) (is-m : m ≡ sizeIn (at t a)) (is-n : n ≡ sizeIn (at u b))
-    (is-d : d ≡ depthIn (at t a))
-    (is-e : e ≡ depthIn (at u b)) (is-l : l ≡ min m n) (is-found : found ≡ sameList (keys d (nodes t a l)) (keys e (nodes u b l))) where
-  abbrev keysA : ℕ → List ℕ
-  keysA k = keys d (nodes t a k)
+  pub compared-is : (b : Bool) (n : ℕ) → b ≡ allAlike f xs ys → n ≡ pairs f xs ys
+      → _≡_ {A = Compared} (record { equal = b; pairs = n }) (comparedBy f xs ys)
+  compared-is b n p q = ap₂ (λ (c : Bool) (m : ℕ). record { equal = c; pairs = m }) p q
 
-  abbrev keysB : ℕ → List ℕ
-  keysB k = keys e (nodes u b k)
+  module _ (k : ℕ) (hx : k < length xs) (hy : k < length ys) (found : Bool) (is : found ≡ f (at xs k) (at ys k)) where
+    drop-next : (zs : List ℕ) → k < length zs → drop k zs ≡ at zs k ∷ drop (k + 1) zs
+    drop-next zs h = let i : suc k ≡ k + 1 = omega arith in drop-cons zs k 0 h ∙ ap (λ (j : ℕ). at zs k ∷ drop j zs) i
 
-  same-keys : sameAcross t a u b ≡ sameList (keysA m) (keysB n)
-  unfolding sameAcross keysAt
-  same-keys = cc
+    alike-step : alikeFrom k ≡ found && alikeFrom (k + 1)
+    alike-step = ap₂ (allAlike f) (drop-next xs hx) (drop-next ys hy) ∙ ap (λ (c : Bool). c && alikeFrom (k + 1)) (sym is)
 
-  pub same-refused : not found ≡ true → false ≡ sameAcross t a u b
-  same-refused h =
-      sym (same-keys ∙ other-sameList _ _ (λ z. true≢false (sym (same-sameList _ _ (first z)) ∙ sym is-found ∙ not-true found h)))
+    pairs-step : pairsFrom k ≡ suc (choose found (pairsFrom (k + 1)) 0)
+    pairs-step = ap₂ (pairs f) (drop-next xs hx) (drop-next ys hy) ∙ ap (λ (c : Bool). suc (choose c (pairsFrom (k + 1)) 0)) (sym is)
+
+    pub compare-goes-on : not found ≡ false → (alikeFrom (k + 1) ≡ alikeFrom k) × (k + 1 + pairsFrom (k + 1) ≡ k + pairsFrom k)
+    compare-goes-on q =
+        let h = not-false found q in
+        let p : choose found (pairsFrom (k + 1)) 0 ≡ pairsFrom (k + 1) = choose-true _ _ h in
+        (sym (alike-step ∙ ap (λ (c : Bool). c && alikeFrom (k + 1)) h), omega (arith, pairs-step))
+
+    pub compare-stops : not found ≡ true → (false ≡ alikeFrom k) × (k + 1 ≡ k + pairsFrom k)
+    compare-stops q =
+        let h = not-true found q in
+        let p : choose found (pairsFrom (k + 1)) 0 ≡ 0 = choose-false _ _ h in
+        (sym (alike-step ∙ ap (λ (c : Bool). c && alikeFrom (k + 1)) h), omega (arith, pairs-step))
+
+  pub compare-ends : (k : ℕ) → k ≡ min (length xs) (length ys) → (eqb (length xs) (length ys) ≡ alikeFrom k) × (k ≡ k + pairsFrom k)
+  compare-ends k e = go (drop k xs) (drop k ys) (length-drop k xs) (length-drop k ys)
     where
-      first : keysA m ≡ keysB n → keysA l ≡ keysB l
-      first z = sym (keys-cut d l m t a (omega arith)) ∙ ap (take l) z ∙ keys-cut e l n u b (omega arith)
+      go : (us vs : List ℕ) → length us ≡ length xs - k → length vs ≡ length ys - k
+          → (eqb (length xs) (length ys) ≡ allAlike f us vs) × (k ≡ k + pairs f us vs)
+      go [] [] p q = (eq-eqb (length xs) (length ys) (omega arith), omega arith)
+      go [] (v ∷ vs) p q = (ne-eqb (length xs) (length ys) (λ z. omega arith), omega arith)
+      go (u ∷ us) [] p q = (ne-eqb (length xs) (length ys) (λ z. omega arith), omega arith)
+      go (u ∷ us) (v ∷ vs) p q = absurd (omega arith)
 
-  pub same-judged : Inside t a → Inside u b → not found ≡ false → eqb m n ≡ sameAcross t a u b
-  same-judged ia ib h = sym (same-keys ∙ by-test (eqb m n) equal unequal)
-    where
-      equal : eqb m n ≡ true → sameList (keysA m) (keysB n) ≡ eqb m n
-      equal g =
-          let z : m ≡ n = eqb-true m n g in
-          let lm : m ≡ l = omega arith in
-          let ln : n ≡ l = omega arith in
-          ap₂ (λ (i j : ℕ). sameList (keysA i) (keysB j)) lm ln ∙ sym is-found ∙ not-false found h ∙ sym g
+-- Two subterms compared, m and n their sizes, d and e their depths as the code has them
+pub across-judged : (t : List ℕ) (a : ℕ) (u : List ℕ) (b s m n d e : ℕ) → m ≡ sizeIn (at t a) → n ≡ sizeIn (at u b) → d ≡ depthIn (at t a)
+    → e ≡ depthIn (at u b)
+    → comparedBy (agreeUnder s d e) (nodes t a m) (nodes u b n) ≡ comparedAcross t a u b s
+unfolding comparedAcross
+across-judged t a u b s m n d e is-m is-n is-d is-e = cc
 
-      unequal : eqb m n ≡ false → sameList (keysA m) (keysB n) ≡ eqb m n
-      unequal g =
-          let fa : a + m ≤ length t = omega (arith, ia .ends) in
-          let fb : b + n ≤ length u = omega (arith, ib .ends) in
-          other-sameList _ _ (λ z. eqb-false m n g (sym (length-keys d m t a fa) ∙ ap length z ∙ length-keys e n u b fb)) ∙ sym g
+pub same-judged : (t : List ℕ) (a : ℕ) (u : List ℕ) (b d : ℕ) (r : Compared) → d ≡ depthIn (at t a) → r ≡ comparedAcross t a u b d
+    → r .equal ≡ sameAcross t a u b
+unfolding comparedAcross sameAcross
+same-judged t a u b d r is-d is-r =
+    ap (λ (c : Compared). c .equal) is-r
+    ∙ ap (λ (i : ℕ). allAlike (agreeUnder i (depthIn (at t a)) (depthIn (at u b))) (part t a) (part u b)) is-d
+    ∙ all-shared (depthIn (at t a)) (depthIn (at u b)) (part t a) (part u b)
 
 -- Which outer binders a subterm uses, by its size m and its depth r as the code has them
 pub uses-judged : (t : List ℕ) (a d m r : ℕ) (found : Bool) → m ≡ sizeIn (at t a) → r ≡ depthIn (at t a)

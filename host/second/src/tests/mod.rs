@@ -1,7 +1,9 @@
 //! Tests, with outputs worked out by hand from the documents.
 
 mod checker;
+mod compared;
 mod examples;
+mod labels;
 mod naming;
 mod notation;
 mod random;

@@ -32,7 +32,7 @@ fn nameless(fields: &[Field]) -> Vec<Field> {
 /// A canonical term with bound names taken at random: binders may share a name,
 /// or have that of a variable which is free elsewhere. The binders inside still
 /// have their canonical names when one gets its new name, and so don't catch it.
-fn respelled(random: &mut Random, term: &Term) -> Term {
+pub fn respelled(random: &mut Random, term: &Term) -> Term {
     let Term::Binder(number, name, inside) = term else {
         return term.rebuild(|child| respelled(random, child));
     };

@@ -61,14 +61,14 @@ fn term(random: &mut Random, sort: Sort, depth: u32) -> Term {
 /// Symbols of both widths; 0 and 65,536 have the same low half.
 const SYMBOLS: [u32; 3] = [0, 1, 65_536];
 
-fn leaf(random: &mut Random) -> Term {
+pub fn leaf(random: &mut Random) -> Term {
     match random.below(5) {
         0..=1 => Term::Symbol(SYMBOLS[random.below(3) as usize]),
         _ => Term::Variable(Name::Given(random.below(2) as u16)),
     }
 }
 
-fn binder(random: &mut Random, inside: Term) -> Term {
+pub fn binder(random: &mut Random, inside: Term) -> Term {
     let name = Name::Given(random.below(2) as u16);
     Term::Binder(random.below(6) as u16 / 5, name, Box::new(inside))
 }
@@ -142,7 +142,7 @@ pub fn problem_bytes(random: &mut Random) -> Vec<u8> {
 }
 
 /// The bytes of a constraint.
-fn constraint_bytes(pattern: &Term, expression: &Term) -> Vec<u8> {
+pub fn constraint_bytes(pattern: &Term, expression: &Term) -> Vec<u8> {
     let sides = [pattern, expression].map(encode::term);
     encode::field(tag::CONSTRAINT, &sides.concat())
 }
