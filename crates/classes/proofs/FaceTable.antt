@@ -16,6 +16,7 @@ use Rattle.meaning.specs.Lower.{lowerTerm}
 use Rattle.meaning.specs.Shift.{Closed}
 use Rattle.meaning.specs.Equal.{View, view, Equal}
 use Rattle.meaning.specs.Choice.{Owner, ownerOf, views, usesFace}
+use Rattle.meaning.proofs.Lists.{at-past}
 use Rattle.meaning.proofs.ShiftLaws.{relabel-size}
 use Rattle.meaning.proofs.ViewLaws.{nameless-closed}
 use Rattle.meaning.proofs.ChoiceLaws.{length-views}
@@ -31,11 +32,6 @@ use Rattle.classes.specs.FaceTable.{sizeFrom, freeFrom, sameFrom, Classe
 use Rattle.classes.proofs.FaceChoices.{views-same, same-views}
 use Rattle.tokens.proofs.Spots.{Spot, spot}
 use Rattle.tokens.proofs.Owners.{equal-levels}
-
-at-past : {A : Type 0} (xs : List A) (i : ℕ) → length xs ≤ i → getElem? xs i ≡ none
-at-past [] i h = refl
-at-past (x ∷ xs) zero h = absurd (omega arith)
-at-past (x ∷ xs) (suc i) h = at-past xs i (omega arith)
 
 module _ (es : List ℕ) (root : ℕ) (face : Term) (h : FaceAt es root face) where
   -- the number of binders above the face

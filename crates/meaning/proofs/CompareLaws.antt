@@ -2,7 +2,7 @@
 --   arity    how many children a label tells
 --   Ranked   each node has as many children as its label tells; then the labels in preorder tell the whole forest
 --   AgreeAt  the pair of that number agrees
-use mathlib.Core.Path.{_≡_, refl, ap, ap₂, sym, _∙_}
+use mathlib.Core.Path.{_≡_, refl, ap, ap₂, sym, _∙_, subst}
 use mathlib.Core.Logic.{_↔_}
 use Prim.Native.Nat.{ℕ, zero, suc, _+_, _-_, _<_}
 use mathlib.Core.Bool.{Bool, true, false, _&&_, true≢false}
@@ -11,21 +11,23 @@ use mathlib.Core.Option.{some}
 use native.Mathlib.Omega.{arith}
 use lib.ListN.{length, getElem?, length-append}
 use lib.Dec.{T}
-use Rattle.meaning.specs.Basics.{choose}
+use Rattle.meaning.specs.Limits.{maxDepth}
+use Rattle.meaning.specs.Basics.{All, choose}
 use Rattle.meaning.specs.Term.{Forest, nil, cons, one, size, trees, relabel, symbol, variable, application, binder, Label, own, slot}
 use Rattle.meaning.specs.Term.{metavariable, function, hole, Named, Terms, inner}
 use Rattle.meaning.specs.Scope.{enter, namelessLabel, nameless}
 use Rattle.meaning.specs.Shift.{withVariable}
 use Rattle.meaning.specs.Equal.{Seen, see, View, view}
-use Rattle.meaning.specs.Choice.{Owner}
+use Rattle.meaning.specs.Problem.{Problem, expressions, namedExpressions}
+use Rattle.meaning.specs.Choice.{Owner, below, ownerOf, viewsFrom}
 use Rattle.meaning.specs.Choices.{sameOwner}
 use Rattle.meaning.specs.Same.{allAlike, sameSeen}
-use Rattle.meaning.specs.Read.{Context, contextBelow}
-use Rattle.meaning.specs.Readable.{NodeFits, Readable}
-use Rattle.meaning.specs.Compare.{preorder, agree, pairs, pairsOf}
-use Rattle.meaning.proofs.Lists.{never, T-true, true-T, and-T, T-and, by-test, choose-true, choose-false}
+use Rattle.meaning.specs.Read.{Context, contextBelow, inExpression}
+use Rattle.meaning.specs.Readable.{NodeFits, Readable, WithinLimits}
+use Rattle.meaning.specs.Compare.{preorder, agree, pairs, pairsOf, subexpressions, Comparison}
+use Rattle.meaning.proofs.Lists.{T-true, true-T, and-T, T-and, by-test, choose-true, choose-false, all-append, all-mem, at-mem}
 use Rattle.meaning.proofs.Alike.{Sound, Fair, decides, owner-eq, owner-refl, seen-eq, seen-refl, label-eq, label-refl}
-use Rattle.meaning.proofs.Proper.{relabel-trees}
+use Rattle.meaning.proofs.Proper.{relabel-trees, expressions-readable}
 
 -- Forests that their labels tell
 abbrev pub arity : {X B : Type 0} → Label X B → ℕ
@@ -216,3 +218,32 @@ equal-counted u v n a b = (λ e. (all e, last-tells u v n a b .0 e), λ h. last-
     all e =
         sym (ap (λ (w : View Owner). pairs agree (preorder u) (preorder w)) e) ∙ pairs-self agree agree-fair (preorder u)
         ∙ length-preorder u
+
+-- The subexpressions of a problem are such views
+views-ranked : (bs : List ℕ) (n : ℕ) (u : Terms) → Ranked u → All (λ v. Ranked v × (trees v ≡ 1)) (viewsFrom bs n u)
+views-ranked bs n nil r = tt
+views-ranked bs n (cons l c s) r = (
+  (view-ranked (ownerOf bs) 0 (one (l, c)) (r .0, r .1, tt), refl),
+  all-append (λ v. Ranked v × (trees v ≡ 1)) (viewsFrom (below n l bs) (suc n) c) (viewsFrom bs (suc n + size c) s)
+      (views-ranked (below n l bs) (suc n) c (r .1))
+      (views-ranked bs (suc n + size c) s (r .2)),
+)
+
+pub subexpressions-ranked : (p : Problem) → WithinLimits p → All (λ v. Ranked v × (trees v ≡ 1)) (subexpressions p)
+unfolding subexpressions
+subexpressions-ranked p w =
+    views-ranked [] 0 (expressions p) (readable-ranked maxDepth inExpression [] (namedExpressions p) (expressions-readable p w))
+
+-- Of a comparison's answer: yes exactly when the number of pairs is the number of nodes and the last pair agrees
+pub answer-counted : (p : Problem) → WithinLimits p → (a b : ℕ) (u v : View Owner) (equal : Bool) (n : ℕ)
+    → getElem? (subexpressions p) a ≡ some u → getElem? (subexpressions p) b ≡ some v → Comparison u v equal n
+    → (equal ≡ true) ↔ ((n ≡ size u) × AgreeAt u v (n - 1))
+answer-counted p w a b u v equal n d e h =
+    let ranked = subexpressions-ranked p w in
+    let (x, i) = all-mem (λ v. Ranked v × (trees v ≡ 1)) u (subexpressions p) ranked (at-mem (subexpressions p) a u d) in
+    let (y, j) = all-mem (λ v. Ranked v × (trees v ≡ 1)) v (subexpressions p) ranked (at-mem (subexpressions p) b v e) in
+    let q = equal-counted u v (i ∙ sym j) x y in
+    let c = h .count in (
+      λ z. let r = q .0 (h .verdict .0 z) in (c ∙ r .0, subst (λ (m : ℕ). AgreeAt u v (m - 1)) (sym c) (r .1)),
+      λ z. h .verdict .1 (q .1 (sym c ∙ z .0, subst (λ (m : ℕ). AgreeAt u v (m - 1)) c (z .1))),
+    )

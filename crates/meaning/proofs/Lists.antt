@@ -178,6 +178,11 @@ pub mem-at : {A : Type 0} (xs : List A) (x : A) → x ∈ xs → (k : ℕ) × (g
 mem-at xs x (List·Memᴰ·head e) = (0, ap some (sym e))
 mem-at xs x (List·Memᴰ·tail m) = let (k, e) = mem-at _ x m in (suc k, e)
 
+pub at-past : {A : Type 0} (xs : List A) (k : ℕ) → length xs ≤ k → getElem? xs k ≡ none
+at-past [] k h = refl
+at-past (x ∷ xs) zero h = absurd (omega arith)
+at-past (x ∷ xs) (suc k) h = at-past xs k (omega arith)
+
 pub at-append : {A : Type 0} (xs ys : List A) (k : ℕ) (x : A) → getElem? (xs ++ ys) k ≡ some x
     → ((k < length xs) × (getElem? xs k ≡ some x)) ⊎ ((i : ℕ) × (k ≡ length xs + i) × (getElem? ys i ≡ some x))
 at-append [] ys k x e = inr (k, omega arith, e)

@@ -34,14 +34,14 @@ abbrev pub ToldAlike : {W : Type 0} → ℕ → (ℕ → W) → (ℕ → W) → 
 ToldAlike n who who′ = (i j : ℕ) → i < n → j < n → (who i ≡ who′ j) ↔ (i ≡ j)
 
 -- The variable of a label, or x for a label without one
-abbrev variableOr : {X B : Type 0} → X → Label X B → X
+abbrev pub variableOr : {X B : Type 0} → X → Label X B → X
 variableOr x (own (symbol n)) = x
 variableOr x (own (variable v)) = v
 variableOr x (own (application n)) = x
 variableOr x (own (binder b y)) = x
 variableOr x (slot z) = x
 
-variable-with : {X Y B : Type 0} (x : X) (f : X → Y) (l : Label X B) → variableOr (f x) (withVariable f l) ≡ f (variableOr x l)
+pub variable-with : {X Y B : Type 0} (x : X) (f : X → Y) (l : Label X B) → variableOr (f x) (withVariable f l) ≡ f (variableOr x l)
 variable-with x f (own (symbol n)) = refl
 variable-with x f (own (variable v)) = refl
 variable-with x f (own (application n)) = refl
@@ -49,7 +49,7 @@ variable-with x f (own (binder b y)) = refl
 variable-with x f (slot z) = refl
 
 -- A label is what it is with another variable, and its own
-rebuilt : {X Y B : Type 0} (x : X) (f : X → Y) (l : Label X B) → withVariable (λ y. variableOr x l) (withVariable f l) ≡ l
+pub rebuilt : {X Y B : Type 0} (x : X) (f : X → Y) (l : Label X B) → withVariable (λ y. variableOr x l) (withVariable f l) ≡ l
 rebuilt x f (own (symbol n)) = refl
 rebuilt x f (own (variable v)) = refl
 rebuilt x f (own (application n)) = refl

@@ -60,12 +60,12 @@ ownerOfLevel d (seenFree x) = seenFree x
 ownerOfLevel d (inside i) = inside i
 ownerOfLevel d (outside w) = outside (aboveFace (d - w))
 
-deepSeen : ℕ → Seen ℕ → Bool
+abbrev pub deepSeen : ℕ → Seen ℕ → Bool
 deepSeen d (seenFree x) = false
 deepSeen d (inside i) = false
 deepSeen d (outside w) = ltb d w
 
-deepLabel : ℕ → Label (Seen ℕ) (Unit {0}) → Bool
+abbrev pub deepLabel : ℕ → Label (Seen ℕ) (Unit {0}) → Bool
 deepLabel d (own (symbol n)) = false
 deepLabel d (own (variable v)) = deepSeen d v
 deepLabel d (own (application n)) = false
@@ -79,7 +79,6 @@ deep d (cons l c s) = deepLabel d l || (deep d c || deep d s)
 -- One variable
 module _ (d : ℕ) (sc bs : List ℕ) (long : length sc ≡ length bs + d) (k : ℕ) where
   deep-variable : (v : Variable) → closedVariable (k + length sc) v → deepSeen d (see (levelFrom sc) k v) ≡ ofFace (see (ownerOf bs) k v)
-  unfolding deepSeen
   deep-variable (free x) c = refl
   deep-variable (bound i) c = go (reach bs k i)
     where
@@ -123,7 +122,6 @@ inner-add (slot z) m k n e = e
 module _ (d : ℕ) (sc bs : List ℕ) (long : length sc ≡ length bs + d) where
   deep-label : (m k : ℕ) → m ≡ k + length sc → (l : Nameless) → closedLabel m l
       → deepLabel d (withVariable (see (levelFrom sc) k) l) ≡ usesLabel (withVariable (see (ownerOf bs) k) l)
-  unfolding deepLabel
   deep-label m k q (own (symbol n)) c = refl
   deep-label m k q (own (variable v)) c = deep-variable d sc bs long k v (rw q at c)
   deep-label m k q (own (application n)) c = refl

@@ -29,7 +29,7 @@ use Rattle.tokens.proofs.Levels.{Resolved, isFree, isBound, resolved, e
 
 -- A test of all variables of a forest, each with the number of the forest's binders above it
 module _ (p : ℕ → Variable → Bool) where
-  testLabel : ℕ → Nameless → Bool
+  unfoldable pub testLabel : ℕ → Nameless → Bool
   testLabel k (own (symbol n)) = true
   testLabel k (own (variable v)) = p k v
   testLabel k (own (application n)) = true
@@ -108,7 +108,7 @@ module _ (p : ℕ → Variable → Bool) (d r : ℕ) (told : Told p d r) where
         reaches-level d r (tokenOf 2 e n q) (tag-token 2 e n q (omega arith) room small) level
         (sym (ap (λ (i : ℕ). i / 65536) (payload-token 2 e n q (omega arith) room small) ∙ a))
 
-  label-reaches : (ctx : Context) (k : ℕ) (sc : List ℕ) (n : ℕ) → length sc ≡ k + r → length sc < 256 → n < 65536
+  pub label-reaches : (ctx : Context) (k : ℕ) (sc : List ℕ) (n : ℕ) → length sc ≡ k + r → length sc < 256 → n < 65536
       → (l : Named) (c : Forest Named)
       → NodeFits ctx l c → reaches d r (tokenOf (tagOf l) (length sc) n (payloadOf sc l)) ≡ not (testLabel p k (namelessLabel sc l))
   unfolding payloadOf testLabel
@@ -144,10 +144,10 @@ module _ (p : ℕ → Variable → Bool) (d r : ℕ) (told : Told p d r) where
 
 -- Whether a level lies between two depths, and whether an index belongs to one of the binders between
 module _ (d r level : ℕ) where
-  level-above : level ≤ d → ltb d level && leb level r ≡ false
+  pub level-above : level ≤ d → ltb d level && leb level r ≡ false
   level-above h = ap (λ (b : Bool). b && leb level r) (le-ltb d level h)
 
-  level-below : r < level → ltb d level && leb level r ≡ false
+  pub level-below : r < level → ltb d level && leb level r ≡ false
   level-below h = ap (λ (b : Bool). ltb d level && b) (lt-leb level r h) ∙ and-false (ltb d level)
 
   level-between : d < level → level ≤ r → ltb d level && leb level r ≡ true

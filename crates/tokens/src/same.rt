@@ -89,7 +89,7 @@ fn agree(d: u64, x: u64, e: u64, y: u64, s: u64) -> bool
     !reaches(s, d, x)
 }
 
-fn least(m: usize, n: usize) -> usize
+pub fn least(m: usize, n: usize) -> usize
     ensures { λ r. ⌜ r ≡ min m n ⌝ }
 {
     if m < n {

@@ -201,11 +201,11 @@ module _ (f : ℕ → ℕ → Bool) (xs ys : List ℕ) where
       go (u ∷ us) (v ∷ vs) p q = absurd (omega arith)
 
 -- Two subterms compared, m and n their sizes, d and e their depths as the code has them
-pub across-judged : (t : List ℕ) (a : ℕ) (u : List ℕ) (b s m n d e : ℕ) → m ≡ sizeIn (at t a) → n ≡ sizeIn (at u b) → d ≡ depthIn (at t a)
-    → e ≡ depthIn (at u b)
-    → comparedBy (agreeUnder s d e) (nodes t a m) (nodes u b n) ≡ comparedAcross t a u b s
+pub across-judged : (t : List ℕ) (a : ℕ) (u : List ℕ) (b s m n d e : ℕ) (r : Compared) → m ≡ sizeIn (at t a) → n ≡ sizeIn (at u b)
+    → d ≡ depthIn (at t a)
+    → e ≡ depthIn (at u b) → r ≡ comparedBy (agreeUnder s d e) (nodes t a m) (nodes u b n) → r ≡ comparedAcross t a u b s
 unfolding comparedAcross
-across-judged t a u b s m n d e is-m is-n is-d is-e = cc
+across-judged t a u b s m n d e r is-m is-n is-d is-e is-r = cc
 
 pub same-judged : (t : List ℕ) (a : ℕ) (u : List ℕ) (b d : ℕ) (r : Compared) → d ≡ depthIn (at t a) → r ≡ comparedAcross t a u b d
     → r .equal ≡ sameAcross t a u b

@@ -1,5 +1,4 @@
 -- `same::compare_across` meets its contract: the nodes of the two subterms are parts of their tables.
-use mathlib.Core.Path.{_∙_}
 use Prim.Native.Nat.{_+_, _-_}
 use native.Mathlib.Omega.{arith}
 use Rattle.tokens.proofs.same.Laws.{across-judged}
@@ -73,10 +72,11 @@ returns c =
     let s = size-a .before .before .before .before .before in
     let m = s .args .a + size-a .size .result - s .args .a in
     let n = s .args .b + size-b .size2 .result - s .args .b in
-    c .compare-nodes .ensures
-    ∙ across-judged (s .args .t .now) (s .args .a) (s .args .u .now) (s .args .b) (s .args .s) m n (depth-a .depth .result)
-    (depth-b .depth2 .result) (omega (arith, size-a .size .ensures)) (omega (arith, size-b .size2 .ensures)) (depth-a .depth .ensures)
+    across-judged (s .args .t .now) (s .args .a) (s .args .u .now) (s .args .b) (s .args .s) m n (depth-a .depth .result)
+    (depth-b .depth2 .result)
+    (c .compare-nodes .result) (omega (arith, size-a .size .ensures)) (omega (arith, size-b .size2 .ensures)) (depth-a .depth .ensures)
     (depth-b .depth2 .ensures)
+    (c .compare-nodes .ensures)
 
 pub compare-across-spec : {M : Type 1} → statement M
 compare-across-spec =

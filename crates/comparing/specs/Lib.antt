@@ -1,0 +1,2 @@
+-- What comparing two nodes of a problem promises.
+pub mod Comparing

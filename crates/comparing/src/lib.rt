@@ -1,0 +1,82 @@
+// Two nodes of a problem's expressions compared: yes or no, and how many pairs of nodes that took (T-02).
+use accept::Verdict;
+use accept::accept;
+use table::TABLE_ROOM;
+use tokens::same::Compared;
+use tokens::same::compare_across;
+use tokens::same::least;
+use tokens::token::depth;
+use tokens::token::size;
+ghost use Prim.Native.Nat.{_<_, _≤_};
+ghost use lib.ListN.{length, take};
+ghost use Rattle.meaning.specs.Accept.{accept};
+ghost use Rattle.comparing.specs.Comparing.{Nested, Shared, ComparedIn, Present, Compares};
+
+// What is said of a pair of nodes: the problem is refused, it has no such node, or the two were compared.
+pub enum Pair {
+    Refused(u8),
+    NoNode,
+    Compared(Compared),
+}
+
+// How many binders lie above both nodes, where a does not come after b: the least depth from a to b. From subterm to subterm, since none of
+// its nodes is less deep than its root.
+fn shared_from(t: &[u64], a: usize, b: usize) -> u64
+    requires { ⌜ Nested (now t) ⌝ ∗ ⌜ a ≤ b ⌝ ∗ ⌜ b < length (now t) ⌝ }
+    ensures { λ r. ⌜ Shared (now (t .entry)) a b r ⌝ }
+{
+    let x = t[a];
+    let mut shared = depth(x) as usize;
+    let mut next = a + size(x) as usize;
+    while next <= b {
+        let y = t[next];
+        shared = least(shared, depth(y) as usize);
+        next += size(y) as usize;
+    }
+    shared as u64
+}
+
+fn shared_depth(t: &[u64], a: usize, b: usize) -> u64
+    requires { ⌜ Nested (now t) ⌝ ∗ ⌜ a < length (now t) ⌝ ∗ ⌜ b < length (now t) ⌝ }
+    ensures { λ r. ⌜ Shared (now (t .entry)) a b r ⌝ }
+{
+    if a < b {
+        return shared_from(t, a, b);
+    }
+    shared_from(t, b, a)
+}
+
+// Any two nodes of one table compared.
+pub fn compare(t: &[u64], a: usize, b: usize) -> Compared
+    requires { ⌜ Nested (now t) ⌝ ∗ ⌜ a < length (now t) ⌝ ∗ ⌜ b < length (now t) ⌝ }
+    ensures { λ r. ⌜ ComparedIn (now (t .entry)) a b r ⌝ }
+{
+    compare_across(t, a, t, b, shared_depth(t, a, b))
+}
+
+// The same of the first n nodes of a table, if both are among them.
+fn compare_present(es: &[u64], n: usize, a: usize, b: usize) -> Pair
+    requires { ⌜ n ≤ length (now es) ⌝ ∗ ⌜ Nested (take n (now es)) ⌝ }
+    ensures { λ r. ⌜ Present (take n (now (es .entry))) a b r ⌝ }
+{
+    if n <= a {
+        return Pair::NoNode;
+    }
+    if n <= b {
+        return Pair::NoNode;
+    }
+    Pair::Compared(compare(&es[..n], a, b))
+}
+
+// Any bytes and any two numbers: document 01's refusal, or the two nodes of the problem's expressions compared, if there are both.
+pub fn compare_in(problem: &[u8], a: usize, b: usize) -> Pair
+    ensures { λ r. ⌜ Compares (accept (now (problem .entry))) a b r ⌝ }
+{
+    let mut patterns = [0u64; TABLE_ROOM];
+    let mut expressions = [0u64; TABLE_ROOM];
+    let mut faces = [0u64; TABLE_ROOM];
+    match accept(problem, &mut patterns, &mut expressions, &mut faces) {
+        Verdict::Refused(r) => Pair::Refused(r),
+        Verdict::Accepted(standing) => compare_present(&expressions, standing.expressions, a, b),
+    }
+}
