@@ -30,7 +30,8 @@ fn shared_from(t: &[u64], a: usize, b: usize) -> u64
     let mut next = a + size(x) as usize;
     while next <= b {
         let y = t[next];
-        shared = least(shared, depth(y) as usize);
+        let d = depth(y) as usize;
+        shared = least(shared, d);
         next += size(y) as usize;
     }
     shared as u64

@@ -1,4 +1,5 @@
 // One line of the input: its kind, its problem and its text out of their digits, and its label.
+use crate::pair::show_pair;
 use checking::Checked;
 use checking::check;
 use lines::input::Part;
@@ -41,10 +42,11 @@ fn show_readings(label: &[u8], problem: &[u8], text: &[u8]) {
 
 fn show_input(kind: u8, label: &[u8], problem: &[u8], text: &[u8]) {
     match kind {
-        // S, C, W
+        // S, C, W, N
         83 => show_readings(label, problem, text),
         67 => show_checked(label, problem, text),
         87 => show_written(label, problem, text),
+        78 => show_pair(label, problem, text),
         _ => bad(label),
     }
 }
