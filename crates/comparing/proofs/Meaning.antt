@@ -120,8 +120,12 @@ module _ (p : Problem) (w : WithinLimits p) where
     node-deep : (y : ℕ) → a ≤ y → y < a + sizeIn (at table a) → depthIn (at table a) ≤ depthIn (at table y)
     unfolding stands
     node-deep y g k =
-        omega (arith, node-depth, forest-deep (node .levels) (node .ctx) (node .scope) (one (node .named)) (node .readable) (node .depths) table a (node .after)
-        (stands .split) y g (omega (arith, node-size)))
+        omega (
+          arith,
+          node-depth,
+          forest-deep (node .levels) (node .ctx) (node .scope) (one (node .named)) (node .readable) (node .depths) table a (node .after)
+              (stands .split) y g (omega (arith, node-size)),
+        )
 
   -- What `compare` requires of a table
   pub table-nested : Nested table

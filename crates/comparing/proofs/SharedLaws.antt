@@ -35,23 +35,23 @@ module _ (t : List ℕ) (nested : Nested t) (a b : ℕ) (order : a ≤ b) (there
         → Passed t a b s′ (next + n)
     passed-next s′ d n more is-s is-d is-n = elim (decLt d s) [
       | yes h ↦ record {
-          least = least;
-          node = next;
-          from = omega (arith, done .beyond);
-          to = more;
-          reached = omega (arith, is-s, is-d);
-          beyond = omega (arith, done .beyond);
-          inside = inside;
-        }
+        least = least;
+        node = next;
+        from = omega (arith, done .beyond);
+        to = more;
+        reached = omega (arith, is-s, is-d);
+        beyond = omega (arith, done .beyond);
+        inside = inside;
+      }
       | no h ↦ record {
-          least = least;
-          node = done .node;
-          from = done .from;
-          to = done .to;
-          reached = omega (arith, is-s, done .reached);
-          beyond = omega (arith, done .beyond);
-          inside = inside;
-        }
+        least = least;
+        node = done .node;
+        from = done .from;
+        to = done .to;
+        reached = omega (arith, is-s, done .reached);
+        beyond = omega (arith, done .beyond);
+        inside = inside;
+      }
     ]
       where
         inside : next + n ≤ length t
