@@ -1,17 +1,15 @@
 -- What comparing two nodes of a problem's table means: the answer is `meaning`'s, for any two nodes.
 use mathlib.Core.Path.{_≡_, refl, ap, ap₂, sym, _∙_, subst}
-use mathlib.Core.Logic.{_↔_}
-use Prim.Native.Nat.{ℕ, suc, _+_, _-_, _<_, _≤_}
-use mathlib.Core.Bool.{Bool, true, _&&_}
+use Prim.Native.Nat.{ℕ, suc, _+_, _<_, _≤_}
+use mathlib.Core.Bool.{Bool, _&&_}
 use mathlib.Core.List.{List, [], _∷_, _++_, append-nil}
-use mathlib.Core.Option.{Option, none, some}
+use mathlib.Core.Option.{none, some}
 use native.Mathlib.Omega.{arith}
 use native.Mathlib.Decide.{decLt}
-use lib.ListN.{length, take, drop, getElem?}
-use lib.Seq.{take-at}
+use lib.ListN.{length, drop, getElem?}
 use Rattle.meaning.specs.Limits.{maxDepth}
 use Rattle.meaning.specs.Basics.{choose}
-use Rattle.meaning.specs.Term.{one, size, trees, NamedTerm}
+use Rattle.meaning.specs.Term.{one, size, trees}
 use Rattle.meaning.specs.Scope.{enter, namelessLabel, namelessTerm}
 use Rattle.meaning.specs.Problem.{Problem, namedExpressions, expressions}
 use Rattle.meaning.specs.Equal.{View, view}
@@ -25,7 +23,7 @@ use Rattle.meaning.proofs.ShiftLaws.{relabel-size}
 use Rattle.meaning.proofs.ChoiceLaws.{length-views}
 use Rattle.meaning.proofs.Proper.{expressions-readable}
 use Rattle.meaning.proofs.CompareLaws.{Ranked, alike-equal, subexpressions-ranked}
-use Rattle.tokens.specs.Token.{depthIn, sizeIn, tokens, expressionTokens}
+use Rattle.tokens.specs.Token.{depthIn, sizeIn, expressionTokens}
 use Rattle.tokens.specs.Key.{at, part, agreeUnder, comparedAcross, Held, Stands}
 use Rattle.tokens.specs.declared.same.Compared.{Compared}
 use Rattle.tokens.proofs.TokenParts.{tokens-length}
@@ -34,7 +32,7 @@ use Rattle.tokens.proofs.ProblemTokens.{nodes-few, expression-table, expression
 use Rattle.tokens.proofs.Spots.{Spot, spot, depthAt, forest-deep}
 use Rattle.comparing.specs.Comparing.{Nested, ComparedIn, Present, Judged}
 use Rattle.comparing.specs.declared.Pair.{Pair}
-use Rattle.comparing.proofs.Told.{Seenlabel, Tells, tokens-agree}
+use Rattle.comparing.proofs.Told.{Tells, tokens-agree}
 use Rattle.comparing.proofs.NodeTold.{InPairs, forest-tells}
 
 -- Lists that tell each other are compared alike

@@ -2,7 +2,7 @@
 --   root     the scope around the node; bs, the binders above it, by their nodes (`Chain`, of Spots)
 --   k        the number of binders between the node and one inside its subterm
 --   InPairs  two lists of one length, related element by element
-use mathlib.Core.Path.{_≡_, refl, ap, ap₂, sym, _∙_, subst}
+use mathlib.Core.Path.{_≡_, refl, ap, sym, _∙_, subst}
 use Prim.Native.Nat.{ℕ, zero, suc, _+_, _-_, _<_, _≤_}
 use mathlib.Core.Bool.{Bool, _&&_, not, Bool·not-not, and-true}
 use mathlib.Core.List.{List, [], _∷_, _++_}
@@ -15,8 +15,8 @@ use Rattle.meaning.specs.Basics.{AllOf}
 use Rattle.meaning.specs.Term.{Forest, nil, cons, size, symbol, variable, application, binder, own, slot, variableOf, Named, Variable, free}
 use Rattle.meaning.specs.Term.{bound, Nameless, inner}
 use Rattle.meaning.specs.Scope.{resolve, enter, namelessLabel, nameless}
-use Rattle.meaning.specs.Shift.{withVariable, closedVariable, closedLabel, Closed}
-use Rattle.meaning.specs.Equal.{inside, outside, see}
+use Rattle.meaning.specs.Shift.{withVariable, closedVariable, closedLabel}
+use Rattle.meaning.specs.Equal.{outside, see}
 use Rattle.meaning.specs.Choice.{nodeOfFace, ownerOf}
 use Rattle.meaning.specs.Read.{Context, contextBelow}
 use Rattle.meaning.specs.Readable.{NodeFits, Readable}
@@ -25,14 +25,14 @@ use Rattle.meaning.specs.Compare.{preorder}
 use Rattle.meaning.proofs.Lowered.{viewUnder, see-low, see-high}
 use Rattle.meaning.proofs.ViewLaws.{nameless-closed}
 use Rattle.tokens.specs.Token.{tokenOf, levelOf, payloadOf, tokens}
-use Rattle.tokens.specs.Key.{levelFrom, keyOf, reaches}
+use Rattle.tokens.specs.Key.{levelFrom}
 use Rattle.tokens.proofs.TokenParts.{enter-room}
 use Rattle.tokens.proofs.Levels.{Resolved, isFree, isBound, resolved, enter-deep}
 use Rattle.tokens.proofs.Codes.{Coded, code, seenLabel, label-code, fits-label}
 use Rattle.tokens.proofs.Owners.{deepSeen, deepLabel}
 use Rattle.tokens.proofs.Reaching.{Told, testLabel, label-reaches, level-above, level-below}
 use Rattle.tokens.proofs.Spots.{depthAt, Over, Chain}
-use Rattle.comparing.proofs.Told.{Seenlabel, levelOfSeen, levelled, SeenOver, Tells}
+use Rattle.comparing.proofs.Told.{levelOfSeen, levelled, SeenOver, Tells}
 
 abbrev pub InPairs : {A B : Type 0} → (A → B → Type 0) → List A → List B → Type 0
 InPairs R [] [] = Unit {0}

@@ -5,12 +5,12 @@
 -- Two labels are the same just when they are the same by levels and no level is above the binders that the two nodes share: a binder
 -- that lies above both is shared, and a shared level belongs to one binder.
 use mathlib.Core.Path.{_≡_, refl, ap, ap₂, sym, _∙_, subst}
-use Prim.Native.Nat.{ℕ, suc, _+_, _-_, _<_, _≤_}
+use Prim.Native.Nat.{ℕ, suc, _<_, _≤_}
 use mathlib.Core.Bool.{Bool, true, false, _&&_, not, true≢false}
 use mathlib.Core.List.{List}
 use native.Mathlib.Omega.{arith}
 use native.Mathlib.Decide.{decLt}
-use lib.Dec.{eqb, ltb}
+use lib.Dec.{eqb}
 use borrow.Author.Tests.{eq-eqb, eqb-true, le-ltb, ltb-false, not-true}
 use Rattle.meaning.specs.Basics.{AllOf}
 use Rattle.meaning.specs.Term.{symbol, variable, application, binder, Label, own, slot, variableOf}

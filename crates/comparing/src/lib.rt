@@ -37,6 +37,7 @@ fn shared_from(t: &[u64], a: usize, b: usize) -> u64
     shared as u64
 }
 
+// The same of any two nodes.
 fn shared_depth(t: &[u64], a: usize, b: usize) -> u64
     requires { ⌜ Nested (now t) ⌝ ∗ ⌜ a < length (now t) ⌝ ∗ ⌜ b < length (now t) ⌝ }
     ensures { λ r. ⌜ Shared (now (t .entry)) a b r ⌝ }

@@ -4,7 +4,7 @@ use mathlib.Core.Path.{_≡_, refl}
 use Prim.Native.Nat.{ℕ}
 use mathlib.Core.Bool.{Bool, true, false}
 use mathlib.Core.List.{List, [], _∷_}
-use mathlib.Core.Option.{Option, none, some}
+use mathlib.Core.Option.{Option, some}
 use lib.ListN.{length, getElem?}
 use Rattle.meaning.specs.Basics.{All, andThen}
 use Rattle.meaning.specs.Term.{NamedTerm, application, binder, nil, one, own, symbol, variable}

@@ -5,19 +5,18 @@
 use mathlib.Core.Path.{_≡_, refl, ap, ap₂, sym, _∙_, subst}
 use mathlib.Core.Logic.{_↔_}
 use Prim.Native.Nat.{ℕ, zero, suc, _+_, _-_, _<_}
-use mathlib.Core.Bool.{Bool, true, false, _&&_, true≢false}
+use mathlib.Core.Bool.{Bool, true, false, true≢false}
 use mathlib.Core.List.{List, [], _∷_, _++_, append-assoc, append-nil}
 use mathlib.Core.Option.{some}
 use native.Mathlib.Omega.{arith}
 use lib.ListN.{length, getElem?, length-append}
-use lib.Dec.{T}
 use Rattle.meaning.specs.Limits.{maxDepth}
 use Rattle.meaning.specs.Basics.{All, choose}
 use Rattle.meaning.specs.Term.{Forest, nil, cons, one, size, trees, relabel, symbol, variable, application, binder, Label, own, slot}
 use Rattle.meaning.specs.Term.{metavariable, function, hole, Named, Terms, inner}
 use Rattle.meaning.specs.Scope.{enter, namelessLabel, nameless}
 use Rattle.meaning.specs.Shift.{withVariable}
-use Rattle.meaning.specs.Equal.{Seen, see, View, view}
+use Rattle.meaning.specs.Equal.{Seen, see, View}
 use Rattle.meaning.specs.Problem.{Problem, expressions, namedExpressions}
 use Rattle.meaning.specs.Choice.{Owner, below, ownerOf, viewsFrom}
 use Rattle.meaning.specs.Choices.{sameOwner}

@@ -23,7 +23,7 @@ use Rattle.meaning.specs.Compare.{preorder}
 use Rattle.meaning.proofs.Lists.{never, choose-true, choose-false, all-append}
 use Rattle.meaning.proofs.ShiftLaws.{ltb-yes, ltb-no}
 use Rattle.tokens.specs.Token.{tokenOf, levelOf, payloadOf, tokens}
-use Rattle.tokens.specs.Key.{keyOfVariable, keyOfPayload, keyOf, keys, levelFrom, at}
+use Rattle.tokens.specs.Key.{keyOfVariable, keyOfPayload, keyOf, keys, levelFrom}
 use Rattle.tokens.proofs.same.Laws.{key-free, key-inside, key-outside}
 use Rattle.meaning.proofs.CompareLaws.{arity, Ranked, preorder-injective}
 use Rattle.tokens.proofs.TokenParts.{key-token, enter-room}

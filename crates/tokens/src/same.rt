@@ -1,4 +1,4 @@
-// Equality of two subterms up to bound names, and which outer binders a subterm uses.
+// Two subterms compared up to bound names, and which outer binders a subterm uses.
 use crate::token::depth;
 use crate::token::payload;
 use crate::token::size;
@@ -150,7 +150,7 @@ pub fn same(t: &[u64], a: usize, b: usize) -> bool
     same_across(t, a, t, b)
 }
 
-// Whether one of n nodes in a row is such a variable.
+// Whether `reaches` holds of one of n nodes in a row.
 fn reaches_run(t: &[u64], a: usize, n: usize, d: u64, r: u64) -> bool
     requires { ⌜ a + n ≤ length (now t) ⌝ }
     ensures { λ b. ⌜ b ≡ anyReaches d r (nodes (now (t .entry)) a n) ⌝ }

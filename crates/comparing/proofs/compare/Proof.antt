@@ -14,7 +14,9 @@ compare-across-requires c κs =
     )
 
 returns : tie.Need-returns
-returns c = search needs
+returns c =
+    let shared = c .before in
+    record { above = shared .shared-depth .result; shared = shared .shared-depth .ensures; compared = c .compare-across .ensures }
 
 pub compare-spec : {M : Type 1} → statement M
 compare-spec = tie.close (tie.spec shared-depth-requires compare-across-requires returns)

@@ -2,7 +2,6 @@
 use mathlib.Core.Path.{refl, sym}
 use native.Mathlib.Omega.{arith}
 use lib.Seq.{length-take-le}
-use borrow.Author.Needs.{needs}
 use Rattle.comparing.proofs.compare_present.Statement.{statement}
 use Rattle.comparing.proofs.compare_present.Tie as tie
 
