@@ -1,5 +1,5 @@
 -- The loop that looks for the binders above both of two nodes: what it knows when it has passed all subterms from a up to `next`.
-use mathlib.Core.Path.{_≡_}
+use mathlib.Core.Path.{_≡_, _∙_}
 use mathlib.Core.List.{List}
 use Prim.Native.Nat.{ℕ, _+_, _<_, _≤_, min}
 use native.Mathlib.Omega.{arith}
@@ -62,6 +62,15 @@ module _ (t : List ℕ) (nested : Nested t) (a b : ℕ) (order : a ≤ b) (there
           | yes h ↦ omega (arith, is-s, done .least y p h)
           | no h ↦ omega (arith, is-s, is-d, nested .deep next y (omega arith) (omega arith) (omega (arith, is-n)))
         ]
+
+    -- Below no binder there is nothing more to look for
+    pub passed-none : s ≡ 0 → Shared t a b 0
+    passed-none z = record {
+      least = λ y p. omega arith;
+      node = done .node;
+      between = (omega (arith, done .from), omega (arith, done .to));
+      reached = done .reached ∙ z;
+    }
 
     pub passed-all : b < next → Shared t a b s
     passed-all end = record {

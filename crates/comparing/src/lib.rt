@@ -20,7 +20,7 @@ pub enum Pair {
 }
 
 // How many binders lie above both nodes, where a does not come after b: the least depth from a to b. From subterm to subterm, since none of
-// its nodes is less deep than its root.
+// its nodes is less deep than its root, and no further than to one that lies below no binder.
 fn shared_from(t: &[u64], a: usize, b: usize) -> u64
     requires { ⌜ Nested (now t) ⌝ ∗ ⌜ a ≤ b ⌝ ∗ ⌜ b < length (now t) ⌝ }
     ensures { λ r. ⌜ Shared (now (t .entry)) a b r ⌝ }
@@ -29,6 +29,9 @@ fn shared_from(t: &[u64], a: usize, b: usize) -> u64
     let mut shared = depth(x) as usize;
     let mut next = a + size(x) as usize;
     while next <= b {
+        if shared == 0 {
+            return 0;
+        }
         let y = t[next];
         let d = depth(y) as usize;
         shared = least(shared, d);

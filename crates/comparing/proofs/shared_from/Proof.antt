@@ -2,7 +2,7 @@
 -- left up to b.
 use Prim.Native.Nat.{_+_, _-_}
 use native.Mathlib.Omega.{arith}
-use Rattle.comparing.proofs.SharedLaws.{Passed, passed-first, passed-next, passed-all}
+use Rattle.comparing.proofs.SharedLaws.{Passed, passed-first, passed-next, passed-none, passed-all}
 use borrow.Author.Needs.{needs}
 use Rattle.comparing.proofs.shared_from.Statement.{statement}
 use Rattle.comparing.proofs.shared_from.Tie as tie
@@ -34,6 +34,13 @@ loop-holds c =
     passed-first (s .args .t .now) (s .pre .0) (s .args .a) (s .args .b) (s .pre .1 .0) (s .pre .1 .1) (c .before .depth .result) (c .size .result)
     (c .before .depth .ensures) (c .size .ensures)
 
+returns : tie.Need-returns Inv-loop μ-loop
+returns c =
+    let at-loop = c .before .before in
+    let s = at-loop .before .before .before .before .before in
+    let l = at-loop .loop in
+    passed-none (s .args .t .now) (s .pre .0) (s .args .a) (s .args .b) (s .pre .1 .0) (s .pre .1 .1) (l .shared) (l .next) (l .inv) (c .if1 .taken)
+
 mul-y : tie.Need-mul-y Inv-loop μ-loop
 mul-y c = search needs
 
@@ -51,27 +58,27 @@ size-requires-2 c κs = search needs
 
 add-next-2 : tie.Need-add-next-2 Inv-loop μ-loop
 add-next-2 c =
-    let at-loop = c .before .before .before .before .before in
+    let at-loop = c .before .before .before .before .before .before in
     let s = at-loop .before .before .before .before .before in
-    omega (arith, c .size2 .ensures, s .pre .0 .ends (at-loop .loop .next) (omega arith), c .before .before .before .before .loop-test .taken)
+    omega (arith, c .size2 .ensures, s .pre .0 .ends (at-loop .loop .next) (omega arith), c .before .before .before .before .before .loop-test .taken)
 
 loop-less : tie.Need-loop-less Inv-loop μ-loop
 loop-less c =
-    let at-loop = c .before .before .before .before .before in
+    let at-loop = c .before .before .before .before .before .before in
     let s = at-loop .before .before .before .before .before in
-    omega (arith, c .size2 .ensures, s .pre .0 .counted (at-loop .loop .next) (omega arith), c .before .before .before .before .loop-test .taken)
+    omega (arith, c .size2 .ensures, s .pre .0 .counted (at-loop .loop .next) (omega arith), c .before .before .before .before .before .loop-test .taken)
 
 loop-again : tie.Need-loop-again Inv-loop μ-loop
 loop-again c =
-    let at-loop = c .before .before .before .before .before in
+    let at-loop = c .before .before .before .before .before .before in
     let s = at-loop .before .before .before .before .before in
     let l = at-loop .loop in
     passed-next (s .args .t .now) (s .pre .0) (s .args .a) (s .args .b) (s .pre .1 .0) (s .pre .1 .1) (l .shared) (l .next) (l .inv)
-    (c .before .least .result) (c .before .before .depth2 .result) (c .size2 .result) (c .before .before .before .before .loop-test .taken)
+    (c .before .least .result) (c .before .before .depth2 .result) (c .size2 .result) (c .before .before .before .before .before .loop-test .taken)
     (c .before .least .ensures) (c .before .before .depth2 .ensures) (c .size2 .ensures)
 
-returns : tie.Need-returns Inv-loop μ-loop
-returns c =
+returns-2 : tie.Need-returns-2 Inv-loop μ-loop
+returns-2 c =
     let s = c .before .before .before .before .before .before in
     let l = c .before .loop in
     passed-all (s .args .t .now) (s .pre .0) (s .args .a) (s .args .b) (s .pre .1 .0) (s .pre .1 .1) (l .shared) (l .next) (l .inv) (c .loop-test .left)
@@ -88,6 +95,7 @@ shared-from-spec =
     size-requires
     add-next
     loop-holds
+    returns
     mul-y
     shared-slice-read-y
     depth-requires-2
@@ -96,4 +104,4 @@ shared-from-spec =
     add-next-2
     loop-less
     loop-again
-    returns)
+    returns-2)
