@@ -75,7 +75,7 @@ fn everywhere(subject: &dyn Subject, problem: &[u8], refusal: u32) -> Result<(),
 }
 
 /// The bytes of the problem with one fault or more, most often.
-fn damaged(random: &mut Random, mut made: Made, tally: &mut Tally) -> Vec<u8> {
+pub fn damaged(random: &mut Random, mut made: Made, tally: &mut Tally) -> Vec<u8> {
     match random.below(5) {
         0 => {
             misplace(random, &mut made);

@@ -1,18 +1,22 @@
 //! The proved matcher held against a second implementation, on the same problems.
 //!
 //! Each comparison is a function over a [`subject::Subject`], so that it can be tried on wrong matchers too ([`wrong`]):
-//! one that passes any of them would be no test.
+//! one that passes any of them would be no test. [`pairs`] is one over what a program prints, with wrong ones of its own
+//! ([`wrong_pairs`]).
 
 #![forbid(unsafe_code)]
 #![warn(missing_docs)]
 
+pub mod alike;
 pub mod calls;
 pub mod damage;
 pub mod features;
 pub mod generate;
 pub mod hex;
 pub mod lists;
+pub mod nodes;
 pub mod outline;
+pub mod pairs;
 pub mod places;
 pub mod random;
 pub mod report;
@@ -21,6 +25,7 @@ pub mod texts;
 pub mod tree;
 pub mod vectors;
 pub mod wrong;
+pub mod wrong_pairs;
 
 /// A comparison of random inputs, one for each seed.
 pub type Comparison = fn(&dyn subject::Subject, std::ops::Range<u64>) -> Result<report::Tally, String>;

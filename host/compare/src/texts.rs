@@ -195,7 +195,7 @@ fn another_kind(random: &mut Random, entry: &Entry) -> Entry {
 }
 
 /// Gives a binder and what it binds another name, which may catch or be caught.
-fn rename(random: &mut Random, term: &mut Tree) {
+pub fn rename(random: &mut Random, term: &mut Tree) {
     let k = random.below(term.nodes());
     let to = random.below(6) as u16;
     if let Tree::Bind(_, v, body) = term.node_mut(k) {

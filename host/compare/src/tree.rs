@@ -166,6 +166,14 @@ pub fn read_text(text: &[u8]) -> Vec<Entry> {
         .collect()
 }
 
+/// The expressions of an accepted problem, one for each constraint.
+pub fn expressions(problem: &[u8]) -> Vec<Tree> {
+    fields(problem)
+        .filter_map(|(_, constraint)| fields(constraint).nth(1))
+        .map(|(tag, content)| read(&field(tag, content)))
+        .collect()
+}
+
 /// The one term that the bytes are.
 fn read(bytes: &[u8]) -> Tree {
     let (tag, content) = fields(bytes).next().expect("a term has a field");

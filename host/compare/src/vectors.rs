@@ -5,7 +5,7 @@
 
 use crate::hex::{bytes, hex};
 use crate::subject::{named, Words};
-use second::{Kind, Problem};
+use second::{Compared, Kind, Problem};
 
 /// The allowance of `readings`, and the most solutions that it prints.
 const ALLOWANCE: u128 = 1_000_000;
@@ -81,10 +81,15 @@ fn term_verdict(kind: Kind, input: &[u8]) -> String {
 
 /// What the program `vectors_texts` prints for its input.
 pub fn texts(input: &str) -> String {
-    input.lines().map(text_line).collect()
+    texts_with(input, compared)
 }
 
-fn text_line(line: &str) -> String {
+/// The same, where something else says how two nodes compare.
+pub fn texts_with(input: &str, says: impl Fn(&[u8], usize, usize) -> Said) -> String {
+    input.lines().map(|line| text_line(line, &says)).collect()
+}
+
+fn text_line(line: &str, says: impl Fn(&[u8], usize, usize) -> Said) -> String {
     let parts = letter(line).and_then(|(kind, rest)| {
         let (problem, rest) = part(rest)?;
         let (text, label) = part(rest)?;
@@ -95,6 +100,10 @@ fn text_line(line: &str) -> String {
         Some(('C', problem, text, label)) => format!("{label}: {}\n", verdict(&problem, &text)),
         Some(('W', problem, asked, label)) => match Asked::of(&asked) {
             Some(asked) => format!("{label}: {}\n", written(&problem, &asked)),
+            None => bad(label) + "\n",
+        },
+        Some(('N', problem, asked, label)) => match nodes(&asked) {
+            Some((a, b)) => format!("{label}: {}\n", pair(says(&problem, a, b))),
             None => bad(label) + "\n",
         },
         Some((_, _, _, label)) => bad(label) + "\n",
@@ -146,6 +155,33 @@ fn written(problem: &[u8], asked: &Asked) -> String {
             let after = (asked.room - text.len()).min(2);
             format!("wrote {}, {}{}", text.len(), hex(&text), "AA".repeat(after))
         }
+    }
+}
+
+/// The numbers of two nodes, of 2 bytes each.
+fn nodes(bytes: &[u8]) -> Option<(usize, usize)> {
+    let [a, a_low, b, b_low] = *bytes else {
+        return None;
+    };
+    let number = |high, low| usize::from(u16::from_be_bytes([high, low]));
+    Some((number(a, a_low), number(b, b_low)))
+}
+
+/// What is said of two nodes of a problem: its refusal, or nothing where one of them is not there, or the two compared.
+pub type Said = Result<Option<Compared>, u8>;
+
+/// What the second implementation says of them.
+pub fn compared(problem: &[u8], a: usize, b: usize) -> Said {
+    Problem::read(problem).map(|read| read.compare(a, b))
+}
+
+/// The same in the words of the program.
+fn pair(said: Said) -> String {
+    match said {
+        Err(refusal) => format!("refused {refusal}"),
+        Ok(None) => "no such node".to_string(),
+        Ok(Some(Compared { equal: true, pairs })) => format!("yes {pairs}"),
+        Ok(Some(Compared { equal: false, pairs })) => format!("no {pairs}"),
     }
 }
 
