@@ -1,6 +1,6 @@
 -- What comparing two nodes means.
 pub mod SharedLaws
-pub mod Told
+pub mod Agreement
 pub mod NodeTold
 pub mod Meaning
 pub mod Answering

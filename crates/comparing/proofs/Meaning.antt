@@ -9,7 +9,7 @@ use native.Mathlib.Decide.{decLt}
 use lib.ListN.{length, drop, getElem?}
 use Rattle.meaning.specs.Limits.{maxDepth}
 use Rattle.meaning.specs.Basics.{choose}
-use Rattle.meaning.specs.Term.{one, size, trees}
+use Rattle.meaning.specs.Term.{one, size}
 use Rattle.meaning.specs.Scope.{enter, namelessLabel, namelessTerm}
 use Rattle.meaning.specs.Problem.{Problem, namedExpressions, expressions}
 use Rattle.meaning.specs.Equal.{View, view}
@@ -22,7 +22,7 @@ use Rattle.meaning.proofs.Lists.{all-mem, at-mem, at-past}
 use Rattle.meaning.proofs.ShiftLaws.{relabel-size}
 use Rattle.meaning.proofs.ChoiceLaws.{length-views}
 use Rattle.meaning.proofs.Proper.{expressions-readable}
-use Rattle.meaning.proofs.CompareLaws.{Ranked, alike-equal, subexpressions-ranked}
+use Rattle.meaning.proofs.CompareLaws.{RankedTerm, alike-equal, subexpressions-ranked}
 use Rattle.tokens.specs.Token.{depthIn, sizeIn, expressionTokens}
 use Rattle.tokens.specs.Key.{at, part, agreeUnder, comparedAcross, Held, Stands}
 use Rattle.tokens.specs.declared.same.Compared.{Compared}
@@ -32,7 +32,7 @@ use Rattle.tokens.proofs.ProblemTokens.{nodes-few, expression-table, expression
 use Rattle.tokens.proofs.Spots.{Spot, spot, depthAt, forest-deep}
 use Rattle.comparing.specs.Comparing.{Nested, ComparedIn, Present, Judged}
 use Rattle.comparing.specs.declared.Pair.{Pair}
-use Rattle.comparing.proofs.Told.{Tells, tokens-agree}
+use Rattle.comparing.proofs.Agreement.{Tells, tokens-agree}
 use Rattle.comparing.proofs.NodeTold.{InPairs, forest-tells}
 
 -- Lists that tell each other are compared alike
@@ -104,9 +104,9 @@ module _ (p : Problem) (w : WithinLimits p) where
         (forest-tells table a (node .scope) (node .binders) (omega (arith, node .deep)) (node .chain) s 0 (node .levels) (node .ctx) (node .scope)
         (one (node .named)) (omega arith) (node .readable) (node .depths) (held .sizes)))
 
-    node-ranked : Ranked nodeView × (trees nodeView ≡ 1)
+    node-ranked : RankedTerm nodeView
     node-ranked =
-        all-mem (λ v. Ranked v × (trees v ≡ 1)) nodeView (subexpressions p) (subexpressions-ranked p w)
+        all-mem RankedTerm nodeView (subexpressions p) (subexpressions-ranked p w)
         (at-mem (subexpressions p) a nodeView node-seen)
 
     node-size : sizeIn (at table a) ≡ size (one (node .named))

@@ -32,7 +32,7 @@ use Rattle.tokens.proofs.Codes.{Coded, code, seenLabel, label-code, fits-label}
 use Rattle.tokens.proofs.Owners.{deepSeen, deepLabel}
 use Rattle.tokens.proofs.Reaching.{Told, testLabel, label-reaches, level-above, level-below}
 use Rattle.tokens.proofs.Spots.{depthAt, Over, Chain}
-use Rattle.comparing.proofs.Told.{levelOfSeen, levelled, SeenOver, Tells}
+use Rattle.comparing.proofs.Agreement.{levelOfSeen, levelled, SeenOver, Tells}
 
 abbrev pub InPairs : {A B : Type 0} → (A → B → Type 0) → List A → List B → Type 0
 InPairs R [] [] = Unit {0}

@@ -42,7 +42,11 @@ abbrev pub Ranked : {X B : Type 0} → Forest (Label X B) → Type 0
 Ranked nil = Unit {0}
 Ranked (cons l c s) = (trees c ≡ arity l) × Ranked c × Ranked s
 
-pub length-preorder : {L : Type 0} (u : Forest L) → length (preorder u) ≡ size u
+-- One term of that kind
+abbrev pub RankedTerm : {X B : Type 0} → Forest (Label X B) → Type 0
+RankedTerm u = Ranked u × (trees u ≡ 1)
+
+length-preorder : {L : Type 0} (u : Forest L) → length (preorder u) ≡ size u
 length-preorder nil = refl
 length-preorder (cons l c s) = ap suc (length-append (preorder c) (preorder s) ∙ ap₂ _+_ (length-preorder c) (length-preorder s))
 
@@ -63,7 +67,7 @@ preorder-injective (cons l c s) (cons l′ c′ s′) xs ys n a b e =
     (cc, rs .1)
 
 -- What can be read is such a forest, and so is what is seen of it
-fits-arity : (ctx : Context) (sc : List ℕ) (l : Named) (c : Forest Named) → NodeFits ctx l c → trees c ≡ arity (namelessLabel sc l)
+pub fits-arity : (ctx : Context) (sc : List ℕ) (l : Named) (c : Forest Named) → NodeFits ctx l c → trees c ≡ arity (namelessLabel sc l)
 fits-arity ctx sc (own (symbol n)) c f = ap trees (f .1)
 fits-arity ctx sc (own (variable x)) c f = ap trees (f .1)
 fits-arity ctx sc (own (application n)) c f = sym (f .0)
@@ -81,7 +85,7 @@ readable-ranked (suc levels) ctx sc (cons l c s) r = (
   readable-ranked (suc levels) ctx sc s (r .2),
 )
 
-with-arity : {X Y B : Type 0} (f : X → Y) (l : Label X B) → arity (withVariable f l) ≡ arity l
+pub with-arity : {X Y B : Type 0} (f : X → Y) (l : Label X B) → arity (withVariable f l) ≡ arity l
 with-arity f (own (symbol n)) = refl
 with-arity f (own (variable v)) = refl
 with-arity f (own (application n)) = refl
@@ -100,14 +104,14 @@ view-ranked who k (cons l c s) r = (
 
 -- Lists that are alike, by a test of elements
 module _ {L : Type 0} (same : L → L → Bool) where
-  pub allAlike-eq : Sound same → Sound (allAlike same)
+  allAlike-eq : Sound same → Sound (allAlike same)
   allAlike-eq h [] [] t = refl
   allAlike-eq h [] (y ∷ ys) t = absurd t
   allAlike-eq h (x ∷ xs) [] t = absurd t
   allAlike-eq h (x ∷ xs) (y ∷ ys) t =
       let r = and-T (same x y) (allAlike same xs ys) t in ap₂ _∷_ (h x y (r .0)) (allAlike-eq h xs ys (r .1))
 
-  pub allAlike-refl : Fair same → Fair (allAlike same)
+  allAlike-refl : Fair same → Fair (allAlike same)
   allAlike-refl g [] = tt
   allAlike-refl g (x ∷ xs) = T-and (same x x) (allAlike same xs xs) (g x) (allAlike-refl g xs)
 
@@ -219,16 +223,16 @@ equal-counted u v n a b = (λ e. (all e, last-tells u v n a b .0 e), λ h. last-
         ∙ length-preorder u
 
 -- The subexpressions of a problem are such views
-views-ranked : (bs : List ℕ) (n : ℕ) (u : Terms) → Ranked u → All (λ v. Ranked v × (trees v ≡ 1)) (viewsFrom bs n u)
+views-ranked : (bs : List ℕ) (n : ℕ) (u : Terms) → Ranked u → All RankedTerm (viewsFrom bs n u)
 views-ranked bs n nil r = tt
 views-ranked bs n (cons l c s) r = (
   (view-ranked (ownerOf bs) 0 (one (l, c)) (r .0, r .1, tt), refl),
-  all-append (λ v. Ranked v × (trees v ≡ 1)) (viewsFrom (below n l bs) (suc n) c) (viewsFrom bs (suc n + size c) s)
+  all-append RankedTerm (viewsFrom (below n l bs) (suc n) c) (viewsFrom bs (suc n + size c) s)
       (views-ranked (below n l bs) (suc n) c (r .1))
       (views-ranked bs (suc n + size c) s (r .2)),
 )
 
-pub subexpressions-ranked : (p : Problem) → WithinLimits p → All (λ v. Ranked v × (trees v ≡ 1)) (subexpressions p)
+pub subexpressions-ranked : (p : Problem) → WithinLimits p → All RankedTerm (subexpressions p)
 unfolding subexpressions
 subexpressions-ranked p w =
     views-ranked [] 0 (expressions p) (readable-ranked maxDepth inExpression [] (namedExpressions p) (expressions-readable p w))
@@ -239,8 +243,8 @@ pub answer-counted : (p : Problem) → WithinLimits p → (a b : ℕ) (u v : Vie
     → (equal ≡ true) ↔ ((n ≡ size u) × AgreeAt u v (n - 1))
 answer-counted p w a b u v equal n d e h =
     let ranked = subexpressions-ranked p w in
-    let (x, i) = all-mem (λ v. Ranked v × (trees v ≡ 1)) u (subexpressions p) ranked (at-mem (subexpressions p) a u d) in
-    let (y, j) = all-mem (λ v. Ranked v × (trees v ≡ 1)) v (subexpressions p) ranked (at-mem (subexpressions p) b v e) in
+    let (x, i) = all-mem RankedTerm u (subexpressions p) ranked (at-mem (subexpressions p) a u d) in
+    let (y, j) = all-mem RankedTerm v (subexpressions p) ranked (at-mem (subexpressions p) b v e) in
     let q = equal-counted u v (i ∙ sym j) x y in
     let c = h .count in (
       λ z. let r = q .0 (h .verdict .0 z) in (c ∙ r .0, subst (λ (m : ℕ). AgreeAt u v (m - 1)) (sym c) (r .1)),

@@ -26,6 +26,8 @@ pub mod PlaceValue
 -- The entry points, and lists of calls
 pub mod Entry
 pub mod Calls
+-- Two subexpressions compared, for T-02 alone
+pub mod Compare
 -- Computed forms
 pub mod Field
 pub mod Encoded
@@ -37,8 +39,6 @@ pub mod Rows
 pub mod Candidate
 pub mod Passing
 pub mod Readable
--- Two subexpressions compared (T-02)
-pub mod Compare
 -- The same in other words
 pub mod Rename
 pub mod Textual

@@ -25,7 +25,7 @@ use Rattle.meaning.proofs.ShiftLaws.{ltb-yes, ltb-no}
 use Rattle.tokens.specs.Token.{tokenOf, levelOf, payloadOf, tokens}
 use Rattle.tokens.specs.Key.{keyOfVariable, keyOfPayload, keyOf, keys, levelFrom}
 use Rattle.tokens.proofs.same.Laws.{key-free, key-inside, key-outside}
-use Rattle.meaning.proofs.CompareLaws.{arity, Ranked, preorder-injective}
+use Rattle.meaning.proofs.CompareLaws.{arity, Ranked, preorder-injective, fits-arity, with-arity}
 use Rattle.tokens.proofs.TokenParts.{key-token, enter-room}
 use Rattle.tokens.proofs.Levels.{Resolved, isFree, isBound, resolved, enter-deep}
 
@@ -183,15 +183,20 @@ keys-codes root k (suc levels) ctx sc (cons l c s) deep r room small =
     ∙ sym (map-append code (preorder (viewFrom root (inner l′ k) (nameless (enter l sc) c))) (preorder (viewFrom root k (nameless sc s)))))
 
 -- The labels of a readable term's view can be read back
+fits-coded : (root : List ℕ) (k : ℕ) (ctx : Context) (sc : List ℕ) (l : Named) (c : Forest Named) → NodeFits ctx l c
+    → Coded (seenLabel root k (namelessLabel sc l))
+fits-coded root k ctx sc (own (symbol n)) c f = tt
+fits-coded root k ctx sc (own (variable x)) c f = tt
+fits-coded root k ctx sc (own (application n)) c f = tt
+fits-coded root k ctx sc (own (binder b x)) c f = tt
+fits-coded root k ctx sc (slot (metavariable m)) c f = tt
+fits-coded root k ctx sc (slot (function g n)) c f = f .2
+fits-coded root k ctx sc (slot (hole i)) c f = tt
+
 pub fits-label : (root : List ℕ) (k : ℕ) (ctx : Context) (sc : List ℕ) (l : Named) (c : Forest Named) → NodeFits ctx l c
     → Coded (seenLabel root k (namelessLabel sc l)) × (trees c ≡ arity (seenLabel root k (namelessLabel sc l)))
-fits-label root k ctx sc (own (symbol n)) c f = (tt, ap trees (f .1))
-fits-label root k ctx sc (own (variable x)) c f = (tt, ap trees (f .1))
-fits-label root k ctx sc (own (application n)) c f = (tt, sym (f .0))
-fits-label root k ctx sc (own (binder b x)) c f = (tt, f .2)
-fits-label root k ctx sc (slot (metavariable m)) c f = (tt, ap trees (f .2))
-fits-label root k ctx sc (slot (function g n)) c f = (f .2, f .3)
-fits-label root k ctx sc (slot (hole i)) c f = (tt, ap trees (f .2))
+fits-label root k ctx sc l c f =
+    (fits-coded root k ctx sc l c f, fits-arity ctx sc l c f ∙ sym (with-arity (see (levelFrom root) k) (namelessLabel sc l)))
 
 pub readable-coded : (root : List ℕ) (k levels : ℕ) (ctx : Context) (sc : List ℕ) (u : Forest Named) → Readable levels ctx u
     → All Coded (preorder (viewFrom root k (nameless sc u)))
@@ -199,7 +204,7 @@ readable-coded root k levels ctx sc nil r = tt
 readable-coded root k zero ctx sc (cons l c s) r = absurd r
 readable-coded root k (suc levels) ctx sc (cons l c s) r =
     let k′ = inner (namelessLabel sc l) k in (
-      fits-label root k ctx sc l c (r .0) .0,
+      fits-coded root k ctx sc l c (r .0),
       all-append Coded (preorder (viewFrom root k′ (nameless (enter l sc) c))) (preorder (viewFrom root k (nameless sc s)))
           (readable-coded root k′ levels (contextBelow l ctx) (enter l sc) c (r .1))
           (readable-coded root k (suc levels) ctx sc s (r .2)),

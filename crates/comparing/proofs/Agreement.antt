@@ -27,8 +27,8 @@ use Rattle.tokens.proofs.Owners.{deepSeen, deepLabel}
 use Rattle.tokens.proofs.Spots.{depthAt, Over}
 use Rattle.comparing.specs.Comparing.{Shared}
 
-abbrev pub Seenlabel : Type 0
-Seenlabel = Label (Seen Owner) (Unit {0})
+abbrev pub OwnerLabel : Type 0
+OwnerLabel = Label (Seen Owner) (Unit {0})
 
 abbrev pub levelOfSeen : List ℕ → Seen Owner → Seen ℕ
 levelOfSeen t (seenFree x) = seenFree x
@@ -36,7 +36,7 @@ levelOfSeen t (inside i) = inside i
 levelOfSeen t (outside (nodeOfFace x)) = outside (suc (depthAt t x))
 levelOfSeen t (outside (aboveFace j)) = outside 0
 
-abbrev pub levelled : List ℕ → Seenlabel → Label (Seen ℕ) (Unit {0})
+abbrev pub levelled : List ℕ → OwnerLabel → Label (Seen ℕ) (Unit {0})
 levelled t o = withVariable (levelOfSeen t) o
 
 abbrev pub SeenOver : List ℕ → ℕ → Seen Owner → Type 0
@@ -46,7 +46,7 @@ SeenOver t a (outside (nodeOfFace x)) = (x < a) × Over t x (suc a)
 SeenOver t a (outside (aboveFace j)) = ⊥
 
 -- r is the depth of node a
-pub record Tells (t : List ℕ) (a r s x : ℕ) (o : Seenlabel) : Type 0 where
+pub record Tells (t : List ℕ) (a r s x : ℕ) (o : OwnerLabel) : Type 0 where
   pub key : keyOf r x ≡ code (levelled t o)
   pub reach : reaches s r x ≡ deepLabel s (levelled t o)
   pub coded : Coded (levelled t o)
@@ -110,21 +110,21 @@ module _ (t : List ℕ) (a b s : ℕ) (shared : Shared t a b s) where
   seen-same (inside i) (outside (aboveFace j)) p q d e = absurd q
   seen-same (outside (nodeOfFace x)) (outside (aboveFace j)) p q d e = absurd q
 
-  over-or : (c : ℕ) (o : Seenlabel) → AllOf (SeenOver t c) (variableOf o) → SeenOver t c (variableOr (seenFree 0) o)
+  over-or : (c : ℕ) (o : OwnerLabel) → AllOf (SeenOver t c) (variableOf o) → SeenOver t c (variableOr (seenFree 0) o)
   over-or c (own (symbol n)) p = tt
   over-or c (own (variable v)) p = p
   over-or c (own (application n)) p = tt
   over-or c (own (binder n x)) p = tt
   over-or c (slot z) p = tt
 
-  deep-or : (o : Seenlabel) → deepLabel s (levelled t o) ≡ false → deepSeen s (levelOfSeen t (variableOr (seenFree 0) o)) ≡ false
+  deep-or : (o : OwnerLabel) → deepLabel s (levelled t o) ≡ false → deepSeen s (levelOfSeen t (variableOr (seenFree 0) o)) ≡ false
   deep-or (own (symbol n)) d = refl
   deep-or (own (variable v)) d = d
   deep-or (own (application n)) d = refl
   deep-or (own (binder n x)) d = refl
   deep-or (slot z) d = refl
 
-  label-same : (o o′ : Seenlabel) → AllOf (SeenOver t a) (variableOf o) → AllOf (SeenOver t b) (variableOf o′)
+  label-same : (o o′ : OwnerLabel) → AllOf (SeenOver t a) (variableOf o) → AllOf (SeenOver t b) (variableOf o′)
       → deepLabel s (levelled t o) ≡ false → levelled t o ≡ levelled t o′ → o ≡ o′
   label-same o o′ p q d e =
       let v = variableOr (seenFree 0) o in
@@ -141,7 +141,7 @@ module _ (t : List ℕ) (a b s : ℕ) (shared : Shared t a b s) where
   seen-shallow (outside (nodeOfFace x)) p q = le-ltb s (suc (depthAt t x)) (shared-deep x p q)
   seen-shallow (outside (aboveFace j)) p q = absurd p
 
-  label-shallow : (o : Seenlabel) → AllOf (SeenOver t a) (variableOf o) → AllOf (SeenOver t b) (variableOf o)
+  label-shallow : (o : OwnerLabel) → AllOf (SeenOver t a) (variableOf o) → AllOf (SeenOver t b) (variableOf o)
       → deepLabel s (levelled t o) ≡ false
   label-shallow (own (symbol n)) p q = refl
   label-shallow (own (variable v)) p q = seen-shallow v p q
@@ -150,13 +150,13 @@ module _ (t : List ℕ) (a b s : ℕ) (shared : Shared t a b s) where
   label-shallow (slot z) p q = refl
 
   -- Main theorem of this file: the test of two tokens is the test of the labels
-  module _ (r r′ x y : ℕ) (o o′ : Seenlabel) (h : Tells t a r s x o) (g : Tells t b r′ s y o′) where
+  module _ (r r′ x y : ℕ) (o o′ : OwnerLabel) (h : Tells t a r s x o) (g : Tells t b r′ s y o′) where
     agreed : agree o o′ ≡ true → agreeUnder s r r′ x y ≡ true
     unfolding agreeUnder
     agreed e =
         let z : o ≡ o′ = agree-equal o o′ .0 e in
-        let k : keyOf r x ≡ keyOf r′ y = h .key ∙ ap (λ (l : Seenlabel). code (levelled t l)) z ∙ sym (g .key) in
-        let q : AllOf (SeenOver t b) (variableOf o) = subst (λ (l : Seenlabel). AllOf (SeenOver t b) (variableOf l)) (sym z) (g .over) in
+        let k : keyOf r x ≡ keyOf r′ y = h .key ∙ ap (λ (l : OwnerLabel). code (levelled t l)) z ∙ sym (g .key) in
+        let q : AllOf (SeenOver t b) (variableOf o) = subst (λ (l : OwnerLabel). AllOf (SeenOver t b) (variableOf l)) (sym z) (g .over) in
         ap₂ (λ (c d : Bool). c && not d) (eq-eqb (keyOf r x) (keyOf r′ y) k) (h .reach ∙ label-shallow o (h .over) q)
 
     told : agreeUnder s r r′ x y ≡ true → agree o o′ ≡ true
