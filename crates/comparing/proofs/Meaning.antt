@@ -66,7 +66,7 @@ module _ (p : Problem) (w : WithinLimits p) where
   abbrev pub table : List ℕ
   table = expressionTokens p
 
-  pub table-length : length table ≡ size (namedExpressions p)
+  table-length : length table ≡ size (namedExpressions p)
   unfolding expressionTokens
   table-length = tokens-length [] (namedExpressions p)
 

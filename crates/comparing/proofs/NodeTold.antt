@@ -101,7 +101,8 @@ module _ (t : List ℕ) (a : ℕ) where
     seen-level k (free x) c = (refl, tt)
     seen-level k (bound i) c = elim (decLt i k) [
       | yes h ↦
-          (ap (levelOfSeen t) (see-low (ownerOf bs) k i h) ∙ sym (see-low (levelFrom root) k i h), subst (SeenOver t a) (sym (see-low (ownerOf bs) k i h)) tt)
+          let e = see-low (ownerOf bs) k i h in
+          (ap (levelOfSeen t) e ∙ sym (see-low (levelFrom root) k i h), subst (SeenOver t a) (sym e) tt)
       | no h ↦
           let r = owner-level (i - k) (omega arith) in
           let e = see-high (ownerOf bs) k i (omega arith) in

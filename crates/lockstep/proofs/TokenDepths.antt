@@ -16,7 +16,7 @@ use Rattle.tokens.specs.Token.{depthIn, payloadOf, tokens}
 use Rattle.tokens.specs.Key.{at}
 use Rattle.tokens.proofs.TokenParts.{depth-token, tag-room, tokens-length}
 use Rattle.tokens.proofs.Levels.{enter-deep}
-use Rattle.tokens.proofs.ProblemTokens.{tokenAt, Room, room-depth, room-size, room-below, room-later}
+use Rattle.tokens.proofs.ProblemTokens.{tokenAt, Room, room-depth, room-below, room-later}
 use Rattle.lockstep.proofs.SlotWalk.{Deep}
 
 pub tokens-deep : (table : List ℕ) (i levels : ℕ) (ctx : Context) (sc : List ℕ) (u : Forest Named) (rest : List ℕ)
@@ -37,8 +37,7 @@ tokens-deep table i (suc levels) ctx sc (cons l c s) rest split r h =
     ap (at table) (sym (add-zero i)) ∙ sym (getD-drop i table 0 0) ∙ ap (λ (ts : List ℕ). at ts 0) split in
     let inside : length (enter l sc) ≡ inner (namelessLabel sc l) (length sc) =
     enter-deep (length sc) 0 sc l (sym (add-zero (length sc))) ∙ add-zero (inner (namelessLabel sc l) (length sc)) in (
-      ap depthIn here ∙ depth-token (tagOf l) (length sc) (suc (size c)) (payloadOf sc l) (tag-room l) (room-depth levels sc l c s h)
-          (room-size levels sc l c s h),
+      ap depthIn here ∙ depth-token (tagOf l) (length sc) (suc (size c)) (payloadOf sc l) (tag-room l) (room-depth levels sc l c s h),
       subst (λ (k : ℕ). Deep (λ m. depthIn (at table m)) (suc i) k (nameless (enter l sc) c)) inside
           (tokens-deep table (suc i) levels (contextBelow l ctx) (enter l sc) c (tokens sc s ++ rest) below (r .1)
           (room-below levels sc l c s h)),

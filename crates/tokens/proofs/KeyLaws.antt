@@ -64,7 +64,7 @@ module _ (levels : ℕ) (ctx : Context) (table : List ℕ) (a : ℕ) (sc : List 
   pub stands-depth : depthIn (at table a) ≡ length sc
   stands-depth =
       ap depthIn stands-at
-      ∙ depth-token (tagOf (t .0)) (length sc) (size (one t)) (payloadOf sc (t .0)) (tag-room (t .0)) root-room (h .sizes)
+      ∙ depth-token (tagOf (t .0)) (length sc) (size (one t)) (payloadOf sc (t .0)) (tag-room (t .0)) root-room
 
   pub stands-size : sizeIn (at table a) ≡ size (one t)
   stands-size =

@@ -26,9 +26,9 @@ use Rattle.meaning.specs.Field.{tagOf}
 use Rattle.meaning.proofs.Lists.{choose-true, choose-false, all-append}
 use Rattle.meaning.proofs.ShiftLaws.{ltb-yes, ltb-no, relabel-size}
 use Rattle.meaning.proofs.ChoiceLaws.{length-views}
-use Rattle.tokens.specs.Token.{tokenOf, depthIn, payloadOf, tokens}
+use Rattle.tokens.specs.Token.{depthIn, payloadOf, tokens}
 use Rattle.tokens.specs.Key.{at}
-use Rattle.tokens.proofs.TokenParts.{tokens-length, tag-room, enter-room}
+use Rattle.tokens.proofs.TokenParts.{depth-token, tokens-length, tag-room, enter-room}
 use Rattle.tokens.proofs.ProblemTokens.{all-at}
 
 abbrev pub depthAt : List ℕ → ℕ → ℕ
@@ -121,26 +121,23 @@ enter-deep d n sc bs (own (binder b x)) h = omega arith
 enter-deep d n sc bs (slot z) h = h
 
 -- No node of a forest is less deep than what is around it
-depth-of : (g e n p : ℕ) → g < 256 → e < 256 → depthIn (tokenOf g e n p) ≡ e
-depth-of g e n p hg he = omega arith
-
 first-depth : (sc : List ℕ) (l : Named) (c s : Forest Named) (rest table : List ℕ) (n : ℕ) → length sc < 256
     → drop n table ≡ tokens sc (cons l c s) ++ rest → depthAt table n ≡ length sc
 unfolding tokens
 first-depth sc l c s rest table n room is =
     ap depthIn (sym (ap (at table) (add-zero n)) ∙ sym (getD-drop n table 0 0) ∙ ap (λ (xs : List ℕ). at xs 0) is)
-    ∙ depth-of (tagOf l) (length sc) (suc (size c)) (payloadOf sc l) (tag-room l) room
+    ∙ depth-token (tagOf l) (length sc) (suc (size c)) (payloadOf sc l) (tag-room l) room
 
-pub tokens-deep : (levels : ℕ) (ctx : Context) (sc : List ℕ) (u : Forest Named) → Readable levels ctx u → length sc + levels ≤ 256
+tokens-under : (levels : ℕ) (ctx : Context) (sc : List ℕ) (u : Forest Named) → Readable levels ctx u → length sc + levels ≤ 256
     → All (λ x. length sc ≤ depthIn x) (tokens sc u)
 unfolding tokens
-tokens-deep levels ctx sc nil r room = tt
-tokens-deep zero ctx sc (cons l c s) r room = absurd r
-tokens-deep (suc levels) ctx sc (cons l c s) r room = (
-  omega (arith, depth-of (tagOf l) (length sc) (suc (size c)) (payloadOf sc l) (tag-room l) (omega arith)),
+tokens-under levels ctx sc nil r room = tt
+tokens-under zero ctx sc (cons l c s) r room = absurd r
+tokens-under (suc levels) ctx sc (cons l c s) r room = (
+  omega (arith, depth-token (tagOf l) (length sc) (suc (size c)) (payloadOf sc l) (tag-room l) (omega arith)),
   all-append (λ x. length sc ≤ depthIn x) (tokens (enter l sc) c) (tokens sc s)
-      (below-all (tokens (enter l sc) c) (tokens-deep levels (contextBelow l ctx) (enter l sc) c (r .1) (omega (arith, enter-room sc l))))
-      (tokens-deep (suc levels) ctx sc s (r .2) room),
+      (below-all (tokens (enter l sc) c) (tokens-under levels (contextBelow l ctx) (enter l sc) c (r .1) (omega (arith, enter-room sc l))))
+      (tokens-under (suc levels) ctx sc s (r .2) room),
 )
   where
     grows : (l : Named) → length sc ≤ length (enter l sc)
@@ -163,7 +160,7 @@ module _ (levels : ℕ) (ctx : Context) (sc : List ℕ) (u : Forest Named) (r : 
       let e : at (tokens sc u) (y - n) ≡ at table y =
       sym (List·getD-append (tokens sc u) rest 0 (y - n) j) ∙ ap (λ (xs : List ℕ). at xs (y - n)) (sym is) ∙ getD-drop n table (y - n) 0
       ∙ ap (at table) i in
-      omega (arith, ap depthIn e, all-at (λ x. length sc ≤ depthIn x) (tokens sc u) (tokens-deep levels ctx sc u r room) (y - n) j)
+      omega (arith, ap depthIn e, all-at (λ x. length sc ≤ depthIn x) (tokens sc u) (tokens-under levels ctx sc u r room) (y - n) j)
 
 pub spot : (d levels : ℕ) (ctx : Context) (sc bs : List ℕ) (n : ℕ) (u : Forest Named) (rest : List ℕ) (table : List ℕ) (a i : ℕ)
     → a ≡ n + i → i < size u

@@ -12,12 +12,12 @@ use Rattle.tokens.specs.Token.{tokenOf, tagIn, depthIn, sizeIn, payloadI
 use Rattle.tokens.specs.Key.{keyOfPayload, keyOf}
 
 -- A token is what it was made of
+pub depth-token : (g e n p : ℕ) → g < 256 → e < 256 → depthIn (tokenOf g e n p) ≡ e
+depth-token g e n p hg he = omega arith
+
 module _ (g e n p : ℕ) (hg : g < 256) (he : e < 256) (hn : n < 65536) where
   pub tag-token : tagIn (tokenOf g e n p) ≡ g
   tag-token = omega arith
-
-  pub depth-token : depthIn (tokenOf g e n p) ≡ e
-  depth-token = omega arith
 
   pub size-token : sizeIn (tokenOf g e n p) ≡ n
   size-token = omega arith
@@ -27,7 +27,7 @@ module _ (g e n p : ℕ) (hg : g < 256) (he : e < 256) (hn : n < 65536) where
 
   pub key-token : (d : ℕ) → keyOf d (tokenOf g e n p) ≡ g + 256 * keyOfPayload d g e p
   unfolding keyOf
-  key-token d = cc (tag-token, depth-token, payload-token)
+  key-token d = cc (tag-token, depth-token g e n p hg he, payload-token)
 
 -- The tokens of a forest
 pub tokens-length : (sc : List ℕ) (u : Forest Named) → length (tokens sc u) ≡ size u
