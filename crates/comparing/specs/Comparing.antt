@@ -1,7 +1,7 @@
 -- What comparing two nodes of a problem's expressions promises (T-02).
 --   Nested       a table through which one can go from subterm to subterm: each lies in it, and none of its nodes is less deep than its root
 --   Between      the nodes from one of two nodes to the other, both counted
---   Shared       how many binders lie above both of two nodes: as many as above each node between them
+--   Shared       how many binders lie above both of two nodes: the least depth of a node between them
 --   ComparedIn   the comparison of two nodes of one table
 --   Present      the same of two numbers, if they are nodes of the table
 --   Judged       what `meaning` says of two nodes, each of which may be missing
