@@ -68,22 +68,16 @@ module _ (t : List ℕ) (a b s : ℕ) (shared : Shared t a b s) where
   shared-one : (x y : ℕ) → (x < a) × Over t x (suc a) → (y < b) × Over t y (suc b) → depthAt t x ≡ depthAt t y → depthAt t x < s → x ≡ y
   shared-one x y p q e h = go (decLt x y) (decLt y x)
     where
-      between : (z : ℕ) → a < z → z < b → s ≤ depthAt t z
-      between z g k = shared .least z (omega arith, omega arith)
-
-      between′ : (z : ℕ) → b < z → z < a → s ≤ depthAt t z
-      between′ z g k = shared .least z (omega arith, omega arith)
-
       first : x < y → ⊥
       first g = elim (decLt y (suc a)) [
         | yes k ↦ omega (arith, p .1 y g k)
-        | no k ↦ omega (arith, between y (omega arith) (q .0))
+        | no k ↦ omega (arith, shared .least y (omega arith, omega (arith, q .0)))
       ]
 
       second : y < x → ⊥
       second g = elim (decLt x (suc b)) [
         | yes k ↦ omega (arith, q .1 x g k)
-        | no k ↦ omega (arith, between′ x (omega arith) (p .0))
+        | no k ↦ omega (arith, shared .least x (omega arith, omega (arith, p .0)))
       ]
 
       go : Dec (x < y) → Dec (y < x) → x ≡ y
