@@ -8,7 +8,7 @@ use Prim.Native.Nat.{ℕ, suc, _+_, _*_, _<_, _≤_}
 use native.Mathlib.Omega.{arith}
 use lib.ListN.{length, take, drop, getD, length-append, length-map, take-append-drop}
 use lib.Seq.{paste, take-suc, take-all, take-at, drop-append-add, drop-drop}
-use Rattle.meaning.specs.Basics.{Bytes, All, _∈_}
+use Rattle.meaning.specs.Basics.{Bytes, All, _∈_, Byte}
 use Rattle.meaning.specs.Problem.{Problem}
 use Rattle.meaning.specs.Read.{Answer, after, refused, got}
 use Rattle.meaning.specs.Accept.{accept}
@@ -17,7 +17,6 @@ use Rattle.meaning.specs.PlaceValue.{PlaceValue, placeValue}
 use Rattle.meaning.specs.Entry.{HostReply, startCall, SearchCall}
 use Rattle.meaning.specs.Calls.{left, Run, HostCall, Carried, foundIn, founds, HasEnd}
 use Rattle.meaning.proofs.Lists.{never}
-use Rattle.meaning.proofs.ByteLaws.{Byte}
 use Rattle.meaning.proofs.CallLaws.{third-demand}
 use Rattle.rows.specs.Rows.{MaskRow}
 use Rattle.places.specs.Places.{valueOf, Starts}

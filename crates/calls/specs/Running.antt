@@ -16,7 +16,7 @@ use Rattle.meaning.specs.Read.{Answer, refused, got}
 use Rattle.meaning.specs.Search.{end}
 use Rattle.meaning.specs.PlaceValue.{PlaceValue}
 use Rattle.meaning.specs.Entry.{HostReply, SearchCall}
-use Rattle.meaning.specs.Calls.{left, Run, HostCall, Carried, foundIn, founds, HasEnd, ThirdDemand}
+use Rattle.meaning.specs.Calls.{left, Run, HostCall, Carried, foundIn, founds, HasEnd, ThirdDemandOf}
 use Rattle.rows.specs.Rows.{MaskRow}
 use Rattle.places.specs.Places.{valueOf}
 use Rattle.places.specs.declared.Place.{Place}
@@ -66,7 +66,7 @@ pub record Demanded (s : Bytes) (p : Problem) (ns before after : List ℕ) (r : 
   pub calls : List HostCall
   pub allowances : map (λ c. c .allowance) calls ≡ ns
   pub carried : Carried s p calls
-  pub demand : ThirdDemand p calls
+  pub demand : ThirdDemandOf p calls
   pub found : r .found ≡ length (founds calls)
   pub ended : (r .ended ≡ true) ↔ HasEnd calls
   pub rows : after ≡ masksIn (founds calls) ++ drop (8 * r .found) before

@@ -16,7 +16,7 @@ use Rattle.meaning.specs.Read.{Answer, got, refused}
 use Rattle.meaning.specs.Accept.{accept}
 use Rattle.meaning.specs.Text.{Item, readText, said}
 use Rattle.meaning.specs.Passing.{kinds, known, meets, openUnneeded, passes, unneededOpen}
-use Rattle.meaning.specs.Entry.{checkCall}
+use Rattle.meaning.specs.Entry.{checkCall, checkOn}
 use Rattle.meaning.proofs.Lists.{by-test, is-some}
 use Rattle.meaning.proofs.OneWay.{faces-one-way, faces-walk, walk-faces}
 use Rattle.tokens.specs.Token.{Table}
@@ -249,10 +249,8 @@ module _ (text : Bytes) (table : List ℕ) (read : TextRead) (h : TextDone (read
   module _ (ps es fs : List ℕ) (a : Standing) where
     -- 19, 20 and 27
     pub text-refused : (n : ℕ) → read .answer ≡ reads.Refused n → CheckedText ps es fs a text (answers.Refused n)
-    text-refused n e = record {
-      answer = λ p l.
-          rw (refused-as n e);
-    }
+    unfolding checkOn
+    text-refused n e = record { answer = λ p l. rw (refused-as n e) }
 
     module _ (used : ℕ) (e : read .answer ≡ reads.Read used) where
       -- What `passes` requires
@@ -270,6 +268,7 @@ module _ (text : Bytes) (table : List ℕ) (read : TextRead) (h : TextDone (read
 
       pub text-passed : (ok : Bool) (r : Checked) → Passed ps es fs (take used table) a (read .said) ok → r ≡ saysOf ok
           → CheckedText ps es fs a text r
+      unfolding checkOn
       text-passed ok r h q = record {
         answer = λ p l.
             let d = read-as used e in

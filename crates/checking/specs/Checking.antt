@@ -11,10 +11,11 @@ use mathlib.Core.List.{List}
 use lib.ListN.{length}
 use Rattle.meaning.specs.Basics.{Bytes}
 use Rattle.meaning.specs.Problem.{Problem, bothWays}
-use Rattle.meaning.specs.Read.{Answer, after, got, refused}
+use Rattle.meaning.specs.Read.{Answer, got, refused}
 use Rattle.meaning.specs.Readable.{Accepted}
-use Rattle.meaning.specs.Text.{Item, readText, said}
+use Rattle.meaning.specs.Text.{Item, said}
 use Rattle.meaning.specs.Passing.{kinds, known, meets, openUnneeded, passes, unneededOpen}
+use Rattle.meaning.specs.Entry.{checkOn}
 use Rattle.tokens.specs.Token.{patternTokens}
 use Rattle.metavariables.specs.Survey.{Surveyed}
 use Rattle.metavariables.specs.declared.Occurring.{Occurring}
@@ -78,4 +79,4 @@ answerOf answers.Yes = got true
 answerOf answers.No = got false
 
 pub record CheckedText (ps es fs : List ℕ) (a : Standing) (text : Bytes) (r : Checked) : Type 0 where
-  pub answer : (p : Problem) → Laid p ps es fs a → answerOf r ≡ after (readText text) (λ is. got (passes p is))
+  pub answer : (p : Problem) → Laid p ps es fs a → answerOf r ≡ checkOn p text

@@ -104,7 +104,7 @@ module _ (p : Problem) (accepted : Accepted p) (r : Row) (isRow : IsRow p r) whe
     }
 
   one-way : bothWays p ≡ false
-  one-way = faces-one-way p (isRow .agree)
+  one-way = faces-one-way p (isRow .hasRows)
 
   -- A ROW THAT FITS IS A SOLUTION ROW
   module _ (x : FitsTogether p r) where

@@ -1,4 +1,2 @@
 -- Laws of the C interface.
 pub mod ExportLaws
-pub mod Carried
-pub mod RefusalNumbers

@@ -3,14 +3,13 @@
 -- "A refusal returns its number only. The output buffer and open search stay": a refusal is document 01's number, and nothing is changed.
 --   ..Code      the number of an answer
 --   ..After     what a slice holds after an answer
---   withRow     "18 buffer too short", of a row buffer that has not the words of a place
+--   withRow     "18 buffer too short", of a row buffer that has fewer words than a place
 --   ..Export    one for each exported function
 --   Coded       the number of a search's answer
---   Exports     calls of `matcher_search`, each with the place that the one before it left
 use mathlib.Core.Path.{_≡_}
 use Prim.Native.Nat.{ℕ, _<_}
 use mathlib.Core.Bool.{Bool, true, false}
-use mathlib.Core.List.{List, [], _∷_}
+use mathlib.Core.List.{List}
 use lib.ListN.{length}
 use lib.Dec.{eqb}
 use Rattle.meaning.specs.Basics.{Bytes, choose}
@@ -18,15 +17,14 @@ use Rattle.meaning.specs.Read.{Answer, after, got, refused}
 use Rattle.meaning.specs.Search.{found, end, paused, refusedCall}
 use Rattle.meaning.specs.PlaceValue.{PlaceValue}
 use Rattle.meaning.specs.Entry.{HostReply, startCall, SearchCall, WriteCall, checkCall}
-use Rattle.meaning.specs.Calls.{HostCall}
 use Rattle.search.specs.Calling.{replyWith}
 use Rattle.seeking.specs.declared.Answer as code
 use Rattle.seeking.specs.declared.Answer.the-variants as answers
-use Rattle.words.specs.Words.{placeWords, isPlaceLong, wordsOf, placeOfWords}
+use Rattle.words.specs.Words.{hasPlace, placeOfWords, placed}
 
--- The start, into words that may be too few or too many for a place: 16, after 1 to 14 and 25
+-- The start, into words that may be too few for a place: 18, after 1 to 14 and 25
 abbrev pub placeInto : List ℕ → PlaceValue → Answer PlaceValue
-placeInto words v = choose (isPlaceLong (length words)) (got v) (refused 16)
+placeInto words v = choose (hasPlace (length words)) (got v) (refused 18)
 
 abbrev pub startInto : List ℕ → Bytes → Answer PlaceValue
 startInto words s = after (startCall s) (placeInto words)
@@ -36,7 +34,7 @@ startCode (got v) = 0
 startCode (refused n) = n
 
 abbrev pub startAfter : List ℕ → Answer PlaceValue → List ℕ
-startAfter words (got v) = wordsOf v
+startAfter words (got v) = placed words v
 startAfter words (refused n) = words
 
 pub record Told (answer : Answer PlaceValue) (words words′ : List ℕ) (r : ℕ) : Type 0 where
@@ -47,7 +45,7 @@ pub record Told (answer : Answer PlaceValue) (words words′ : List ℕ) (r : �
 abbrev pub StartExport : Bytes → List ℕ → List ℕ → ℕ → Type 0
 StartExport s words words′ r = Told (startInto words s) words words′ r
 
--- Whatever the answer would have been, it needs a row buffer of the right length: 18, after 15 and 16
+-- Whatever the answer would have been, it needs a row buffer with room for a row: 18, after 15 and 16
 abbrev pub withRow : Bool → HostReply → HostReply
 withRow true reply = reply
 withRow false (refusedCall n) = refusedCall n
@@ -63,13 +61,13 @@ replyCode (end next) = 258
 
 abbrev pub placeAfter : List ℕ → HostReply → List ℕ
 placeAfter words (refusedCall n) = words
-placeAfter words (found row next) = wordsOf next
-placeAfter words (paused next) = wordsOf next
-placeAfter words (end next) = wordsOf next
+placeAfter words (found row next) = placed words next
+placeAfter words (paused next) = placed words next
+placeAfter words (end next) = placed words next
 
 abbrev pub rowAfter : List ℕ → HostReply → List ℕ
 rowAfter words (refusedCall n) = words
-rowAfter words (found row next) = wordsOf row
+rowAfter words (found row next) = placed words row
 rowAfter words (paused next) = words
 rowAfter words (end next) = words
 
@@ -77,24 +75,17 @@ rowAfter words (end next) = words
 pub record SearchExport (s : Bytes) (n : ℕ) (place row place′ row′ : List ℕ) (r : ℕ) : Type 0 where
   pub reply : HostReply
   pub call : SearchCall s (placeOfWords place) n reply
-  pub code : r ≡ replyCode (withRow (isPlaceLong (length row)) reply)
-  pub leaves : place′ ≡ placeAfter place (withRow (isPlaceLong (length row)) reply)
-  pub gives : row′ ≡ rowAfter row (withRow (isPlaceLong (length row)) reply)
-
--- "Each later one gets the place that the call before it left": here its words
-pub data Exports (s : Bytes) : List ℕ → List HostCall → Type 0 where
-  none : {place : List ℕ} → Exports s place []
-  more : {n r : ℕ} {place row place′ row′ : List ℕ} (e : SearchExport s n place row place′ row′ r)
-      → length row ≡ placeWords → length place′ ≡ length place
-      → {cs : List HostCall} → Exports s place′ cs → Exports s place (record { allowance = n; reply = e .reply } ∷ cs)
+  pub code : r ≡ replyCode (withRow (hasPlace (length row)) reply)
+  pub leaves : place′ ≡ placeAfter place (withRow (hasPlace (length row)) reply)
+  pub gives : row′ ≡ rowAfter row (withRow (hasPlace (length row)) reply)
 
 -- The row of a Found, and no other
 abbrev pub rowGiven : ℕ → PlaceValue → List ℕ → List ℕ
-rowGiven code v words = choose (eqb code 256) (wordsOf v) words
+rowGiven code v words = choose (eqb code 256) (placed words v) words
 
 -- The number, whatever row and place the answer comes with. Refusals have one byte, so that 256 and more are answers
 pub record Coded (answer : code.Answer) (rowWords r : ℕ) : Type 0 where
-  pub code : (row : List ℕ) (v : PlaceValue) → r ≡ replyCode (withRow (isPlaceLong rowWords) (replyWith answer row v))
+  pub code : (row : List ℕ) (v : PlaceValue) → r ≡ replyCode (withRow (hasPlace rowWords) (replyWith answer row v))
   pub refusal : (number : ℕ) → answer ≡ answers.Refused number → number < 256
 
 abbrev pub writeCode : Answer ℕ → ℕ

@@ -1,3 +1,2 @@
 -- What the C interface promises.
 pub mod Exported
-pub mod Numbers

@@ -5,7 +5,7 @@ use words::PLACE_WORDS;
 ghost use mathlib.Core.Path.{_≡_};
 ghost use Rattle.meaning.specs.Basics.{choose};
 ghost use Rattle.checking.specs.Checking.{answerOf};
-ghost use Rattle.words.specs.Words.{isPlaceLong};
+ghost use Rattle.words.specs.Words.{hasPlace};
 ghost use Rattle.exports.specs.Exported.{Coded, checkCode};
 
 pub const FOUND: u32 = 256;
@@ -18,15 +18,13 @@ const YES: u32 = 256;
 
 const NO: u32 = 257;
 
-pub const NO_SUCH_PLACE: u32 = 16;
+pub const TOO_SHORT: u32 = 18;
 
-const TOO_SHORT: u32 = 18;
-
-// An answer that needs a row buffer of so many words.
+// An answer that needs room for a row, where there are so many words.
 fn with_row(room: usize, code: u32) -> u32
-    ensures { λ r. ⌜ r ≡ choose (isPlaceLong room) code 18 ⌝ }
+    ensures { λ r. ⌜ r ≡ choose (hasPlace room) code 18 ⌝ }
 {
-    if room != PLACE_WORDS {
+    if room < PLACE_WORDS {
         return TOO_SHORT;
     }
     code

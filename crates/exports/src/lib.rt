@@ -4,7 +4,7 @@ pub mod codes;
 
 use checking::check;
 use codes::FOUND;
-use codes::NO_SUCH_PLACE;
+use codes::TOO_SHORT;
 use codes::check_code;
 use codes::search_code;
 use places::Place;
@@ -16,6 +16,7 @@ use words::put_place;
 use writing::write::Written;
 use writing::write::write;
 ghost use mathlib.Core.Path.{_≡_};
+ghost use Prim.Native.Nat.{_≤_};
 ghost use lib.ListN.{length};
 ghost use Rattle.places.specs.Places.{valueOf};
 ghost use Rattle.writing.specs.Writing.{answerOf};
@@ -23,12 +24,12 @@ ghost use Rattle.words.specs.Words.{placeWords};
 ghost use Rattle.exports.specs.Exported.{placeInto, Told, rowGiven, lengthAfter, writeCode};
 ghost use Rattle.exports.specs.Exported.{StartExport, SearchExport, WriteExport, CheckExport};
 
-// The start, where the words are those of a place.
+// The start, where the words have room for a place.
 fn give_start(words: &mut [u64], first: Place) -> u32
     ensures { λ r. ⌜ Told (placeInto (now (words .entry)) (valueOf first)) (now (words .entry)) (now (words .exit)) r ⌝ }
 {
-    if words.len() != PLACE_WORDS {
-        return NO_SUCH_PLACE;
+    if words.len() < PLACE_WORDS {
+        return TOO_SHORT;
     }
     put_place(words, first);
     0
@@ -50,7 +51,7 @@ pub extern "C" fn matcher_start(problem: &[u8], place: &mut [u64]) -> u32
 
 // The row of a Found into `words`.
 fn give_row(words: &mut [u64], code: u32, row: Place)
-    requires { ⌜ (code ≡ 256 → length (now words) ≡ placeWords) ⌝ }
+    requires { ⌜ (code ≡ 256 → placeWords ≤ length (now words)) ⌝ }
     ensures { λ _. ⌜ now (words .exit) ≡ rowGiven code (valueOf row) (now (words .entry)) ⌝ }
 {
     if code != FOUND {

@@ -3,11 +3,11 @@
 use mathlib.Core.Path.{_≡_, refl, ap, ap₂, sym, _∙_, subst}
 use mathlib.Core.Logic.{_↔_}
 use mathlib.Core.Bool.{true}
-use mathlib.Core.List.{List, [], _∷_, map}
+use mathlib.Core.List.{List, [], _∷_}
 use mathlib.Core.Option.{some}
 use Prim.Native.Nat.{ℕ, zero, suc, _-_, _<_, _≤_}
 use native.Mathlib.Omega.{arith}
-use lib.ListN.{length, getElem?, replicate, length-append, length-map, length-replicate}
+use lib.ListN.{length, getElem?}
 use lib.Seq.{length-take-le, getD-take}
 use Rattle.meaning.specs.Limits.{maxFunctions, maxFaceNodes}
 use Rattle.meaning.specs.Basics.{isSome, _∈_}
@@ -16,14 +16,14 @@ use Rattle.meaning.specs.Problem.{Problem, expressions, functions}
 use Rattle.meaning.specs.Shift.{ClosedTerm}
 use Rattle.meaning.specs.Face.{Face}
 use Rattle.meaning.specs.Choice.{Choice, Marks}
-use Rattle.meaning.specs.Row.{Row, ChoiceEach, IsRow, faceOf, choiceIn, rowBody}
+use Rattle.meaning.specs.Row.{Row, IsRow, faceOf, choiceIn, rowBody}
 use Rattle.meaning.specs.Rows.{rows}
 use Rattle.meaning.specs.PlaceValue.{maskOf, masksOf}
 use Rattle.meaning.proofs.Lists.{T-true, true-T, and-T, T-and, at-mem, mem-at}
 use Rattle.meaning.proofs.Proper.{one-place, functions-applied}
 use Rattle.meaning.proofs.RowBodies.{choice-in}
 use Rattle.meaning.proofs.ChoiceLaws.{rows-are}
-use Rattle.meaning.proofs.PlaceLaws.{few-functions, small-faces}
+use Rattle.meaning.proofs.PlaceLaws.{masks-long, small-faces}
 use Rattle.tokens.specs.Token.{patternTokens, expressionTokens}
 use Rattle.tokens.specs.Key.{at}
 use Rattle.faces.specs.First.{listed}
@@ -62,21 +62,6 @@ function-of p xs (f ∷ fs) [] k r h = absurd r
 function-of p xs (f ∷ fs) (j ∷ js) zero r h = (f, refl)
 function-of p xs (f ∷ fs) (j ∷ js) (suc k) r h = function-of p xs fs js k (r .1) (omega arith)
 
--- A row has a choice for each function, and a mask for each of the eight
-row-long : (p : Problem) (fs : List ℕ) (r : Row) → ChoiceEach p fs r → length r ≡ length fs
-row-long p [] [] c = refl
-row-long p [] (m ∷ r) c = absurd c
-row-long p (f ∷ fs) [] c = absurd c
-row-long p (f ∷ fs) (m ∷ r) c = ap suc (row-long p fs r (c .1))
-
-masks-long : (r : Row) → length r ≤ maxFunctions → length (masksOf r) ≡ maxFunctions
-unfolding masksOf
-masks-long r h =
-    let a = length-append (map (maskOf maxFaceNodes) r) (replicate (maxFunctions - length r) 0) in
-    let b = length-map r (maskOf maxFaceNodes) in
-    let d = length-replicate {A = ℕ} (maxFunctions - length r) 0 in
-    omega arith
-
 -- What is laid out, over the tables of the problem
 pub laid-own : (p : Problem) (ps es ns : List ℕ) (s : ℕ) (firsts : Firsts) → Laid p ps es ns s firsts
     → Laid p (patternTokens p) (expressionTokens p) ns s firsts
@@ -109,7 +94,7 @@ module _ (p : Problem) (ns : List ℕ) (s : ℕ) (firsts : Firsts) (l : Laid p (
     isRow = rows-are p r .0 i
 
     pub row-masks : length (masksOf r) ≡ maxFunctions
-    row-masks = masks-long r (omega (arith, row-long p (functions p) r (isRow .choice), few-functions p (l .accepted)))
+    row-masks = masks-long p r (l .accepted) isRow
 
     -- THE k-TH FUNCTION
     pub function-at : (k f : ℕ) → getElem? (functions p) k ≡ some f → FunctionAt p firsts (masksOf r) (choiceIn (functions p) r f) k f

@@ -7,11 +7,10 @@ use Prim.Native.Nat.{ℕ, _+_, _-_, _*_, _≤_}
 use native.Mathlib.Omega.{arith}
 use native.Mathlib.Nat.{add-sub-cancel-left}
 use lib.ListN.{length, drop}
-use Rattle.meaning.specs.Basics.{All, Bytes}
+use Rattle.meaning.specs.Basics.{All, Bytes, Byte}
 use Rattle.meaning.specs.Read.{Answer, got, refused}
 use Rattle.meaning.specs.Readable.{ReadableItem}
 use Rattle.meaning.specs.Text.{Item}
-use Rattle.meaning.proofs.ByteLaws.{Byte}
 use Rattle.meaning.proofs.Lists.{never}
 use Rattle.fields.specs.Heads.{PartsDone}
 use Rattle.fields.specs.declared.field.Parts.the-variants as parts

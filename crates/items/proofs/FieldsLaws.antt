@@ -13,10 +13,9 @@ use lib.ListN.{length, take, drop, length-append, length-drop, length-set, take-
 use lib.Seq.{drop-drop, length-take-le, take-at}
 use borrow.Author.Tests.{eq-eqb, ne-eqb}
 use Rattle.meaning.specs.Limits.{maxText, metavariableCount}
-use Rattle.meaning.specs.Basics.{All, Bytes}
+use Rattle.meaning.specs.Basics.{All, Bytes, Byte}
 use Rattle.meaning.specs.Read.{Answer, Parts, after, got, partsOf, refused}
 use Rattle.meaning.specs.Text.{Item, numbers, readItem, readItems, rises}
-use Rattle.meaning.proofs.ByteLaws.{Byte}
 use Rattle.fields.specs.declared.number.Metavariable.{Metavariable}
 use Rattle.slices.proofs.Slices.{rest-all, rows-joined}
 use Rattle.terms.specs.Reading.{Space}

@@ -11,7 +11,7 @@ use lib.Seq.{drop-at}
 use lib.Dec.{eqb, ltb}
 use borrow.Author.Tests.{ltb-true}
 use Rattle.meaning.specs.Limits.{maxDepth, metavariableCount}
-use Rattle.meaning.specs.Basics.{All, Bytes}
+use Rattle.meaning.specs.Basics.{All, Bytes, Byte}
 use Rattle.meaning.specs.Term.{NamedTerm, one}
 use Rattle.meaning.specs.Field.{field}
 use Rattle.meaning.specs.Read.{Context, Parts, got, inBody, inExpression, partsOf, readTerm}
@@ -19,7 +19,7 @@ use Rattle.meaning.specs.Filling.{Entry, absent, body, leftOpen, value}
 use Rattle.meaning.specs.Readable.{ReadableEntry, ReadableItem}
 use Rattle.meaning.specs.Text.{Item, readItem, readNumbered, readOpen}
 use Rattle.meaning.proofs.Lists.{append-all}
-use Rattle.meaning.proofs.ByteLaws.{Byte, by-choice, by-got, field-content, field-length, got-is, parts-field, when-got}
+use Rattle.meaning.proofs.ByteLaws.{by-choice, by-got, field-content, field-length, got-is, parts-field, when-got}
 use Rattle.meaning.proofs.TermReading.{term-read-readable}
 use Rattle.tokens.proofs.TokenParts.{tokens-length}
 use Rattle.terms.proofs.Bounds.{term-fine}

@@ -9,9 +9,8 @@ use mathlib.Core.List.{List, [], _∷_, _++_, List·Memᴰ·head, List·Memᴰ·
 use native.Mathlib.Omega.{arith}
 use lib.Dec.{ltb}
 use borrow.Author.Tests.{le-ltb, lt-ltb, ltb-true, ltb-false}
-use Rattle.meaning.specs.Basics.{choose, _∈_}
+use Rattle.meaning.specs.Basics.{choose, _∈_, Ordered, more}
 use Rattle.meaning.specs.Text.{rises, risesAfter}
-use Rattle.meaning.specs.Difference.{Ordered, more}
 use Rattle.meaning.proofs.Lists.{by-test}
 use Rattle.meaning.proofs.FieldOrder.{rises-ordered}
 use Rattle.items.specs.Order.{InOrder, followedBy, nextAfter, nextOf}

@@ -9,17 +9,15 @@ use mathlib.Core.List.{List, [], _∷_, List·Memᴰ·cases-cons}
 use native.Mathlib.Omega.{arith}
 use lib.Dec.{eqb, ltb}
 use borrow.Author.Tests.{ltb-true, ltb-false}
-use Rattle.meaning.specs.Basics.{All, Bytes, choose, _∈_}
+use Rattle.meaning.specs.Basics.{All, Bytes, choose, _∈_, Ordered, more, Byte}
 use Rattle.meaning.specs.Term.{NamedTerm}
 use Rattle.meaning.specs.Filling.{Entry, absent, leftOpen, value, body}
 use Rattle.meaning.specs.Read.{got}
 use Rattle.meaning.specs.Readable.{ReadableEntry, ReadableItem}
 use Rattle.meaning.specs.Text.{Item, meant, numbers, readText, said}
 use Rattle.meaning.specs.Textual.{AlphaEntry, AlphaText, bothAbsent, bothOpen, values, bodies}
-use Rattle.meaning.specs.Difference.{Ordered, more}
 use Rattle.meaning.proofs.Lists.{never, by-test, eqb-self, eqb-eq}
 use Rattle.meaning.proofs.Renaming.{equal-is-alpha}
-use Rattle.meaning.proofs.ByteLaws.{Byte}
 use Rattle.meaning.proofs.TextReading.{text-read, text-rises}
 use Rattle.meaning.proofs.FieldOrder.{rises-ordered, said-first, said-later, said-nowhere}
 

@@ -11,14 +11,11 @@ use lib.ListN.{length, take, drop, getD, length-append, length-drop, take-append
 use lib.Seq.{length-take-le, take-at, drop-at, drop-drop}
 use lib.Dec.{eqb, ltb}
 use borrow.Author.Tests.{ltb-false, lt-ltb, le-ltb, ne-eqb}
-use Rattle.meaning.specs.Basics.{choose, All, Bytes}
+use Rattle.meaning.specs.Basics.{Byte, choose, All, Bytes}
 use Rattle.meaning.specs.Limits.{firstWide}
 use Rattle.meaning.specs.Field.{word, field, symbolBytes}
 use Rattle.meaning.specs.Read.{Answer, refused, got, after, wordAt, longAt, Parts, partsOf}
 use Rattle.meaning.proofs.Lists.{never, append-all, all-append}
-
-abbrev pub Byte : ℕ → Type 0
-Byte b = b < 256
 
 -- Answers: what was got is one thing, and a step that gives something was not refused
 pub got-is : {A : Type 0} {x y : A} → got x ≡ got y → x ≡ y

@@ -8,13 +8,12 @@ use mathlib.Core.Option.{Option, none, some, Option·some-injective, Option·non
 use native.Mathlib.Omega.{arith}
 use lib.ListN.{length, take, replicate, getElem?, length-append, length-replicate}
 use lib.Dec.{eqb, eqb→eq, T}
-use Rattle.meaning.specs.Basics.{choose, upTo, every, All, _∈_, Distinct, isSome}
+use Rattle.meaning.specs.Basics.{choose, upTo, every, All, _∈_, Distinct, isSome, Ordered, empty}
 use Rattle.meaning.specs.Term.{nil, cons, size, one, Terms, Term}
 use Rattle.meaning.specs.Equal.{View}
 use Rattle.meaning.specs.Problem.{Problem, placesOf, functions}
 use Rattle.meaning.specs.Face.{Face, faces}
 use Rattle.meaning.specs.Choice.{Mark, Marks, Owner, below, viewsFrom, views, usesFace, setSize, Apart, Choice, Earlier}
-use Rattle.meaning.specs.Difference.{Ordered, empty}
 use Rattle.meaning.specs.Choices.{isPlace, chosen, sameOwned, allSame, fitsPlace, areApart, isChoice, allMarks, choices}
 use Rattle.meaning.specs.Row.{Row, faceOf, ChoiceEach, IsRow, EarlierRow}
 use Rattle.meaning.specs.Rows.{rowsOver, rows}
@@ -275,4 +274,4 @@ pub rows-are : (p : Problem) (r : Row) → (r ∈ rows p) ↔ IsRow p r
 unfolding rows
 rows-are p r =
     let q = over-are p (faces p) r in
-    (λ m. let h = q .0 m in record { agree = h .0; choice = h .1 }, λ h. q .1 (h .agree, h .choice))
+    (λ m. let h = q .0 m in record { hasRows = h .0; choice = h .1 }, λ h. q .1 (h .hasRows, h .choice))

@@ -7,11 +7,11 @@ use mathlib.Core.List.{List}
 use mathlib.Core.Option.{none, some}
 use native.Mathlib.Omega.{arith}
 use lib.ListN.{getElem?}
-use Rattle.meaning.specs.Basics.{_∈_}
+use Rattle.meaning.specs.Basics.{_∈_, Ordered}
 use Rattle.meaning.specs.Term.{Term}
 use Rattle.meaning.specs.Problem.{Problem}
 use Rattle.meaning.specs.Choice.{Mark, Marks, Choice, Before, Earlier}
-use Rattle.meaning.specs.Difference.{Ordered, FirstDifference, ByFirst, HasNode, Compared}
+use Rattle.meaning.specs.Difference.{FirstDifference, ByFirst, HasNode, Compared}
 use Rattle.meaning.specs.Choices.{choices}
 use Rattle.meaning.specs.Row.{Row, IsRow, EarlierRow}
 use Rattle.meaning.specs.Rows.{rows}

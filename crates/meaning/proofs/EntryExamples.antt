@@ -1,29 +1,37 @@
--- The entry points on document 01's first example, (P(X), s), and on (∀x.P(x), ∀y.y), one of whose two rows is no solution row: every kind
--- of
--- answer, and every refusal from 15 on.
+-- The entry points on document 01's first example, (P(X), s), and on (∀x.P(x), ∀y.y), one of whose two rows is no solution row: every
+-- kind of answer, and every refusal from 15 on.
 use mathlib.Core.Path.{_≡_, refl, ap, sym, _∙_, subst}
-use mathlib.Core.Logic.{_⊎_, inl, inr, ⊎-elim}
+use mathlib.Core.Logic.{_⊎_, _↔_, inl, inr, ⊎-elim}
 use Prim.Native.Nat.{ℕ}
 use mathlib.Core.Bool.{Bool, true, false, true≢false}
 use mathlib.Core.List.{List, [], _∷_, _++_, List·Memᴰ·head, List·Memᴰ·tail, List·Memᴰ·cases-cons, List·Memᴰ·not-nil}
 use mathlib.Core.Option.{none, some}
 use native.Mathlib.Omega.{arith}
 use lib.ListN.{getD, replicate}
+use lib.Dec.{ltb}
+use borrow.Author.Tests.{ltb-true}
 use Rattle.meaning.specs.Limits.{maxFunctions, maxFaceNodes}
-use Rattle.meaning.specs.Basics.{All, _∈_, Bytes}
+use Rattle.meaning.specs.Basics.{All, _∈_, Bytes, each, every, Byte}
 use Rattle.meaning.specs.Problem.{Problem}
-use Rattle.meaning.specs.Row.{Row}
+use Rattle.meaning.specs.Row.{Row, SolutionRow}
 use Rattle.meaning.specs.Rows.{rows}
+use Rattle.meaning.specs.Candidate.{solves}
 use Rattle.meaning.specs.Read.{Answer, refused, got}
 use Rattle.meaning.specs.Accept.{accept}
-use Rattle.meaning.specs.Search.{Place, at, past, found, end, refusedCall, finds, ends}
-use Rattle.meaning.specs.PlaceValue.{maskOf, PlaceValue, masksOf, placeValue, Names}
+use Rattle.meaning.specs.Search.{Place, at, past, placeOf, start, found, end, refusedCall, finds, ends}
+use Rattle.meaning.specs.PlaceValue.{maskOf, PlaceValue, masksOf, placeValue, IsPlace, Names}
 use Rattle.meaning.specs.Passing.{passes}
-use Rattle.meaning.specs.Entry.{SearchCall, notAccepted, noAllowance, noSuchPlace, searches, WriteCall, noSuchRow, noSolutionRow}
-use Rattle.meaning.specs.Entry.{tooShort, writes, checkCall}
+use Rattle.meaning.specs.Entry.{HostReply, SearchCall, notAccepted, onAccepted, noAllowance, noSuchPlace, searches, WriteCall, noSuchRow}
+use Rattle.meaning.specs.Entry.{noSolutionRow, tooShort, writes, checkOn, checkCall}
+use Rattle.meaning.specs.Calls.{Carried, HostCall}
+use Rattle.meaning.specs.Program.{Lines, Output, allowance, ascii, decimal, ended, hexadecimal, lists, more, mostPrinted, refuses}
+use Rattle.meaning.specs.Program.{solution}
 use Rattle.meaning.specs.Case.{oneSymbol, onlyBound}
 use Rattle.meaning.specs.Starred.{hex}
+use Rattle.meaning.proofs.Lists.{all-mem, every-all, mem-all, true-T}
 use Rattle.meaning.proofs.ChoiceLaws.{rows-are}
+use Rattle.meaning.proofs.ProblemReading.{accept-accepted}
+use Rattle.meaning.proofs.Solutions.{solves-is-right}
 use Rattle.meaning.proofs.Computed.{accepts, texts, reads}
 
 abbrev one : Bytes
@@ -61,6 +69,42 @@ rows-two : rows q ≡ holeRow ∷ bareRow ∷ []
 unfolding texts
 rows-two = refl
 
+abbrev bothRows : List Row
+bothRows = holeRow ∷ bareRow ∷ []
+
+-- Which of them are solution rows, by the test of a row
+by-bytes : (s : Bytes) → every (λ b. ltb b 256) s ≡ true → All Byte s
+by-bytes s t =
+    mem-all Byte s (λ b m. ltb-true b 256 (all-mem (λ x. ltb x 256 ≡ true) b s (every-all (λ x. ltb x 256) s (true-T t)) m))
+
+module _ (s : Bytes) (p : Problem) (isBytes : every (λ b. ltb b 256) s ≡ true) (e : accept s ≡ got p) (r : Row) (m : r ∈ rows p) where
+  right : (solves p r ≡ true) ↔ SolutionRow p r
+  right = solves-is-right p r (accept-accepted s p (by-bytes s isBytes) e .0) m
+
+  is-solution : solves p r ≡ true → SolutionRow p r
+  is-solution = right .0
+
+  no-solution : solves p r ≡ false → SolutionRow p r → ⊥
+  no-solution f x = true≢false (sym (right .1 x) ∙ f)
+
+hole-in : (p : Problem) → rows p ≡ bothRows → holeRow ∈ rows p
+hole-in p e = subst (λ (l : List Row). holeRow ∈ l) (sym e) (List·Memᴰ·head refl)
+
+bare-in : (p : Problem) → rows p ≡ bothRows → bareRow ∈ rows p
+bare-in p e = subst (λ (l : List Row). bareRow ∈ l) (sym e) (List·Memᴰ·tail (List·Memᴰ·head refl))
+
+hole-solves : SolutionRow p holeRow
+unfolding texts
+hole-solves = is-solution one p refl one-accepted holeRow (hole-in p rows-one) refl
+
+bare-solves : SolutionRow p bareRow
+unfolding texts
+bare-solves = is-solution one p refl one-accepted bareRow (bare-in p rows-one) refl
+
+bare-other : SolutionRow q bareRow → ⊥
+unfolding texts
+bare-other = no-solution two q refl two-accepted bareRow (bare-in q rows-two) refl
+
 -- Their values: "node set as a 64-bit mask", node 0 the highest bit
 abbrev valueWith : ℕ → PlaceValue
 valueWith mask = record { masks = mask ∷ 0 ∷ 0 ∷ 0 ∷ 0 ∷ 0 ∷ 0 ∷ 0 ∷ []; isPast = false }
@@ -84,11 +128,10 @@ named-in : (p : Problem) (r : Row) (v : PlaceValue) → r ∈ rows p → placeVa
 named-in p r v m e = record { isPlace = rows-are p r .0 m; isValue = sym e }
 
 hole-named : Names p (valueWith 0x8000000000000000) (at holeRow)
-hole-named = named-in p holeRow _ (subst (λ (l : List Row). holeRow ∈ l) (sym rows-one) (List·Memᴰ·head refl)) hole-value
+hole-named = named-in p holeRow _ (hole-in p rows-one) hole-value
 
-bare-named : (p : Problem) → rows p ≡ holeRow ∷ bareRow ∷ [] → Names p (valueWith 0) (at bareRow)
-bare-named p e =
-    named-in p bareRow _ (subst (λ (l : List Row). bareRow ∈ l) (sym e) (List·Memᴰ·tail (List·Memᴰ·head refl))) bare-value
+bare-named : (p : Problem) → rows p ≡ bothRows → Names p (valueWith 0) (at bareRow)
+bare-named p e = named-in p bareRow _ (bare-in p e) bare-value
 
 -- A mask of a node that the face does not have names nothing
 first-mask : {v w : PlaceValue} → v ≡ w → getD (v .masks) 0 0 ≡ getD (w .masks) 0 0
@@ -114,25 +157,25 @@ nowhere (at r) n =
 pub first-found : SearchCall one (valueWith 0x8000000000000000) 1 (found (valueWith 0x8000000000000000) (valueWith 0))
 unfolding texts placeValue masksOf maskOf maxFunctions maxFaceNodes
 first-found =
-    searches p one-accepted (omega arith) (at holeRow) hole-named (holeRow ∷ bareRow ∷ [])
-    (record { before = []; whole = rows-one; begins = refl })
-    (finds [] holeRow (bareRow ∷ []) tt refl (omega arith))
+    onAccepted p one-accepted
+    (searches (omega arith) (at holeRow) hole-named bothRows (record { before = []; whole = rows-one; begins = refl })
+    (finds [] holeRow (bareRow ∷ []) tt hole-solves (omega arith)))
 
 -- "End: none there; the place is past the last"
 pub end-found : SearchCall one pastValue 1 (end pastValue)
 unfolding texts placeValue maxFunctions
 end-found =
-    searches p one-accepted (omega arith) past (record { isPlace = tt; isValue = refl }) []
-    (record { before = holeRow ∷ bareRow ∷ []; whole = rows-one; begins = refl })
-    (ends [] tt (omega arith))
+    onAccepted p one-accepted
+    (searches (omega arith) past (record { isPlace = tt; isValue = refl }) [] (record { before = bothRows; whole = rows-one; begins = refl })
+    (ends [] tt (omega arith)))
 
 -- ... also where n is one and the one row left is no solution row
 pub last-row : SearchCall two (valueWith 0) 1 (end pastValue)
 unfolding texts placeValue maxFunctions
 last-row =
-    searches q two-accepted (omega arith) (at bareRow) (bare-named q rows-two) (bareRow ∷ [])
-    (record { before = holeRow ∷ []; whole = rows-two; begins = refl })
-    (ends (bareRow ∷ []) (refl, tt) (omega arith))
+    onAccepted q two-accepted
+    (searches (omega arith) (at bareRow) (bare-named q rows-two) (bareRow ∷ [])
+    (record { before = holeRow ∷ []; whole = rows-two; begins = refl }) (ends (bareRow ∷ []) (bare-other, tt) (omega arith)))
 
 -- 1 to 14 come first, then "15 n is 0; 16 no such place"
 pub refused-first : SearchCall (7 ∷ []) (valueWith 1) 0 (refusedCall 2)
@@ -140,10 +183,10 @@ unfolding accepts
 refused-first = notAccepted 2 refl
 
 pub fifteen-first : SearchCall one (valueWith 1) 0 (refusedCall 15)
-fifteen-first = noAllowance p one-accepted refl
+fifteen-first = onAccepted p one-accepted (noAllowance refl)
 
 pub sixteen : SearchCall one (valueWith 1) 1 (refusedCall 16)
-sixteen = noSuchPlace p one-accepted (omega arith) nowhere
+sixteen = onAccepted p one-accepted (noSuchPlace (omega arith) nowhere)
 
 -- Writing: 16, "past the last included"; 17; 18; and a text before a byte that stays
 row-flag : (r : Row) → placeValue (at r) .isPast ≡ false
@@ -152,19 +195,19 @@ row-flag r = refl
 
 pub past-not-written : WriteCall one pastValue (0 ∷ []) (refused 16) (0 ∷ [])
 past-not-written =
-    noSuchRow p one-accepted (λ r n. true≢false (ap (λ (v : PlaceValue). v .isPast) (n .isValue) ∙ row-flag r))
+    onAccepted p one-accepted (noSuchRow (λ r n. true≢false (ap (λ (v : PlaceValue). v .isPast) (n .isValue) ∙ row-flag r)))
 
 pub seventeen : WriteCall two (valueWith 0) (0 ∷ []) (refused 17) (0 ∷ [])
 unfolding texts
-seventeen = noSolutionRow q two-accepted bareRow (bare-named q rows-two) refl
+seventeen = onAccepted q two-accepted (noSolutionRow bareRow (bare-named q rows-two) bare-other)
 
 pub eighteen : WriteCall one (valueWith 0) (replicate 12 0) (refused 18) (replicate 12 0)
 unfolding texts
-eighteen = tooShort p one-accepted bareRow (bare-named p rows-one) refl (omega arith)
+eighteen = onAccepted p one-accepted (tooShort bareRow (bare-named p rows-one) bare-solves (omega arith))
 
 pub written : WriteCall one (valueWith 0) (replicate 14 0) (got 13) (hex 13 0x0900060001000200050B000101 ++ (0 ∷ []))
 unfolding texts
-written = writes p one-accepted bareRow (bare-named p rows-one) refl (omega arith)
+written = onAccepted p one-accepted (writes bareRow (bare-named p rows-one) bare-solves (omega arith))
 
 -- Checking
 pub record Verdict : Type 0 where
@@ -211,7 +254,7 @@ abbrev pub IsSaid : Verdict → Type 0
 IsSaid v = checkCall (v .input) (v .text) ≡ v .answer
 
 pub verdicts-hold : All IsSaid verdicts
-unfolding accepts reads passes checkCall
+unfolding accepts reads passes checkCall checkOn
 verdicts-hold =
     (refl, (refl, (refl, (refl, (refl, (refl, (refl, (refl, (refl, (refl, (refl, (refl, (refl, (refl, (refl, (refl, (refl, tt)))))))))))))))))
 
@@ -233,7 +276,7 @@ bothWaysVerdicts =
     ∷ []
 
 pub both-ways-said : All IsSaid bothWaysVerdicts
-unfolding accepts reads passes checkCall
+unfolding accepts reads passes checkCall checkOn
 both-ways-said = (refl, (refl, (refl, (refl, (refl, (refl, (refl, tt)))))))
 
 -- A problem without rows, (a, b): no masks name a row of it, empty ones neither
@@ -246,4 +289,65 @@ apart = hex 13 0x07000A01000200060100020007
 
 pub no-rows-no-place : (p : Problem) × (accept apart ≡ got p) × (rows p ≡ []) × SearchCall apart (valueWith 0) 1 (refusedCall 16)
 unfolding accepts texts
-no-rows-no-place = (_, refl, refl, noSuchPlace _ refl (omega arith) (no-row-named _ 0 refl))
+no-rows-no-place = (_, refl, refl, onAccepted _ refl (noSuchPlace (omega arith) (no-row-named _ 0 refl)))
+
+-- The program, on the first example: "`readings` prints in full"
+abbrev called : HostReply → HostCall
+called reply = record { allowance = allowance; reply = reply }
+
+abbrev threeCalls : List HostCall
+threeCalls =
+    called (found (placeValue (at holeRow)) (placeValue (at bareRow)))
+    ∷ called (found (placeValue (at bareRow)) (placeValue past))
+    ∷ called (end (placeValue past))
+    ∷ []
+
+three-called : Carried one p threeCalls
+unfolding allowance
+three-called = record {
+  accepted = one-accepted;
+  run = (
+    onAccepted p one-accepted
+        (searches (omega arith) (start p) (record { isPlace = starts; isValue = refl }) bothRows
+        (record { before = []; whole = rows-one; begins = first }) (finds [] holeRow (bareRow ∷ []) tt hole-solves (omega arith))),
+    (
+      onAccepted p one-accepted
+          (searches (omega arith) (at bareRow) (record { isPlace = rows-are p bareRow .0 (bare-in p rows-one); isValue = refl })
+          (bareRow ∷ []) (record { before = holeRow ∷ []; whole = rows-one; begins = refl })
+          (finds [] bareRow [] tt bare-solves (omega arith))),
+      (
+        onAccepted p one-accepted
+            (searches (omega arith) past (record { isPlace = tt; isValue = refl }) []
+            (record { before = bothRows; whole = rows-one; begins = refl }) (ends [] tt (omega arith))),
+        tt,
+      ),
+    ),
+  );
+}
+  where
+    first : start p ≡ at holeRow
+    first = ap (λ (rs : List Row). placeOf rs) rows-one
+
+    starts : IsPlace p (start p)
+    starts = subst (IsPlace p) (sym first) (rows-are p holeRow .0 (hole-in p rows-one))
+
+pub prints-in-full : (lines : List Bytes) × Output one lines × (each (λ (line : Bytes). line) lines
+    ≡ ascii "solution 1:090004000A0000080006010100020005\nsolution 2:0900060001000200050B000101\nend 2\n")
+unfolding texts decimal hexadecimal mostPrinted
+prints-in-full = (
+  _,
+  lists p threeCalls three-called (refl, (refl, (refl, tt)))
+      (solution {k = 0} holeRow (omega arith) (record { isPlace = rows-are p holeRow .0 (hole-in p rows-one); isValue = refl })
+      (solution {k = 1} bareRow (omega arith) (record { isPlace = rows-are p bareRow .0 (bare-in p rows-one); isValue = refl }) ended)),
+  refl,
+)
+
+-- "or `refused N` (the number)"
+pub prints-refused : (lines : List Bytes) × Output (7 ∷ []) lines × (each (λ (line : Bytes). line) lines ≡ ascii "refused 2\n")
+unfolding accepts decimal
+prints-refused = (_, refuses 2 refl, refl)
+
+-- "`more 1000` in place of a 1,001st"
+pub prints-more : Lines p mostPrinted (found pastValue pastValue ∷ []) (ascii "more 1000\n" ∷ [])
+unfolding decimal mostPrinted
+prints-more = more

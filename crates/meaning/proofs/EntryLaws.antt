@@ -7,10 +7,10 @@ use mathlib.Core.Bool.{true}
 use mathlib.Core.List.{List}
 use lib.ListN.{take}
 use lib.Seq.{take-at}
-use Rattle.meaning.specs.Basics.{All, _∈_, Bytes}
+use Rattle.meaning.specs.Basics.{All, _∈_, Bytes, Byte}
 use Rattle.meaning.specs.Problem.{Problem}
 use Rattle.meaning.specs.Solution.{Solution}
-use Rattle.meaning.specs.Row.{Row, IsRow}
+use Rattle.meaning.specs.Row.{Row, IsRow, SolutionRow}
 use Rattle.meaning.specs.Rows.{rows}
 use Rattle.meaning.specs.Candidate.{solves}
 use Rattle.meaning.specs.Read.{Answer, after, got}
@@ -21,18 +21,20 @@ use Rattle.meaning.specs.Textual.{AlphaText}
 use Rattle.meaning.specs.Passing.{passes}
 use Rattle.meaning.specs.Search.{at}
 use Rattle.meaning.specs.PlaceValue.{PlaceValue, placeValue, Names}
-use Rattle.meaning.specs.Entry.{rowText, WriteCall, notAccepted, noSuchRow, noSolutionRow, tooShort, writes, checkCall}
-use Rattle.meaning.proofs.ByteLaws.{Byte, by-got, got-is, refused-not}
+use Rattle.meaning.specs.Entry.{rowText, WriteOn, WriteCall, notAccepted, onAccepted, noSuchRow, noSolutionRow, tooShort, writes}
+use Rattle.meaning.specs.Entry.{checkOn, checkCall}
+use Rattle.meaning.proofs.ByteLaws.{by-got, got-is, refused-not}
 use Rattle.meaning.proofs.ChoiceLaws.{rows-are}
 use Rattle.meaning.proofs.ProblemReading.{accept-accepted}
+use Rattle.meaning.proofs.Solutions.{solves-is-right}
 use Rattle.meaning.proofs.SecondDemand.{text-read-back, text-passes, Written, solution-written}
 use Rattle.meaning.proofs.PassLaws.{passes-is-right}
 use Rattle.meaning.proofs.AlphaTexts.{same-filling}
 
 pub check-read : (s text : Bytes) (p : Problem) (is : List Item) → accept s ≡ got p → readText text ≡ got is
     → checkCall s text ≡ got (passes p is)
-unfolding checkCall
-check-read s text p is a r = rw (a, r)
+unfolding checkCall checkOn
+check-read s text p is a r = ap (λ (x : Answer Problem). after x (λ q. checkOn q text)) a ∙ rw r
 
 -- THE CHECKER SAYS YES exactly to the texts that pass
 pub check-is-right : (s text : Bytes) (p : Problem) (is : List Item) → accept s ≡ got p → readText text ≡ got is
@@ -50,23 +52,23 @@ pub record WrittenText (s : Bytes) (v : PlaceValue) (n : ℕ) (after : Bytes) : 
   pub text : take n after ≡ rowText problem row
   pub yes : checkCall s (take n after) ≡ got true
 
-row-text-passes : (s : Bytes) (p : Problem) (r : Row) → All Byte s → accept s ≡ got p → IsRow p r → solves p r ≡ true
+row-text-passes : (s : Bytes) (p : Problem) (r : Row) → All Byte s → accept s ≡ got p → IsRow p r → SolutionRow p r
     → checkCall s (rowText p r) ≡ got true
-row-text-passes s p r b e i h =
+row-text-passes s p r b e i x =
     let a : Accepted p = accept-accepted s p b e .0 in
     let m : r ∈ rows p = rows-are p r .1 i in
+    let h : solves p r ≡ true = solves-is-right p r a m .1 x in
     check-is-right s (rowText p r) p (textOf p r) e (text-read-back p r a m h) .1 (text-passes p r a m h)
 
 pub written-passes : (s : Bytes) (v : PlaceValue) (buffer after : Bytes) (n : ℕ)
     → All Byte s → WriteCall s v buffer (got n) after → WrittenText s v n after
-written-passes s v buffer after n b w = go w refl
+written-passes s v buffer after n b (onAccepted p e w) = go w refl
   where
-    go : {a : Answer ℕ} {end : Bytes} → WriteCall s v buffer a end → a ≡ got n → WrittenText s v n end
-    go (notAccepted q e) z = absurd (refused-not z)
-    go (noSuchRow p e none) z = absurd (refused-not z)
-    go (noSolutionRow p e q m h) z = absurd (refused-not z)
-    go (tooShort p e q m h l) z = absurd (refused-not z)
-    go (writes p e r m h l) z =
+    go : {a : Answer ℕ} {end : Bytes} → WriteOn p v buffer a end → a ≡ got n → WrittenText s v n end
+    go (noSuchRow none) z = absurd (refused-not z)
+    go (noSolutionRow q m h) z = absurd (refused-not z)
+    go (tooShort q m h l) z = absurd (refused-not z)
+    go (writes r m h l) z =
         let front = take-at (rowText p r) _ n (got-is z) in
         record {
           problem = p;
@@ -82,19 +84,20 @@ pub record RowOfText (p : Problem) (is : List Item) : Type 0 where
   pub row : Row
   pub value : PlaceValue
   pub named : Names p value (at row)
-  pub isSolutionRow : solves p row ≡ true
+  pub isSolutionRow : SolutionRow p row
   pub sameFilling : said (textOf p row) ≡ said is
 
 pub passing-written : (s text : Bytes) (p : Problem) (is : List Item)
     → All Byte s → accept s ≡ got p → readText text ≡ got is → checkCall s text ≡ got true → RowOfText p is
 passing-written s text p is b e r h =
     let x : Passes p is = check-is-right s text p is e r .0 h in
-    let w : Written p (said is) = solution-written p (said is) (accept-accepted s p b e .0) x in
+    let a : Accepted p = accept-accepted s p b e .0 in
+    let w : Written p (said is) = solution-written p (said is) a x in
     record {
       row = w .row;
       value = placeValue (at (w .row));
       named = record { isPlace = rows-are p (w .row) .0 (w .isRow); isValue = refl };
-      isSolutionRow = w .isSolutionRow;
+      isSolutionRow = solves-is-right p (w .row) a (w .isRow) .0 (w .isSolutionRow);
       sameFilling = w .says;
     }
 
@@ -113,9 +116,10 @@ pub record PassingTexts (s text text′ : Bytes) : Type 0 where
 -- What a yes rests on: a problem that is accepted, and a text that can be read
 yes-read : (s text : Bytes) (p : Problem) → accept s ≡ got p → checkCall s text ≡ got true
     → (is : List Item) × (readText text ≡ got is) × Solution p (said is)
-unfolding checkCall
+unfolding checkCall checkOn
 yes-read s text p a y =
-    by-got (readText text) (λ is. got (passes p is)) (rw a at y) (λ is r e. (is, r, passes-is-right p is .0 (got-is e)))
+    by-got (readText text) (λ is. got (passes p is)) (sym (ap (λ (x : Answer Problem). after x (λ q. checkOn q text)) a) ∙ y)
+    (λ is r e. (is, r, passes-is-right p is .0 (got-is e)))
 
 pub passing-texts : (s text text′ : Bytes) → All Byte text → All Byte text′ → checkCall s text ≡ got true → checkCall s text′ ≡ got true
     → PassingTexts s text text′

@@ -10,11 +10,10 @@ use mathlib.Core.List.{List, [], _∷_, List·Memᴰ·head, List·Memᴰ·tail, 
 use native.Mathlib.Omega.{arith}
 use lib.Dec.{eqb, ltb}
 use borrow.Author.Tests.{ltb-true, lt-ltb}
-use Rattle.meaning.specs.Basics.{Bytes, Distinct, _∈_}
+use Rattle.meaning.specs.Basics.{Bytes, Distinct, _∈_, Ordered, empty, more}
 use Rattle.meaning.specs.Filling.{absent}
 use Rattle.meaning.specs.Read.{got}
 use Rattle.meaning.specs.Text.{Item, meant, numbers, readText, rises, risesAfter, said}
-use Rattle.meaning.specs.Difference.{Ordered, empty, more}
 use Rattle.meaning.proofs.Lists.{T-true, true-T, and-T, T-and, choose-true, choose-false, eqb-other}
 use Rattle.meaning.proofs.Ordered.{ordered-distinct}
 use Rattle.meaning.proofs.TextReading.{text-rises}

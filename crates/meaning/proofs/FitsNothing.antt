@@ -9,7 +9,7 @@ use native.Mathlib.Omega.{arith}
 use lib.ListN.{length, length-append}
 use borrow.Author.Tests.{le-ltb}
 use Rattle.meaning.specs.Limits.{maxFunctions}
-use Rattle.meaning.specs.Basics.{All, Bytes, _∈_, keep}
+use Rattle.meaning.specs.Basics.{All, Bytes, _∈_, keep, Byte}
 use Rattle.meaning.specs.Problem.{Problem, bothWays, functions}
 use Rattle.meaning.specs.Filling.{Filling}
 use Rattle.meaning.specs.Solution.{Solution}
@@ -24,14 +24,14 @@ use Rattle.meaning.specs.Passing.{passes}
 use Rattle.meaning.specs.Search.{Keeps, Place, Reply, end, ends, finds, past, pauses, placeOf}
 use Rattle.meaning.specs.PlaceValue.{PlaceValue, placeValue}
 use Rattle.meaning.specs.Entry.{HostReply, SearchCall, WriteCall, checkCall, replyValue, startCall}
-use Rattle.meaning.proofs.ByteLaws.{Byte}
 use Rattle.meaning.proofs.Lists.{by-test, choose-false}
+use Rattle.meaning.proofs.ProblemReading.{accept-accepted}
 use Rattle.meaning.proofs.ChoiceLaws.{rows-are}
 use Rattle.meaning.proofs.OneWay.{no-faces}
 use Rattle.meaning.proofs.AgreeLaws.{both-ways-no-rows}
 use Rattle.meaning.proofs.PlaceLaws.{not-large}
-use Rattle.meaning.proofs.OneCall.{when-placed}
-use Rattle.meaning.proofs.WriteLaws.{when-nowhere}
+use Rattle.meaning.proofs.OneCall.{search-on, when-placed}
+use Rattle.meaning.proofs.WriteLaws.{when-nowhere, write-on}
 use Rattle.meaning.proofs.PassLaws.{passes-is-right}
 use Rattle.meaning.proofs.EntryLaws.{check-read}
 
@@ -60,8 +60,8 @@ pub record FitsNothing (s : Bytes) (p : Problem) : Type 0 where
   pub checked : (text : Bytes) (is : List Item) → readText text ≡ got is → checkCall s text ≡ got false
 
 -- Of no rows a call finds none, and has none to pause at
-keeps-none : {R : Type 0} {isSolution : R → Bool} {n : ℕ} {from : List R} {reply : Reply R (Place R)}
-    → from ≡ [] → Keeps isSolution n from reply → reply ≡ end past
+keeps-none : {R : Type 0} {IsSolution : R → Type 0} {n : ℕ} {from : List R} {reply : Reply R (Place R)}
+    → from ≡ [] → Keeps IsSolution n from reply → reply ≡ end past
 keeps-none e (finds skipped r later a h l) = absurd (omega (arith, ap length e, length-append skipped (r ∷ later)))
 keeps-none e (ends from a l) = refl
 keeps-none e (pauses passed r later a l) = absurd (omega (arith, ap length e, length-append passed (r ∷ later)))
@@ -86,10 +86,10 @@ fits-nothing s p b a e = record {
   noneListed = none-listed p none;
   starts = starts-past s p a none;
   searched = λ n reply l call.
-      let (given, keeps, same) = when-placed s (placeValue past) n p past [] b a l (record { isPlace = tt; isValue = refl })
-      (record { before = []; whole = none; begins = refl }) call in
+      let (given, keeps, same) = when-placed p (placeValue past) n past [] (accept-accepted s p b a .0) l
+      (record { isPlace = tt; isValue = refl }) (record { before = []; whole = none; begins = refl }) (search-on p a call) in
       same ∙ ap replyValue (keeps-none refl keeps);
-  written = λ v buffer after answer w. when-nowhere s v buffer p a (λ r n. no-row r (n .isPlace)) w;
+  written = λ v buffer after answer w. when-nowhere p v buffer (λ r n. no-row r (n .isPlace)) (write-on p a w);
   checked = λ text is r. check-read s text p is a r ∙ ap got (none-passes p is no-solution);
 }
   where

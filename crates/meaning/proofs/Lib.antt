@@ -31,6 +31,7 @@ pub mod Sources
 pub mod Candidate
 pub mod RowBodies
 pub mod Solutions
+pub mod FullListLaws
 -- Fields in number order, and texts that differ only in bound names
 pub mod FieldOrder
 pub mod AlphaTexts
@@ -56,6 +57,9 @@ pub mod CallLaws
 pub mod WriteLaws
 pub mod EntryLaws
 pub mod FitsNothing
+pub mod GivenLaws
+pub mod ProgramLaws
+pub mod PrintedLaws
 -- Examples
 pub mod Computed
 pub mod Examples

@@ -10,7 +10,7 @@ use lib.ListN.{length, getD, length-append}
 use lib.Dec.{eqb, ltb}
 use borrow.Author.Tests.{ltb-true, ltb-false, lt-ltb, le-ltb, eqb-true, eqb-false, ne-eqb}
 use Rattle.meaning.specs.Limits.{firstWide, metavariableCount}
-use Rattle.meaning.specs.Basics.{All, Bytes}
+use Rattle.meaning.specs.Basics.{All, Bytes, Byte}
 use Rattle.meaning.specs.Term.{Forest, nil, cons, graft, one, trees, symbol, variable, application, binder, own, slot, metavariable}
 use Rattle.meaning.specs.Term.{function, hole, Named, NamedTerm}
 use Rattle.meaning.specs.Field.{word, field, tagOf, symbolBytes, fixedPart, encode}
@@ -19,7 +19,7 @@ use Rattle.meaning.specs.Read.{applicationKind, binderKind, metavariable
 use Rattle.meaning.specs.Read.{holeIn, kindOf, wordAt, longAt, partsOf, Head, headOf, Content, leaf, over, many, contentOf}
 use Rattle.meaning.specs.Readable.{MetavariableAt, FunctionAt, HoleAt, NodeFits}
 use Rattle.meaning.proofs.Lists.{all-append}
-use Rattle.meaning.proofs.ByteLaws.{Byte, got-is, refused-not, by-got, unless-got, when-got, by-choice, none-left, one-byte}
+use Rattle.meaning.proofs.ByteLaws.{got-is, refused-not, by-got, unless-got, when-got, by-choice, none-left, one-byte}
 use Rattle.meaning.proofs.ByteLaws.{first-byte, exact-word, two-words, word-value, word-bytes, parts-field, field-parts, field-some}
 use Rattle.meaning.proofs.ByteLaws.{by-width, narrow-bytes, wide-bytes, long-value, exact-long, symbol-bytes}
 

@@ -1,26 +1,26 @@
 -- One search call: it always has a reply that it may give, and is free only in how far a pause goes.
 --   Alike   two replies that differ at most in how far a pause goes
 use mathlib.Core.Path.{_≡_, refl, ap, sym, _∙_, subst}
-use mathlib.Core.Logic.{_⊎_, inl, inr}
+use mathlib.Core.Logic.{_⊎_, inl, inr, _↔_}
 use Prim.Native.Nat.{ℕ, zero, suc, _<_}
-use mathlib.Core.Bool.{Bool, true, false, true≢false}
-use mathlib.Core.List.{List, [], _∷_, _++_, append-nil, List·Memᴰ·head, Memᴰ·append-right}
+use mathlib.Core.List.{List, [], _∷_, _++_, append-nil, List·Memᴰ·head, Memᴰ·append-left, Memᴰ·append-right}
 use native.Mathlib.Omega.{arith}
 use lib.ListN.{length, length-append}
-use Rattle.meaning.specs.Basics.{All, Distinct, _∈_, Bytes}
+use Rattle.meaning.specs.Basics.{All, Distinct, _∈_, Bytes, Byte}
 use Rattle.meaning.specs.Problem.{Problem}
-use Rattle.meaning.specs.Row.{Row}
+use Rattle.meaning.specs.Row.{Row, SolutionRow}
 use Rattle.meaning.specs.Rows.{rows}
-use Rattle.meaning.specs.Candidate.{solves}
 use Rattle.meaning.specs.Read.{Answer, refused, got}
+use Rattle.meaning.specs.Readable.{Accepted}
 use Rattle.meaning.specs.Accept.{accept}
 use Rattle.meaning.specs.Search.{Place, at, past, placeOf, Reply, found, end, paused, refusedCall, Keeps, finds, ends, pauses, From}
-use Rattle.meaning.specs.PlaceValue.{PlaceValue, Names}
-use Rattle.meaning.specs.Entry.{HostReply, replyValue, SearchCall, notAccepted, noAllowance, noSuchPlace, searches}
-use Rattle.meaning.proofs.Lists.{never, by-test}
-use Rattle.meaning.proofs.ByteLaws.{Byte, got-is, refused-not}
+use Rattle.meaning.specs.PlaceValue.{PlaceValue, Names, placeValue}
+use Rattle.meaning.specs.Entry.{HostReply, replyValue, SearchOn, SearchCall, notAccepted, onAccepted, noAllowance, noSuchPlace, searches}
+use Rattle.meaning.proofs.Lists.{never, all-mem, mem-all}
+use Rattle.meaning.proofs.ByteLaws.{got-is, refused-not}
 use Rattle.meaning.proofs.ProblemReading.{accept-accepted}
-use Rattle.meaning.proofs.ChoiceLaws.{rows-once}
+use Rattle.meaning.proofs.ChoiceLaws.{rows-are, rows-once}
+use Rattle.meaning.proofs.Solutions.{solution-row-told}
 use Rattle.meaning.proofs.PlaceLaws.{value-names-one, named-place, rows-from}
 
 pub data Alike {R P : Type 0} : Reply R P → Reply R P → Type 0 where
@@ -50,30 +50,30 @@ one-suffix rs place (x ∷ xs) (y ∷ ys) d f g =
     cc
 
 -- Replies over the rows from a place on
-module _ {R : Type 0} (isSolution : R → Bool) where
+module _ {R : Type 0} (IsSolution : R → Type 0) where
   -- Two ways to split a list at its first solution row are one
   same-first : (xs ys : List R) (r s : R) (later later′ : List R)
-      → All (λ x. isSolution x ≡ false) xs
-      → All (λ x. isSolution x ≡ false) ys
-      → isSolution r ≡ true
-      → isSolution s ≡ true
+      → All (λ x. IsSolution x → ⊥) xs
+      → All (λ x. IsSolution x → ⊥) ys
+      → IsSolution r
+      → IsSolution s
       → xs ++ (r ∷ later) ≡ ys ++ (s ∷ later′)
       → (r ≡ s) × (later ≡ later′)
   same-first [] [] r s later later′ a b h g e = (cc, cc)
-  same-first [] (y ∷ ys) r s later later′ a b h g e = absurd (true≢false (cc (b .0)))
-  same-first (x ∷ xs) [] r s later later′ a b h g e = absurd (true≢false (cc (a .0)))
+  same-first [] (y ∷ ys) r s later later′ a b h g e = absurd (b .0 (subst IsSolution (cc) h))
+  same-first (x ∷ xs) [] r s later later′ a b h g e = absurd (a .0 (subst IsSolution (cc) g))
   same-first (x ∷ xs) (y ∷ ys) r s later later′ a b h g e = same-first xs ys r s later later′ (a .1) (b .1) h g (cc)
 
   -- No solution row stands among rows that are none
   not-among : (xs ys : List R) (r : R) (later later′ : List R)
-      → All (λ x. isSolution x ≡ false) ys → isSolution r ≡ true → length xs < length ys → xs ++ (r ∷ later) ≡ ys ++ later′ → ⊥
+      → All (λ x. IsSolution x → ⊥) ys → IsSolution r → length xs < length ys → xs ++ (r ∷ later) ≡ ys ++ later′ → ⊥
   not-among xs [] r later later′ b h l e = absurd (omega arith)
-  not-among [] (y ∷ ys) r later later′ b h l e = true≢false (cc (b .0))
+  not-among [] (y ∷ ys) r later later′ b h l e = b .0 (subst IsSolution (cc) h)
   not-among (x ∷ xs) (y ∷ ys) r later later′ b h l e = not-among xs ys r later later′ (b .1) h (omega arith) (cc)
 
   -- By the two forms of the same rows
   alike : {n : ℕ} {from from′ : List R} {x y : Reply R (Place R)}
-      → from ≡ from′ → Keeps isSolution n from x → Keeps isSolution n from′ y → Alike x y
+      → from ≡ from′ → Keeps IsSolution n from x → Keeps IsSolution n from′ y → Alike x y
   alike e (finds xs r later a h l) (finds ys s later′ b g m) =
       let q = same-first xs ys r s later later′ a b h g e in
       let p : found r (placeOf later) ≡ found s (placeOf later′) = cc in
@@ -91,96 +91,128 @@ module _ {R : Type 0} (isSolution : R → Bool) where
 
   -- One row more that is no solution, and one more of the allowance
   pub one-before : {n : ℕ} {from : List R} {reply : Reply R (Place R)} (x : R)
-      → isSolution x ≡ false → Keeps isSolution n from reply → Keeps isSolution (suc n) (x ∷ from) reply
+      → (IsSolution x → ⊥) → Keeps IsSolution n from reply → Keeps IsSolution (suc n) (x ∷ from) reply
   one-before x e (finds skipped r later a h l) = finds (x ∷ skipped) r later (e, a) h (omega arith)
   one-before x e (ends from a l) = ends (x ∷ from) (e, a) (omega arith)
   one-before x e (pauses passed r later a l) = pauses (x ∷ passed) r later (e, a) (omega arith)
 
-  some-keeps : (n : ℕ) (from : List R) → (reply : Reply R (Place R)) × Keeps isSolution n from reply
-  some-keeps n [] = (end past, ends [] tt (omega arith))
-  some-keeps zero (x ∷ xs) = (paused (at x), pauses [] x xs tt (omega arith))
-  some-keeps (suc n) (x ∷ xs) =
-      let r = some-keeps n xs in
-      by-test
-      (isSolution x)
-      (λ e. (found x (placeOf xs), finds [] x xs tt e (omega arith)))
-      (λ e. (r .0, one-before x e (r .1)))
+  some-keeps : (n : ℕ) (from : List R) → All (λ r. Dec (IsSolution r)) from → (reply : Reply R (Place R)) × Keeps IsSolution n from reply
+  some-keeps n [] d = (end past, ends [] tt (omega arith))
+  some-keeps zero (x ∷ xs) d = (paused (at x), pauses [] x xs tt (omega arith))
+  some-keeps (suc n) (x ∷ xs) d = go (d .0) (some-keeps n xs (d .1))
+    where
+      go : Dec (IsSolution x) → (reply : Reply R (Place R)) × Keeps IsSolution n xs reply
+          → (reply : Reply R (Place R)) × Keeps IsSolution (suc n) (x ∷ xs) reply
+      go (yes e) r = (found x (placeOf xs), finds [] x xs tt e (omega arith))
+      go (no e) r = (r .0, one-before x e (r .1))
 
--- What a call answers, by what it is given
+-- The same promise in other words of what a solution row is
+pub keeps-same : {R : Type 0} {P Q : R → Type 0} {n : ℕ} {from : List R} {reply : Reply R (Place R)}
+    → ((r : R) → r ∈ from → P r ↔ Q r) → Keeps P n from reply → Keeps Q n from reply
+keeps-same {R} {P} {Q} h (finds skipped r later a e l) =
+    finds skipped r later (still skipped (λ x m. h x (Memᴰ·append-left (r ∷ later) m)) a)
+    (h r (Memᴰ·append-right skipped (List·Memᴰ·head refl)) .0 e) l
+  where
+    still : (xs : List R) → ((x : R) → x ∈ xs → P x ↔ Q x) → All (λ x. P x → ⊥) xs → All (λ x. Q x → ⊥) xs
+    still xs g b = mem-all (λ x. Q x → ⊥) xs (λ x m q. all-mem (λ y. P y → ⊥) x xs b m (g x m .1 q))
+keeps-same {R} {P} {Q} h (ends from a l) =
+    ends from (mem-all (λ x. Q x → ⊥) from (λ x m q. all-mem (λ y. P y → ⊥) x from a m (h x m .1 q))) l
+keeps-same {R} {P} {Q} h (pauses passed r later a l) =
+    pauses passed r later
+    (mem-all (λ x. Q x → ⊥) passed (λ x m q. all-mem (λ y. P y → ⊥) x passed a m (h x (Memᴰ·append-left (r ∷ later) m) .1 q))) l
+
 value-alike : {x y : Reply Row (Place Row)} → Alike x y → Alike (replyValue x) (replyValue y)
 value-alike (same e) = same (ap replyValue e)
 value-alike bothPause = bothPause
 
-module _ (s : Bytes) (v : PlaceValue) (n : ℕ) where
-  when-refused : {x : HostReply} (r : ℕ) → accept s ≡ refused r → SearchCall s v n x → x ≡ refusedCall r
-  when-refused r e (notAccepted q f) = let z : q ≡ r = cc in ap refusedCall z
-  when-refused r e (noAllowance p f h) = absurd (refused-not (sym e ∙ f))
-  when-refused r e (noSuchPlace p f h g) = absurd (refused-not (sym e ∙ f))
-  when-refused r e (searches p f h place m from g k) = absurd (refused-not (sym e ∙ f))
+pub some-kept : (p : Problem) → Accepted p → (before from : List Row) → rows p ≡ before ++ from → (n : ℕ)
+    → (reply : Reply Row (Place Row)) × Keeps (SolutionRow p) n from reply
+some-kept p a before from e n =
+    some-keeps (SolutionRow p) n from
+    (mem-all (λ r. Dec (SolutionRow p r)) from
+    (λ r m. solution-row-told p r a (subst (λ (rs : List Row). r ∈ rs) (sym e) (Memᴰ·append-right before m))))
 
-  pub when-zero : {x : HostReply} (p : Problem) → accept s ≡ got p → n ≡ 0 → SearchCall s v n x → x ≡ refusedCall 15
-  when-zero p e z (notAccepted q f) = absurd (refused-not (sym f ∙ e))
-  when-zero p e z (noAllowance q f h) = refl
-  when-zero p e z (noSuchPlace q f h g) = absurd (omega arith)
-  when-zero p e z (searches q f h place m from g k) = absurd (omega arith)
+-- A call on an accepted problem: what it answers, by what it is given
+module _ (p : Problem) (v : PlaceValue) (n : ℕ) where
+  pub when-zero : {x : HostReply} → n ≡ 0 → SearchOn p v n x → x ≡ refusedCall 15
+  when-zero z (noAllowance h) = refl
+  when-zero z (noSuchPlace h g) = absurd (omega arith)
+  when-zero z (searches h place m from g k) = absurd (omega arith)
 
-  when-nowhere : {x : HostReply} (p : Problem)
-      → accept s ≡ got p → 0 < n → ((place : Place Row) → Names p v place → ⊥) → SearchCall s v n x → x ≡ refusedCall 16
-  when-nowhere p e l none (notAccepted q f) = absurd (refused-not (sym f ∙ e))
-  when-nowhere p e l none (noAllowance q f h) = absurd (omega arith)
-  when-nowhere p e l none (noSuchPlace q f h g) = refl
-  when-nowhere p e l none (searches q f h place m from g k) =
-      absurd (none place (subst (λ (y : Problem). Names y v place) (got-is (sym f ∙ e)) m))
+  when-nowhere : {x : HostReply} → 0 < n → ((place : Place Row) → Names p v place → ⊥) → SearchOn p v n x → x ≡ refusedCall 16
+  when-nowhere l none (noAllowance h) = absurd (omega arith)
+  when-nowhere l none (noSuchPlace h g) = refl
+  when-nowhere l none (searches h place m from g k) = absurd (none place m)
 
-  -- A call at a place keeps its promise over the rows from there on
-  pub when-placed : {x : HostReply} (p : Problem) (place : Place Row) (from : List Row)
-      → All Byte s → accept s ≡ got p → 0 < n → Names p v place → From (rows p) place from → SearchCall s v n x
-      → (reply : Reply Row (Place Row)) × Keeps (solves p) n from reply × (x ≡ replyValue reply)
-  when-placed p place from b e l m g (notAccepted q f) = absurd (refused-not (sym f ∙ e))
-  when-placed p place from b e l m g (noAllowance q f h) = absurd (omega arith)
-  when-placed p place from b e l m g (noSuchPlace q f h none) =
-      absurd (none place (subst (λ (y : Problem). Names y v place) (got-is (sym e ∙ f)) m))
-  when-placed p place from b e l m g (searches q f h place′ m′ from′ g′ {reply} k) = (reply, keeps, refl)
+  -- at a place it keeps its promise over the rows from there on
+  pub when-placed : {x : HostReply} (place : Place Row) (from : List Row)
+      → Accepted p → 0 < n → Names p v place → From (rows p) place from → SearchOn p v n x
+      → (reply : Reply Row (Place Row)) × Keeps (SolutionRow p) n from reply × (x ≡ replyValue reply)
+  when-placed place from a l m g (noAllowance h) = absurd (omega arith)
+  when-placed place from a l m g (noSuchPlace h none) = absurd (none place m)
+  when-placed place from a l m g (searches h place′ m′ from′ g′ {reply} k) =
+      let here : place′ ≡ place = value-names-one p v place′ place a m′ m in
+      let rest : from′ ≡ from =
+      one-suffix (rows p) place from′ from (rows-once p) (subst (λ (y : Place Row). From (rows p) y from′) here g′) g in
+      (reply, subst (λ (rs : List Row). Keeps (SolutionRow p) n rs reply) rest k, refl)
+
+  -- THERE IS AN ANSWER, whatever the place and the allowance
+  pub some-search : Accepted p → (reply : HostReply) × SearchOn p v n reply
+  some-search a = go n refl (named-place p v)
     where
-      is : q ≡ p
-      is = got-is (sym f ∙ e)
+      go : (m : ℕ) → n ≡ m → ((place : Place Row) × Names p v place) ⊎ ((place : Place Row) → Names p v place → ⊥)
+          → (reply : HostReply) × SearchOn p v n reply
+      go zero z named = (refusedCall 15, noAllowance z)
+      go (suc m) z (inr none) = (refusedCall 16, noSuchPlace (omega arith) none)
+      go (suc m) z (inl x) =
+          let (from, f) = rows-from p (x .0) (x .1 .isPlace) in
+          let (reply, keeps) = some-kept p a (f .before) from (f .whole) n in
+          (replyValue reply, searches (omega arith) (x .0) (x .1) from f keeps)
 
-      here : place′ ≡ place
-      here = value-names-one p v place′ place (accept-accepted s p b e .0) (subst (λ (y : Problem). Names y v place′) is m′) m
+  -- ... AND ONLY ONE, but for how far a pause goes
+  pub one-search : {x y : HostReply} → Accepted p → SearchOn p v n x → SearchOn p v n y → Alike x y
+  one-search a (noAllowance z) c = same (sym (when-zero z c))
+  one-search a (noSuchPlace h none) c = same (sym (when-nowhere h none c))
+  one-search a (searches h place m from g k) c =
+      let (reply, keeps, is) = when-placed place from a h m g c in
+      subst (Alike _) (sym is) (value-alike (alike (SolutionRow p) refl k keeps))
 
-      rest : from′ ≡ from
-      rest =
-          one-suffix (rows p) place from′ from (rows-once p)
-          (subst (λ (y : Place Row). From (rows p) y from′) here (subst (λ (y : Problem). From (rows y) place′ from′) is g′)) g
-
-      keeps : Keeps (solves p) n from reply
-      keeps = subst (λ (l : List Row). Keeps (solves p) n l reply) rest (subst (λ (y : Problem). Keeps (solves y) n from′ reply) is k)
-
--- THE THEOREMS
-
--- A call always has a reply that it may give, whatever it is given
-pub some-reply : (s : Bytes) (v : PlaceValue) (n : ℕ) → (reply : HostReply) × SearchCall s v n reply
-some-reply s v n = go (accept s) refl n refl
+-- The row of a Found
+pub found-row : (p : Problem) (v : PlaceValue) (n : ℕ) {row next : PlaceValue} → SearchOn p v n (found row next)
+    → (r : Row) × Names p row (at r) × SolutionRow p r
+found-row p v n {row} {next} c = go c refl
   where
-    placed : (p : Problem) (m : ℕ) → accept s ≡ got p → n ≡ suc m
-        → ((place : Place Row) × Names p v place) ⊎ ((place : Place Row) → Names p v place → ⊥)
-        → (reply : HostReply) × SearchCall s v n reply
-    placed p m e z (inr none) = (refusedCall 16, noSuchPlace p e (omega arith) none)
-    placed p m e z (inl x) =
-        let from = rows-from p (x .0) (x .1 .isPlace) in
-        let r = some-keeps (solves p) n (from .0) in
-        (replyValue (r .0), searches p e (omega arith) (x .0) (x .1) (from .0) (from .1) (r .1))
+    in-rows : {from : List Row} {reply : Reply Row (Place Row)} (before : List Row) → rows p ≡ before ++ from → Keeps (SolutionRow p) n from reply
+        → replyValue reply ≡ found row next → (r : Row) × Names p row (at r) × SolutionRow p r
+    in-rows before w (finds skipped r later a h l) e =
+        let m : r ∈ rows p =
+        subst (λ (rs : List Row). r ∈ rs) (sym w) (Memᴰ·append-right before (Memᴰ·append-right skipped (List·Memᴰ·head refl))) in
+        let value : row ≡ placeValue (at r) = cc in
+        (r, record { isPlace = rows-are p r .0 m; isValue = value }, h)
+    in-rows before w (ends from a l) e = never (cc)
+    in-rows before w (pauses passed r later a l) e = never (cc)
 
-    go : (a : Answer Problem) → accept s ≡ a → (m : ℕ) → n ≡ m → (reply : HostReply) × SearchCall s v n reply
-    go (refused r) e m z = (refusedCall r, notAccepted r e)
-    go (got p) e zero z = (refusedCall 15, noAllowance p e z)
-    go (got p) e (suc m) z = placed p m e z (named-place p v)
+    go : {x : HostReply} → SearchOn p v n x → x ≡ found row next → (r : Row) × Names p row (at r) × SolutionRow p r
+    go (noAllowance z) e = never (cc)
+    go (noSuchPlace l none) e = never (cc)
+    go (searches l place m from f k) e = in-rows (f .before) (f .whole) k e
 
--- Two replies to one call are alike but for how far a pause goes
+-- A call on any bytes
+pub search-on : {s : Bytes} {v : PlaceValue} {n : ℕ} {x : HostReply} (p : Problem) → accept s ≡ got p → SearchCall s v n x → SearchOn p v n x
+search-on p e (notAccepted q f) = absurd (refused-not (sym f ∙ e))
+search-on {v = v} {n} {x} p e (onAccepted q f c) = subst (λ (y : Problem). SearchOn y v n x) (got-is (sym f ∙ e)) c
+
+when-refused : {s : Bytes} {v : PlaceValue} {n : ℕ} {x : HostReply} (r : ℕ) → accept s ≡ refused r → SearchCall s v n x → x ≡ refusedCall r
+when-refused r e (notAccepted q f) = let z : q ≡ r = cc in ap refusedCall z
+when-refused r e (onAccepted p f c) = absurd (refused-not (sym e ∙ f))
+
+pub some-reply : (s : Bytes) (v : PlaceValue) (n : ℕ) → All Byte s → (reply : HostReply) × SearchCall s v n reply
+some-reply s v n b = go (accept s) refl
+  where
+    go : (a : Answer Problem) → accept s ≡ a → (reply : HostReply) × SearchCall s v n reply
+    go (refused r) e = (refusedCall r, notAccepted r e)
+    go (got p) e = let (reply, c) = some-search p v n (accept-accepted s p b e .0) in (reply, onAccepted p e c)
+
 pub one-reply : (s : Bytes) (v : PlaceValue) (n : ℕ) (x y : HostReply) → All Byte s → SearchCall s v n x → SearchCall s v n y → Alike x y
-one-reply s v n x y b (notAccepted r e) c = same (sym (when-refused s v n r e c))
-one-reply s v n x y b (noAllowance p e z) c = same (sym (when-zero s v n p e z c))
-one-reply s v n x y b (noSuchPlace p e h none) c = same (sym (when-nowhere s v n p e h none c))
-one-reply s v n x y b (searches p e h place m from g k) c =
-    let r = when-placed s v n p place from b e h m g c in
-    subst (Alike _) (sym (r .2)) (value-alike (alike (solves p) refl k (r .1)))
+one-reply s v n x y b (notAccepted r e) c = same (sym (when-refused r e c))
+one-reply s v n x y b (onAccepted p e d) c = one-search p v n (accept-accepted s p b e .0) d (search-on p e c)

@@ -9,9 +9,8 @@ use mathlib.Core.List.{List, [], _∷_, _++_, map, List·Memᴰ·head, List·Mem
 use mathlib.Core.List.{List·Memᴰ·eq-of-singleton, List·Memᴰ·append-cases, Memᴰ·append-left, Memᴰ·append-right}
 use mathlib.Core.Option.{none, some}
 use lib.ListN.{length}
-use Rattle.meaning.specs.Basics.{choose, keep, each, countFrom, upTo, All, _∈_, Distinct}
+use Rattle.meaning.specs.Basics.{choose, keep, each, countFrom, upTo, All, _∈_, Distinct, Ordered, empty, more}
 use Rattle.meaning.specs.Choice.{Mark, Marks, Before, Earlier, here, later}
-use Rattle.meaning.specs.Difference.{Ordered, empty, more}
 use Rattle.meaning.specs.Choices.{marksOf, allMarks}
 use Rattle.meaning.specs.Row.{Row, EarlierRow, first, next}
 use Rattle.meaning.specs.Rows.{product}

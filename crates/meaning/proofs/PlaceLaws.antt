@@ -9,7 +9,7 @@ use Prim.Native.Nat.{ℕ, zero, suc, _-_, _^_, _<_, _≤_}
 use native.Mathlib.Nat.{pow-suc}
 use native.Mathlib.Decide.{ℕ-discrete}
 use native.Mathlib.Omega.{arith}
-use lib.ListN.{length, replicate, getElem?}
+use lib.ListN.{length, replicate, getElem?, length-append, length-map, length-replicate}
 use lib.Pow.{pow-pos}
 use lib.Dec.{ltb}
 use borrow.Author.Tests.{ltb-false, not-true, not-false}
@@ -114,8 +114,29 @@ pub masks-injective : (p : Problem) → Accepted p → (r s : Row) → IsRow p r
 unfolding masksOf
 masks-injective p a r s c d e =
     choices-injective p (functions p)
-    (λ f m. (one-place p (a .within) f (functions-applied p f m), small-faces p a (c .agree) f m)) r s (c .choice) (d .choice)
+    (λ f m. (one-place p (a .within) f (functions-applied p f m), small-faces p a (c .hasRows) f m)) r s (c .choice) (d .choice)
     (replicate (maxFunctions - length r) 0) (replicate (maxFunctions - length s) 0) e
+
+-- A row has a choice for each function, and a place a mask for each that there may be
+row-long : (p : Problem) (fs : List ℕ) (r : Row) → ChoiceEach p fs r → length r ≡ length fs
+row-long p [] [] c = refl
+row-long p [] (m ∷ r) c = absurd c
+row-long p (f ∷ fs) [] c = absurd c
+row-long p (f ∷ fs) (m ∷ r) c = ap suc (row-long p fs r (c .1))
+
+pub masks-long : (p : Problem) (r : Row) → Accepted p → IsRow p r → length (masksOf r) ≡ maxFunctions
+unfolding masksOf
+masks-long p r a c =
+    let few : length r ≤ maxFunctions = omega (arith, row-long p (functions p) r (c .choice), few-functions p a) in
+    let joined = length-append (map (maskOf maxFaceNodes) r) (replicate (maxFunctions - length r) 0) in
+    let front = length-map r (maskOf maxFaceNodes) in
+    let rest = length-replicate {A = ℕ} (maxFunctions - length r) 0 in
+    omega arith
+
+pub place-long : (p : Problem) (place : Place Row) → Accepted p → IsPlace p place → length (placeValue place .masks) ≡ maxFunctions
+unfolding placeValue
+place-long p (at r) a i = masks-long p r a i
+place-long p past a i = length-replicate {A = ℕ} maxFunctions 0
 
 -- A value says whether it is past the last
 row-not-past : (r : Row) → placeValue (at r) ≡ placeValue past → ⊥

@@ -10,7 +10,7 @@ use lib.ListN.{length, length-append}
 use lib.Dec.{eqb, ltb}
 use borrow.Author.Tests.{ltb-false, le-ltb, eqb-true, ne-eqb}
 use Rattle.meaning.specs.Limits.{maxInput, maxConstraints, maxDepth, maxFunctions}
-use Rattle.meaning.specs.Basics.{All, Bytes}
+use Rattle.meaning.specs.Basics.{All, Bytes, Byte}
 use Rattle.meaning.specs.Term.{one}
 use Rattle.meaning.specs.Problem.{Constraint, Problem, functions}
 use Rattle.meaning.specs.Field.{field, encode, encodeConstraint, encodeProblem}
@@ -19,7 +19,7 @@ use Rattle.meaning.specs.Read.{readProblem}
 use Rattle.meaning.specs.Accept.{overlarge, checkProblem, accept}
 use Rattle.meaning.specs.Readable.{ReadableConstraint, WithinLimits, Accepted}
 use Rattle.meaning.proofs.Lists.{append-all, all-append}
-use Rattle.meaning.proofs.ByteLaws.{Byte, got-is, refused-not, by-got, unless-got, when-got, by-choice, none-left, parts-field}
+use Rattle.meaning.proofs.ByteLaws.{got-is, refused-not, by-got, unless-got, when-got, by-choice, none-left, parts-field}
 use Rattle.meaning.proofs.ByteLaws.{field-parts, field-some, field-length, field-bytes, field-content, field-later}
 use Rattle.meaning.proofs.TermReading.{term-read-encodes, term-read-readable, term-encode-read, term-bytes, term-read-whole}
 use Rattle.meaning.proofs.TermReading.{term-encode-whole}

@@ -221,7 +221,7 @@ row-exists p σ c s =
     let r = row-of p (Chosen p σ b fit) (λ f ms x. x .choice) (functions p) (λ f q. body-chosen p σ b fit f (functions-applied p f q)) in
     let agree = ap isSome (faces-found p σ b fit) in (
       r .0,
-      rows-are p (r .0) .1 (record { agree = agree; choice = r .1 }),
+      rows-are p (r .0) .1 (record { hasRows = agree; choice = r .1 }),
       λ f q. solution-bodies p σ s f (functions-applied p f q) ∙ ap body (sym (row-body p (r .0) f (b f) (r .2 f q .punched))),
     )
 

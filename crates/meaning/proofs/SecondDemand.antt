@@ -6,7 +6,7 @@ use mathlib.Core.Bool.{Bool, true, false}
 use mathlib.Core.List.{List, [], _∷_}
 use native.Mathlib.Omega.{arith}
 use lib.ListN.{length}
-use Rattle.meaning.specs.Limits.{maxInput, maxText, metavariableCount}
+use Rattle.meaning.specs.Limits.{maxInput, maxText, maxWritten, metavariableCount}
 use Rattle.meaning.specs.Basics.{choose, keep, upTo, _∈_}
 use Rattle.meaning.specs.Problem.{Problem, metavariables}
 use Rattle.meaning.specs.Filling.{Filling}
@@ -40,14 +40,18 @@ unfolding metavariables
 few-metavariables p =
     subst (λ (n : ℕ). length (metavariables p) ≤ n) (length-upTo metavariableCount) (keep-length _ (upTo metavariableCount))
 
--- A written text is never over the limit of a text
-pub text-fits : (p : Problem) (r : Row) → Accepted p → solves p r ≡ true → length (encodeText (textOf p r)) ≤ maxText
-unfolding maxText maxInput metavariableCount
-text-fits p r a e =
+-- A written text is never longer than the largest, and so never over the limit of a text
+pub text-within : (p : Problem) (r : Row) → Accepted p → solves p r ≡ true → length (encodeText (textOf p r)) ≤ maxWritten
+unfolding maxWritten maxInput metavariableCount
+text-within p r a e =
     let l = text-length p r a e in
     let i : length (encodeProblem p) ≤ 4096 = a .within .input in
     let m : length (metavariables p) ≤ 32 = few-metavariables p in
     omega arith
+
+pub text-fits : (p : Problem) (r : Row) → Accepted p → solves p r ≡ true → length (encodeText (textOf p r)) ≤ maxText
+unfolding maxText maxWritten
+text-fits p r a e = omega (arith, text-within p r a e)
 
 -- EVERY WRITTEN TEXT READS BACK
 pub text-read-back : (p : Problem) (r : Row) → Accepted p → r ∈ rows p → solves p r ≡ true

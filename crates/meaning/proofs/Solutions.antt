@@ -1,4 +1,5 @@
--- The full list: a row has at most one solution, every solution has just one row, and the list holds each solution once and nothing else.
+-- Solutions and their rows: a row has at most one solution, every solution has just one row, and the computed list holds each solution
+-- once and nothing else.
 use mathlib.Core.Path.{_≡_, refl, ap, sym, _∙_, subst, fun-ext}
 use mathlib.Core.Logic.{_⊎_, inl, inr, _↔_}
 use Prim.Native.Nat.{ℕ, _<_}
@@ -8,7 +9,7 @@ use mathlib.Core.Option.{none, some}
 use lib.Dec.{T}
 use lib.ListN.{drop}
 use borrow.Author.Tests.{not-true}
-use Rattle.meaning.specs.Basics.{keep, every, _∈_, Distinct}
+use Rattle.meaning.specs.Basics.{keep, every, _∈_}
 use Rattle.meaning.specs.Term.{nil, cons, one, size, own, slot, Terms, Term, IsExpression}
 use Rattle.meaning.specs.Shift.{ClosedTerm}
 use Rattle.meaning.specs.Same.{sameTerms}
@@ -28,12 +29,12 @@ use Rattle.meaning.proofs.Lists.{mem-isIn, all-mem, mem-all, every-all,
 use Rattle.meaning.proofs.OneWay.{one-way-means, walk-faces}
 use Rattle.meaning.proofs.ShiftLaws.{test-closed, closed-test}
 use Rattle.meaning.proofs.Alike.{sameTerms-eq, sameTerms-refl}
-use Rattle.meaning.proofs.ChoiceLaws.{rows-are, rows-once}
+use Rattle.meaning.proofs.ChoiceLaws.{rows-are}
 use Rattle.meaning.proofs.Proper.{Proper, accepted-proper, applied-functions, functions-applied, applied-occurs, plain-occurs}
 use Rattle.meaning.proofs.Sources.{Walked, walked}
 use Rattle.meaning.proofs.Candidate.{Fitting, candidate-function, candidate-plain, candidate-other, fitting-source, fitting-idle}
 use Rattle.meaning.proofs.Candidate.{lookup-cases, solution-candidate}
-use Rattle.meaning.proofs.Lists.{drop-mem, mem-at, is-some, keep-distinct}
+use Rattle.meaning.proofs.Lists.{drop-mem, mem-at, is-some}
 use Rattle.meaning.proofs.RowBodies.{face-expression, choice-in, row-exists, row-only, body-row}
 
 -- A punched expression is a body
@@ -56,7 +57,7 @@ punch-body n (some j ∷ ms) (cons (own o) c s) h f = (
 pub row-body-shape : (p : Problem) (r : Row) → Proper p → IsRow p r → (f : ℕ) → f ∈ applied (patterns p)
     → IsBody (placesOf p f) (one (rowBody p r f))
 row-body-shape p r c i f a =
-    let xs = is-some (faces p) (i .agree) in
+    let xs = is-some (faces p) (i .hasRows) in
     let q : f ∈ functions p = applied-functions p c f a in
     let ch : Choice (placesOf p f) (faceOf p f) (choiceIn (functions p) r f) = choice-in p (functions p) r (i .choice) f q in
     subst (IsBody (placesOf p f)) (sym (body-row p r f))
@@ -225,6 +226,12 @@ solves-is-right p r a i = (forth, back)
         let s : Solution p (candidate p r) = subst (Solution p) (fun-ext (row-solution-unique p r (x .0) a (x .1) (x .2))) (x .1) in
         passes-from p r (s .oneWay) (s .meets) (λ m q. solution-closed p (candidate p r) s m)
 
+-- ... so that it can be told whether a row is one
+pub solution-row-told : (p : Problem) (r : Row) → Accepted p → r ∈ rows p → Dec (SolutionRow p r)
+solution-row-told p r a i =
+    let right = solves-is-right p r a i in
+    by-test (solves p r) (λ e. yes (right .0 e)) (λ e. no (λ x. true≢false (sym (right .1 x) ∙ e)))
+
 -- THE FULL LIST holds solutions only, with their rows
 pub listed-solution : (p : Problem) (r : Row) (σ : Filling) → Accepted p → (r, σ) ∈ fullList p
     → (r ∈ rows p) × Solution p σ × HasBodies p r σ
@@ -241,25 +248,22 @@ listed-solution p r σ a q =
           ∙ ap (λ (y : Row). body (rowBody p y f)) (sym er),
     )
 
--- ... every solution
-pub solution-listed : (p : Problem) (σ : Filling) → Accepted p → Solution p σ → (r : Row) × ((r, σ) ∈ fullList p)
+-- ... every row that has a solution, with it
+pub row-listed : (p : Problem) (r : Row) (σ : Filling) → Accepted p → r ∈ rows p → Solution p σ → HasBodies p r σ → (r, σ) ∈ fullList p
 unfolding fullList solutionRows
+row-listed p r σ a i s h =
+    let e : σ ≡ candidate p r = fun-ext (row-solution-unique p r σ a s h) in
+    let m : r ∈ keep (solves p) (rows p) = mem-keep (solves p) r (rows p) i (solves-is-right p r a i .1 (σ, s, h)) in
+    subst (λ (τ : Filling). _∈_ {A = Row × Filling} (r, τ) (map (λ (y : Row). (y, candidate p y)) (keep (solves p) (rows p)))) (sym e)
+    (mem-map {B = Row × Filling} (λ (y : Row). (y, candidate p y)) m)
+
+-- ... and so every solution
+pub solution-listed : (p : Problem) (σ : Filling) → Accepted p → Solution p σ → (r : Row) × ((r, σ) ∈ fullList p)
 solution-listed p σ a s =
     let o : OnlyRow p σ = solution-complete p σ a s in
-    let r : Row = o .row in
-    let e : σ ≡ candidate p r = fun-ext (row-solution-unique p r σ a s (o .hasBodies)) in
-    let i : r ∈ keep (solves p) (rows p) =
-    mem-keep (solves p) r (rows p) (o .isRow) (solves-is-right p r a (o .isRow) .1 (σ, s, o .hasBodies)) in (
-      r,
-      subst (λ (τ : Filling). _∈_ {A = Row × Filling} (r, τ) (map (λ (y : Row). (y, candidate p y)) (keep (solves p) (rows p)))) (sym e)
-          (mem-map {B = Row × Filling} (λ (y : Row). (y, candidate p y)) i),
-    )
+    (o .row, row-listed p (o .row) σ a (o .isRow) s (o .hasBodies))
 
--- ... and none twice: no row twice, and two rows of the list have different solutions
-pub full-list-once : (p : Problem) → Distinct (solutionRows p)
-unfolding solutionRows
-full-list-once p = keep-distinct (solves p) (rows p) (rows-once p)
-
+-- ... and none twice: two rows of the list have different solutions
 pub listed-once : (p : Problem) (r r′ : Row) (σ : Filling) → Accepted p → (r, σ) ∈ fullList p → (r′, σ) ∈ fullList p → r ≡ r′
 listed-once p r r′ σ a q q′ =
     let x = listed-solution p r σ a q in

@@ -10,7 +10,7 @@ use native.Mathlib.Omega.{arith}
 use lib.ListN.{length, length-append}
 use lib.Dec.{eqb}
 use borrow.Author.Tests.{eqb-true, ne-eqb}
-use Rattle.meaning.specs.Basics.{All, Bytes}
+use Rattle.meaning.specs.Basics.{All, Bytes, Byte}
 use Rattle.meaning.specs.Term.{Forest, nil, cons, graft, one, trees, symbol, variable, application, binder, own, slot, metavariable}
 use Rattle.meaning.specs.Term.{function, hole, Named, NamedTerm}
 use Rattle.meaning.specs.Field.{field, tagOf, fixedPart, encode}
@@ -18,7 +18,7 @@ use Rattle.meaning.specs.Read.{got, Context, inArgument, headOf, Content
 use Rattle.meaning.specs.Read.{contextBelow, readContent, readTerm}
 use Rattle.meaning.specs.Readable.{NodeFits, Readable}
 use Rattle.meaning.proofs.Lists.{append-all, all-append}
-use Rattle.meaning.proofs.ByteLaws.{Byte, got-is, refused-not, by-got, when-got, by-choice, none-left, field-content, field-length}
+use Rattle.meaning.proofs.ByteLaws.{got-is, refused-not, by-got, when-got, by-choice, none-left, field-content, field-length}
 use Rattle.meaning.proofs.ByteLaws.{field-bytes}
 use Rattle.meaning.proofs.NodeReading.{encode-graft, encode-one, encode-long, graft-long, some-trees, kindTag, head-field, Opened}
 use Rattle.meaning.proofs.NodeReading.{content-opened, kindOn, kind-on, contentOn, content-on, field-head, tag-byte, fixed-bytes}

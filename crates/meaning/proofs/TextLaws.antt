@@ -11,7 +11,7 @@ use native.Mathlib.Omega.{arith}
 use lib.ListN.{drop}
 use lib.Dec.{eqb, T}
 use Rattle.meaning.specs.Limits.{metavariableCount, maxDepth}
-use Rattle.meaning.specs.Basics.{choose, isIn, upTo, All, _∈_, Distinct, orNone}
+use Rattle.meaning.specs.Basics.{choose, isIn, upTo, All, _∈_, Distinct, orNone, Ordered}
 use Rattle.meaning.specs.Term.{Forest, nil, cons, one, size, trees, nodeAt, symbol, variable, application, binder, own, slot}
 use Rattle.meaning.specs.Term.{metavariable, function, hole, Named, NamedTerm, Term, IsExpression}
 use Rattle.meaning.specs.Scope.{enter, nameless, namelessTerm}
@@ -28,7 +28,6 @@ use Rattle.meaning.specs.Candidate.{given, candidate, isClosedEntry, sol
 use Rattle.meaning.specs.Read.{Context, inExpression, inBody, contextBelow}
 use Rattle.meaning.specs.Readable.{NodeFits, Readable, ReadableConstraint, Accepted, ReadableEntry, ReadableItem}
 use Rattle.meaning.specs.Text.{Item, termOr, termAt, faceNode, writtenBody, writtenValue, entryOf, textOf, meant, numbers, rises, said}
-use Rattle.meaning.specs.Difference.{Ordered}
 use Rattle.meaning.proofs.Lists.{never, true-T, eqb-eq, eqb-self, by-test, choose-true, choose-false}
 use Rattle.meaning.proofs.Lists.{keep-mem, isIn-mem, mem-isIn, not-isIn, upTo-mem, all-mem, mem-all}
 use Rattle.meaning.proofs.ShiftLaws.{test-closed}

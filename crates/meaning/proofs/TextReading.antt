@@ -9,7 +9,7 @@ use lib.ListN.{length, drop, getD, length-append}
 use lib.Dec.{eqb, ltb}
 use borrow.Author.Tests.{ltb-true, lt-ltb, le-ltb, eqb-true}
 use Rattle.meaning.specs.Limits.{maxDepth, maxText, metavariableCount}
-use Rattle.meaning.specs.Basics.{All, Bytes}
+use Rattle.meaning.specs.Basics.{All, Bytes, Byte}
 use Rattle.meaning.specs.Term.{one, NamedTerm}
 use Rattle.meaning.specs.Filling.{Entry, absent, leftOpen, value, body}
 use Rattle.meaning.specs.Field.{field, encode}
@@ -18,7 +18,7 @@ use Rattle.meaning.specs.Readable.{Readable, ReadableEntry, ReadableItem
 use Rattle.meaning.specs.Text.{Item, orTwenty, readNumbered, readOpen, readItem, readItems, readText, numbers, rises}
 use Rattle.meaning.specs.Encoded.{encodeEntry, encodeText}
 use Rattle.meaning.proofs.Lists.{all-append}
-use Rattle.meaning.proofs.ByteLaws.{Byte, got-is, refused-not, by-got, unless-got, when-got, by-choice, none-left, one-byte}
+use Rattle.meaning.proofs.ByteLaws.{got-is, refused-not, by-got, unless-got, when-got, by-choice, none-left, one-byte}
 use Rattle.meaning.proofs.ByteLaws.{first-byte, parts-field, field-parts, field-some, field-length, field-bytes, field-content}
 use Rattle.meaning.proofs.ByteLaws.{field-later, later-fewer}
 use Rattle.meaning.proofs.TermReading.{term-read-readable, term-read-whole, term-encode-whole, term-bytes}

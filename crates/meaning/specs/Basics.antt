@@ -5,7 +5,9 @@
 --   upTo     0, 1, .., n - 1
 --   All      every element
 --   Distinct no element twice
-use Prim.Native.Nat.{ℕ, zero, suc}
+--   Ordered  each element before all that come after it
+--   Pairwise two lists, one element against the other
+use Prim.Native.Nat.{ℕ, zero, suc, _<_}
 use mathlib.Core.Bool.{Bool, true, false, _||_, _&&_}
 use mathlib.Core.List.{List, [], _∷_, _++_, List·Memᴰ}
 use mathlib.Core.Option.{Option, none, some}
@@ -50,6 +52,18 @@ infix 40 _∈_
 abbrev pub Distinct : {A : Type 0} → List A → Type 0
 Distinct [] = Unit {0}
 Distinct (x ∷ xs) = (x ∈ xs → ⊥) × Distinct xs
+
+-- A list in the order R: each element stands in R to all that come after it
+pub data Ordered {A : Type 0} (R : A → A → Type 0) : List A → Type 0 where
+  empty : Ordered R []
+  more : {x : A} {xs : List A} → ((y : A) → y ∈ xs → R x y) → Ordered R xs → Ordered R (x ∷ xs)
+
+-- Two lists of one length whose elements stand in R, each to the one across
+abbrev pub Pairwise : {A B : Type 0} → (A → B → Type 0) → List A → List B → Type 0
+Pairwise R [] [] = Unit {0}
+Pairwise R [] (y ∷ ys) = ⊥
+Pairwise R (x ∷ xs) [] = ⊥
+Pairwise R (x ∷ xs) (y ∷ ys) = R x y × Pairwise R xs ys
 
 -- An answer that may be missing, and what follows from it
 abbrev pub andThen : {A B : Type 0} → Option A → (A → Option B) → Option B
@@ -98,3 +112,6 @@ AllO P (some xs) = All P xs
 
 abbrev pub Bytes : Type 0
 Bytes = List ℕ
+
+abbrev pub Byte : ℕ → Type 0
+Byte b = b < 256

@@ -10,17 +10,15 @@ use mathlib.Core.Path.{_≡_}
 use Prim.Native.Nat.{ℕ, zero, suc, _+_, _<_}
 use mathlib.Core.List.{List, [], _∷_, _++_, map}
 use lib.ListN.{length, take}
-use Rattle.meaning.specs.Basics.{Bytes, holds, _∈_}
+use Rattle.meaning.specs.Basics.{Bytes, _∈_}
 use Rattle.meaning.specs.Problem.{Problem}
 use Rattle.meaning.specs.Read.{got}
-use Rattle.meaning.specs.Filling.{Filling}
-use Rattle.meaning.specs.Row.{Row}
+use Rattle.meaning.specs.Row.{AreRows, Row}
+use Rattle.meaning.specs.FullList.{IsFullList, Listed}
 use Rattle.meaning.specs.Accept.{accept}
 use Rattle.meaning.specs.Search.{Reply, at, end, found, paused, refusedCall, start}
 use Rattle.meaning.specs.PlaceValue.{PlaceValue, placeValue}
 use Rattle.meaning.specs.Entry.{SearchCall}
-use Rattle.meaning.specs.Rows.{rows}
-use Rattle.meaning.specs.Candidate.{fullList}
 
 pub record Call (R P : Type 0) : Type 0 where
   pub allowance : ℕ
@@ -88,15 +86,23 @@ abbrev pub positive : {R P : Type 0} → List (Call R P) → ℕ
 positive [] = 0
 positive (c ∷ cs) = allowed (c .allowance) + positive cs
 
--- "a Found gives the solution of its row": the value of the row of a solution in the full list
-abbrev pub givenRow : Row × Filling → PlaceValue
+-- The value of the row of a solution in the full list
+abbrev pub givenRow : Listed → PlaceValue
 givenRow x = placeValue (at (x .0))
 
--- "The third demand is a single claim about the whole list of calls, and not one for each call"
-pub record ThirdDemand (p : Problem) (cs : List HostCall) : Type 0 where
+-- "The third demand is a single claim about the whole list of calls, and not one for each call". A list of calls is known here by what is
+-- seen of it: the rows of its Founds in their order, whether it has an End, and how many of its calls have n above 0
+pub record ThirdDemand (p : Problem) (given : List PlaceValue) (ended : Type 0) (allowances : ℕ) : Type 0 where
+  pub rows : List Row
+  pub areRows : AreRows p rows
+  pub full : List Listed
+  pub isFull : IsFullList p full
   -- "with k Founds in it, their rows in the order of the calls equal the first k rows of the full list"
-  pub prefix : founds cs ≡ map givenRow (take (length (founds cs)) (fullList p))
+  pub prefix : given ≡ map givenRow (take (length given) full)
   -- "If it has an End, k is the full list's length"
-  pub whole : HasEnd cs → founds cs ≡ map givenRow (fullList p)
+  pub whole : ended → given ≡ map givenRow full
   -- "If more of its calls have n above 0 than the problem has rows, it has an End"
-  pub ends : length (rows p) < positive cs → HasEnd cs
+  pub ends : length rows < allowances → ended
+
+abbrev pub ThirdDemandOf : Problem → List HostCall → Type 0
+ThirdDemandOf p cs = ThirdDemand p (founds cs) (HasEnd cs) (positive cs)

@@ -6,10 +6,9 @@
 use mathlib.Core.Path.{_≡_}
 use mathlib.Core.Logic.{_⊎_}
 use Prim.Native.Nat.{ℕ, _<_}
-use mathlib.Core.List.{List, [], _∷_}
+use mathlib.Core.List.{List}
 use mathlib.Core.Option.{some}
 use lib.ListN.{getElem?}
-use Rattle.meaning.specs.Basics.{_∈_}
 use Rattle.meaning.specs.Choice.{Marks}
 
 pub record FirstDifference {A : Type 0} (xs ys : List A) (k : ℕ) : Type 0 where
@@ -30,8 +29,3 @@ HasNode k ms = (i : ℕ) × (getElem? ms k ≡ some (some i))
 
 abbrev pub Compared : {A : Type 0} → (A → A → Type 0) → A → A → Type 0
 Compared R x y = (x ≡ y) ⊎ (R x y ⊎ R y x)
-
--- A list in order: each element stands in R to all that come after it
-pub data Ordered {A : Type 0} (R : A → A → Type 0) : List A → Type 0 where
-  empty : Ordered R []
-  more : {x : A} {xs : List A} → ((y : A) → y ∈ xs → R x y) → Ordered R xs → Ordered R (x ∷ xs)

@@ -22,10 +22,14 @@ pub mod Value
 pub mod Text
 -- The search
 pub mod Search
+pub mod FullList
 pub mod PlaceValue
 -- The entry points, and lists of calls
 pub mod Entry
 pub mod Calls
+pub mod Given
+-- The program
+pub mod Program
 -- Two subexpressions compared, for T-02 alone
 pub mod Compare
 -- Computed forms

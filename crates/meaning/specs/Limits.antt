@@ -32,3 +32,7 @@ maxFaceNodes = 64
 -- "text over 8,192 bytes" (refusal 19)
 unfoldable pub maxText : ℕ
 maxText = 8192
+
+-- "A text is at most the input's length + 4 × the number of metavariables": so a buffer of so many bytes has room for every text
+unfoldable pub maxWritten : ℕ
+maxWritten = 4224

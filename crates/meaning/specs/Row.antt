@@ -2,14 +2,16 @@
 --   Row          "one choice for each function, by ascending metavariable number"
 --   IsRow        a row of a problem, in document 01's words
 --   EarlierRow   "rows are ordered by the first function that differs"
+--   AreRows      a list of all rows, in that order; `rows` computes it (`all-rows`, `rows-determined`)
 --   SolutionRow  "a solution row if some solution has these bodies"
 use mathlib.Core.Path.{_≡_}
+use mathlib.Core.Logic.{_↔_}
 use Prim.Native.Nat.{ℕ}
 use mathlib.Core.Bool.{true}
 use mathlib.Core.List.{List, [], _∷_}
 use mathlib.Core.Option.{Option, none, some}
 use lib.Dec.{eqb}
-use Rattle.meaning.specs.Basics.{choose, isSome, orNone, _∈_}
+use Rattle.meaning.specs.Basics.{Ordered, choose, isSome, orNone, _∈_}
 use Rattle.meaning.specs.Term.{Term, function, nil, slot}
 use Rattle.meaning.specs.Problem.{Problem, functions, placesOf}
 use Rattle.meaning.specs.Filling.{Filling, body}
@@ -37,13 +39,17 @@ ChoiceEach p (f ∷ fs) (c ∷ r) = Choice (placesOf p f) (faceOf p f) c × Choi
 
 -- "If they disagree anywhere, the problem has no rows"; T-09, of a letter used both ways: "no solutions .. and so no rows"
 pub record IsRow (p : Problem) (r : Row) : Type 0 where
-  pub agree : isSome (faces p) ≡ true
+  pub hasRows : isSome (faces p) ≡ true
   pub choice : ChoiceEach p (functions p) r
 
 -- The order of rows
 pub data EarlierRow : Row → Row → Type 0 where
   first : {c c′ : Marks} {r r′ : Row} → Earlier c c′ → EarlierRow (c ∷ r) (c′ ∷ r′)
   next : {c : Marks} {r r′ : Row} → EarlierRow r r′ → EarlierRow (c ∷ r) (c ∷ r′)
+
+pub record AreRows (p : Problem) (rs : List Row) : Type 0 where
+  pub ordered : Ordered EarlierRow rs
+  pub members : (r : Row) → (r ∈ rs) ↔ IsRow p r
 
 -- The choice of function f in a row, by the list of the functions
 abbrev pub choiceIn : List ℕ → Row → ℕ → Marks

@@ -5,7 +5,6 @@
 --   From    the rows from a place on
 use mathlib.Core.Path.{_≡_}
 use Prim.Native.Nat.{ℕ, _<_, _≤_}
-use mathlib.Core.Bool.{Bool, true, false}
 use mathlib.Core.List.{List, [], _∷_, _++_}
 use lib.ListN.{length}
 use Rattle.meaning.specs.Basics.{All}
@@ -37,20 +36,20 @@ pub data Reply (R P : Type 0) : Type 0 where
   refusedCall : ℕ → Reply R P
 
 -- The answers to a call that has the rows `from` its place on and an allowance n
-pub data Keeps {R : Type 0} (isSolution : R → Bool) (n : ℕ) : List R → Reply R (Place R) → Type 0 where
+pub data Keeps {R : Type 0} (IsSolution : R → Type 0) (n : ℕ) : List R → Reply R (Place R) → Type 0 where
   -- no solution row is skipped, and fewer than n rows are; else the call "must pause"
   finds : (skipped : List R) (r : R) (later : List R)
-      → All (λ x. isSolution x ≡ false) skipped
-      → isSolution r ≡ true
+      → All (λ x. IsSolution x → ⊥) skipped
+      → IsSolution r
       → length skipped < n
-      → Keeps isSolution n (skipped ++ (r ∷ later)) (found r (placeOf later))
+      → Keeps IsSolution n (skipped ++ (r ∷ later)) (found r (placeOf later))
   -- no solution row is left, and no row follows n of them
-  ends : (from : List R) → All (λ x. isSolution x ≡ false) from → length from ≤ n → Keeps isSolution n from (end past)
+  ends : (from : List R) → All (λ x. IsSolution x → ⊥) from → length from ≤ n → Keeps IsSolution n from (end past)
   -- "with at least n rows passed and no solution row among them"
   pauses : (passed : List R) (r : R) (later : List R)
-      → All (λ x. isSolution x ≡ false) passed
+      → All (λ x. IsSolution x → ⊥) passed
       → n ≤ length passed
-      → Keeps isSolution n (passed ++ (r ∷ later)) (paused (at r))
+      → Keeps IsSolution n (passed ++ (r ∷ later)) (paused (at r))
 
 -- The rows from a place on
 pub record From {R : Type 0} (rs : List R) (place : Place R) (from : List R) : Type 0 where

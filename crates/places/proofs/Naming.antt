@@ -75,7 +75,7 @@ module _ (p : Problem) (a : Accepted p) (ds : List ℕ) (hasRows : Bool) (told :
   -- ... and nothing else does
   pub named-row : (r : Row) → Names p (valueOf v) (at r) → IsRowOf v hasRows ds
   named-row r n =
-      let shapes = n .isPlace .agree in
+      let shapes = n .isPlace .hasRows in
       let whole : valueOf v ≡ record { masks = masksOf r; isPast = false } = n .isValue ∙ row-value r in
       let t : hasRows ≡ true = told ∙ shapes in
       record {

@@ -10,8 +10,7 @@ use mathlib.Core.List.{List, [], _∷_, map, List·Memᴰ·not-nil}
 use Prim.Native.Nat.{ℕ, zero, suc, _+_, _<_}
 use native.Mathlib.Omega.{arith}
 use lib.ListN.{length, getD}
-use Rattle.meaning.specs.Basics.{countFrom, _∈_, Distinct}
-use Rattle.meaning.specs.Difference.{Ordered, empty, more}
+use Rattle.meaning.specs.Basics.{countFrom, _∈_, Distinct, Ordered, empty, more}
 use Rattle.meaning.specs.Rows.{product}
 use Rattle.meaning.proofs.Ordered.{ordered-distinct, fronted-ordered, OneOfEach, product-are}
 use Rattle.masks.specs.Order.{below}

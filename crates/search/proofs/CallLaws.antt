@@ -1,5 +1,6 @@
 -- One call: a law for each answer, in document 01's terms.
 use mathlib.Core.Path.{_≡_, refl, ap, sym, _∙_, subst}
+use mathlib.Core.Logic.{_↔_}
 use mathlib.Core.Bool.{Bool, true, false}
 use mathlib.Core.List.{List, [], _∷_, _++_, map, map-append, append-nil, Memᴰ·append-right}
 use mathlib.Core.Option.{Option}
@@ -11,17 +12,18 @@ use Rattle.meaning.specs.Limits.{maxFunctions}
 use Rattle.meaning.specs.Basics.{Bytes, choose, isSome, orNone, _∈_}
 use Rattle.meaning.specs.Problem.{Problem}
 use Rattle.meaning.specs.Face.{faces}
-use Rattle.meaning.specs.Row.{Row}
+use Rattle.meaning.specs.Row.{Row, SolutionRow}
 use Rattle.meaning.specs.Rows.{rows}
 use Rattle.meaning.specs.Candidate.{solves}
 use Rattle.meaning.specs.Read.{refused}
 use Rattle.meaning.specs.Accept.{accept}
 use Rattle.meaning.specs.Search.{Place, at, past, placeOf, Reply, found, end, refusedCall, Keeps, finds, ends, pauses}
 use Rattle.meaning.specs.PlaceValue.{PlaceValue, masksOf, placeValue}
-use Rattle.meaning.specs.Entry.{HostReply, replyValue, SearchCall, notAccepted, noAllowance, noSuchPlace, searches}
+use Rattle.meaning.specs.Entry.{HostReply, replyValue, SearchCall, notAccepted, onAccepted, noAllowance, noSuchPlace, searches}
 use Rattle.meaning.specs.Calls.{left}
 use Rattle.meaning.proofs.Lists.{never, is-some}
 use Rattle.meaning.proofs.PlaceLaws.{mem-split}
+use Rattle.meaning.proofs.Solutions.{solves-is-right}
 use Rattle.metavariables.proofs.SurveyMeaning.{kept-functions}
 use Rattle.faces.specs.declared.first.Firsts.{Firsts}
 use Rattle.rows.specs.Rows.{MaskRow, maskRows, Tables}
@@ -39,7 +41,7 @@ use Rattle.fit.specs.Laid as fit
 use Rattle.fit.specs.Judging.{judgedAt}
 use Rattle.fit.proofs.Meaning.{judge-means}
 use Rattle.classes.specs.Tabled.{Tabled}
-use Rattle.seeking.specs.Seeking.{judged, Seekable, Ended, Clean, maskPlace, maskReply}
+use Rattle.seeking.specs.Seeking.{Judged, Seekable, Ended, Clean, maskPlace, maskReply}
 use Rattle.search.specs.Calling.{rowValue, replyWith, hostReply, Answers, Refuses, Callable, Sought, Placed}
 use Rattle.seeking.specs.declared.Fixed.{Fixed}
 use Rattle.seeking.specs.declared.Answer.{Answer}
@@ -47,14 +49,17 @@ use Rattle.seeking.specs.declared.Answer.the-variants as answers
 use Rattle.seeking.specs.declared.Searched.{Searched}
 use Rattle.search.proofs.RowsBack.{placeTo, replyTo, keeps-back}
 
--- The test of a row, as the code makes it, is document 01's
+-- The test of a row, as the code makes it, tells the solution rows
 judged-solves : (p : Problem) (ps es fs : List ℕ) (functions : ℕ) (firsts : Firsts) → fit.Laid p ps es fs functions firsts
-    → (r : Row) → r ∈ rows p → isSome (judgedAt ps es fs functions firsts (masksOf r)) ≡ solves p r
+    → (r : Row) → r ∈ rows p → (isSome (judgedAt ps es fs functions firsts (masksOf r)) ≡ true) ↔ SolutionRow p r
 judged-solves p ps es fs functions firsts h r m =
     let o : Option (List ℕ) = judgedAt ps es fs functions firsts (masksOf r) in
+    let same : isSome o ≡ solves p r =
     judge-means p ps es fs functions firsts h (masksOf r) (record { choices = r; isRow = m; masks = refl })
     (record { solves = isSome o; sources = record { nodes = orNone o } })
-    (record { solves = refl; nodes = λ kept e. ap orNone e }) .solution
+    (record { solves = refl; nodes = λ kept e. ap orNone e }) .solution in
+    let right = solves-is-right p r (h .accepted) m in
+    (λ e. right .0 (sym same ∙ e), λ x. same ∙ right .1 x)
 
 positive : (n : ℕ) → (n ≡ 0 → ⊥) → 0 < n
 positive zero f = absurd (f refl)
@@ -98,7 +103,7 @@ record Seen (reply : HostReply) (v : code.Place) (place : PlaceValue) (answer : 
   leaves : valueOf v ≡ left place reply
 
 module _ (p : Problem) (n : ℕ) (place : PlaceValue) where
-  seen : {from : List Row} {answer : Reply Row (Place Row)} (x : Answer) (row : MaskRow) (v : code.Place) → Keeps (solves p) n from answer
+  seen : {from : List Row} {answer : Reply Row (Place Row)} (x : Answer) (row : MaskRow) (v : code.Place) → Keeps (SolutionRow p) n from answer
       → Clean v
       → maskReply x row v ≡ replyTo masksOf answer → Seen (replyWith x row (valueOf v)) v place answer
   seen (answers.Refused k) row v (finds skipped r later a t l) c e = never (cc)
@@ -179,9 +184,9 @@ module _ (s : Bytes) (ps es fs ds : List ℕ) (a : Standing) (firsts : Firsts) (
     pub answers-nowhere : (IsRowOf place (a .rows) ds → ⊥) → (AtPast place → ⊥) → Refuses 16 place r → Answers s place n r
     answers-nowhere f g h =
         refuses-answers s place n 16 r h
-        (noSuchPlace p (ready .answer) above
+        (onAccepted p (ready .answer) (noSuchPlace above
         (nothing-named p (ready .laid .accepted) ds (a .rows) (ready .laid .hasRows)
-        (ready-tables (accept s) ps es fs ds a firsts ready) place f g))
+        (ready-tables (accept s) ps es fs ds a firsts ready) place f g)))
 
     -- Past the last there is nothing to find
     pub answers-past : AtPast place → Ended r → Answers s place n r
@@ -194,8 +199,8 @@ module _ (s : Bytes) (ps es fs ds : List ℕ) (a : Standing) (firsts : Firsts) (
         record {
           call =
               subst (SearchCall s (valueOf place) n) (sym e)
-              (searches p (ready .answer) above past (named place h) []
-              (record { before = rows p; whole = sym (append-nil (rows p)); begins = refl }) (ends [] tt (omega arith)));
+              (onAccepted p (ready .answer) (searches above past (named place h) []
+              (record { before = rows p; whole = sym (append-nil (rows p)); begins = refl }) (ends [] tt (omega arith))));
           leaves = w ∙ ap (left (valueOf place)) (sym e);
         }
 
@@ -208,14 +213,14 @@ module _ (s : Bytes) (ps es fs ds : List ℕ) (a : Standing) (firsts : Firsts) (
         rows-listed p ds (ready .laid .accepted) (sym (ready .laid .hasRows) ∙ h .someRows) (tables (h .someRows))
         ∙ ap (map masksOf) split ∙ map-append masksOf before (r₀ ∷ later)
         ∙ ap (λ (x : MaskRow). map masksOf before ++ (x ∷ map masksOf later)) (sym e) in
-        let back = keeps-back masksOf (judged ps′ es′ fs′ (d .fixed)) (solves p) (r₀ ∷ later) (alike h d before later r₀ split)
+        let back = keeps-back masksOf (Judged ps′ es′ fs′ (d .fixed)) (SolutionRow p) (r₀ ∷ later) (alike h d before later r₀ split)
         (ap (λ (x : MaskRow). x ∷ map masksOf later) (sym e)) (d .seeks .keeps (map masksOf before) (map masksOf later) listed) in
         let told = seen p n (valueOf place) (r .answer) (r .row) (r .place) (back .keeps) (d .seeks .clean) (back .same) in
         record {
           call =
               subst (SearchCall s (valueOf place) n) (sym (told .same))
-              (searches p (ready .answer) above (at r₀) named (r₀ ∷ later)
-              (record { before = before; whole = split; begins = refl }) (back .keeps));
+              (onAccepted p (ready .answer) (searches above (at r₀) named (r₀ ∷ later)
+              (record { before = before; whole = split; begins = refl }) (back .keeps)));
           leaves = told .leaves;
         }
       where
@@ -223,7 +228,8 @@ module _ (s : Bytes) (ps es fs ds : List ℕ) (a : Standing) (firsts : Firsts) (
         tables = ready-tables (accept s) ps es fs ds a firsts ready
 
         alike : IsRowOf place (a .rows) ds → (d : Sought ps es fs ds a firsts (place .masks) n r) → (before later : List Row) (r₀ : Row)
-            → rows p ≡ before ++ (r₀ ∷ later) → (x : Row) → x ∈ r₀ ∷ later → judged ps′ es′ fs′ (d .fixed) (masksOf x) ≡ solves p x
+            → rows p ≡ before ++ (r₀ ∷ later) → (x : Row) → x ∈ r₀ ∷ later
+            → Judged ps′ es′ fs′ (d .fixed) (masksOf x) ↔ SolutionRow p x
         alike h d before later r₀ split x i =
             rw (d .functions, d .firstNodes)
             (judged-solves p ps′ es′ fs′ (a .occurring .functions) firsts (ready-laid (h .someRows)) x
@@ -233,7 +239,7 @@ module _ (s : Bytes) (ps es fs ds : List ℕ) (a : Standing) (firsts : Firsts) (
 module _ (ps es fs ds : List ℕ) (a : Standing) (firsts : Firsts) (place : code.Place) (n : ℕ) (r : Searched) where
   pub placed-zero : n ≡ 0 → Refuses 15 place r → Placed ps es fs ds a firsts place n r
   unfolding Placed
-  placed-zero e h s ready = refuses-answers s place n 15 r h (noAllowance (ready .problem) (ready .answer) e)
+  placed-zero e h s ready = refuses-answers s place n 15 r h (onAccepted (ready .problem) (ready .answer) (noAllowance e))
 
   pub placed-nowhere : (n ≡ 0 → ⊥) → Tells place (a .rows) ds named.Nothing → Refuses 16 place r → Placed ps es fs ds a firsts place n r
   unfolding Placed Tells

@@ -1,6 +1,6 @@
 -- From rows of masks back to rows: a promise kept over the masks of rows is kept over the rows.
 use mathlib.Core.Path.{_≡_, refl, ap, sym, _∙_, subst}
-use mathlib.Core.Bool.{Bool, true, false}
+use mathlib.Core.Logic.{_↔_}
 use mathlib.Core.List.{List, [], _∷_, _++_, map, map-append, List·Memᴰ·head, List·Memᴰ·tail, Memᴰ·append-left, Memᴰ·append-right}
 use Prim.Native.Nat.{ℕ, _<_, _≤_}
 use native.Mathlib.Omega.{arith}
@@ -36,40 +36,39 @@ module _ {A B : Type 0} (f : A → B) where
       let (front, a, rest, p, q, r, t) = split-map xs us y vs rest in
       (x ∷ front, a, rest, ap {B = List A} (λ l. x ∷ l) p, (let z : us ≡ map f front = q in cc), r, t)
 
-  module _ (test : B → Bool) (solves : A → Bool) where
+  module _ (Tested : B → Type 0) (Solves : A → Type 0) where
     abbrev pub Alike : List A → Type 0
-    Alike xs = (x : A) → x ∈ xs → test (f x) ≡ solves x
+    Alike xs = (x : A) → x ∈ xs → Tested (f x) ↔ Solves x
 
-    none-back : (xs : List A) → Alike xs → All (λ y. test y ≡ false) (map f xs) → All (λ x. solves x ≡ false) xs
+    none-back : (xs : List A) → Alike xs → All (λ y. Tested y → ⊥) (map f xs) → All (λ x. Solves x → ⊥) xs
     none-back [] h a = tt
-    none-back (x ∷ xs) h a = (sym (h x (List·Memᴰ·head refl)) ∙ a .0, none-back xs (λ y m. h y (List·Memᴰ·tail m)) (a .1))
+    none-back (x ∷ xs) h a = (λ s. a .0 (h x (List·Memᴰ·head refl) .1 s), none-back xs (λ y m. h y (List·Memᴰ·tail m)) (a .1))
 
     pub record Back (n : ℕ) (xs : List A) (reply : Reply B (Place B)) : Type 0 where
       pub answer : Reply A (Place A)
-      pub keeps : Keeps solves n xs answer
+      pub keeps : Keeps Solves n xs answer
       pub same : reply ≡ replyTo answer
 
-    pub keeps-back : {n : ℕ} {ys : List B} {reply : Reply B (Place B)} (xs : List A) → Alike xs → map f xs ≡ ys → Keeps test n ys reply
+    pub keeps-back : {n : ℕ} {ys : List B} {reply : Reply B (Place B)} (xs : List A) → Alike xs → map f xs ≡ ys → Keeps Tested n ys reply
         → Back n xs reply
     keeps-back {n} xs h e (finds skipped r later a t l) =
         let (front, b, rest, p, q, s, u) = split-map xs skipped r later e in
-        let here : test (f b) ≡ true = ap test (sym s) ∙ t in
         let whole : Alike front = λ x m. h x (subst (λ (l : List A). x ∈ l) (sym p) (Memᴰ·append-left (b ∷ rest) m)) in
-        let is : solves b ≡ true =
-        sym (h b (subst (λ (l : List A). b ∈ l) (sym p) (Memᴰ·append-right front (List·Memᴰ·head refl)))) ∙ here in
+        let is : Solves b =
+        h b (subst (λ (l : List A). b ∈ l) (sym p) (Memᴰ·append-right front (List·Memᴰ·head refl))) .0 (subst Tested s t) in
         let long : length skipped ≡ length front = ap length q ∙ length-map front f in
         record {
           answer = found b (placeOf rest);
           keeps =
-              subst (λ (l : List A). Keeps solves n l (found b (placeOf rest))) (sym p)
-              (finds front b rest (none-back front whole (subst (All (λ y. test y ≡ false)) q a)) is (omega arith));
+              subst (λ (l : List A). Keeps Solves n l (found b (placeOf rest))) (sym p)
+              (finds front b rest (none-back front whole (subst (All (λ y. Tested y → ⊥)) q a)) is (omega arith));
           same = let w : placeOf later ≡ placeTo (placeOf rest) = ap placeOf u ∙ place-map rest in cc;
         }
     keeps-back {n} xs h e (ends from a l) =
         let long : length from ≡ length xs = ap length (sym e) ∙ length-map xs f in
         record {
           answer = end past;
-          keeps = ends xs (none-back xs h (subst (All (λ y. test y ≡ false)) (sym e) a)) (omega arith);
+          keeps = ends xs (none-back xs h (subst (All (λ y. Tested y → ⊥)) (sym e) a)) (omega arith);
           same = refl;
         }
     keeps-back {n} xs h e (pauses passed r later a l) =
@@ -79,7 +78,7 @@ module _ {A B : Type 0} (f : A → B) where
         record {
           answer = paused (at b);
           keeps =
-              subst (λ (l : List A). Keeps solves n l (paused (at b))) (sym p)
-              (pauses front b rest (none-back front whole (subst (All (λ y. test y ≡ false)) q a)) (omega arith));
+              subst (λ (l : List A). Keeps Solves n l (paused (at b))) (sym p)
+              (pauses front b rest (none-back front whole (subst (All (λ y. Tested y → ⊥)) q a)) (omega arith));
           same = cc;
         }

@@ -18,7 +18,7 @@ use Rattle.places.specs.declared.Place as code
 use Rattle.fit.specs.Laid.{Laid}
 use Rattle.fit.specs.Ready as fit
 use Rattle.fit.proofs.Readiness.{laid-ready}
-use Rattle.seeking.specs.Seeking.{judged, Grounded, Seekable, Turned, Passed, Ended, Paused, maskPlace, maskReply, Seeks}
+use Rattle.seeking.specs.Seeking.{Judged, Grounded, Seekable, Turned, Passed, Ended, Paused, maskPlace, maskReply, Seeks}
 use Rattle.seeking.specs.declared.Fixed.{Fixed}
 use Rattle.seeking.specs.declared.Turn.{Turn}
 use Rattle.seeking.specs.declared.Answer.{Answer}
@@ -61,13 +61,16 @@ later-place t row r ds before later s p e = go (t .more) refl
     go false q = past-place (r .place) (p .last q) ∙ sym (s before later e .ends q)
 
 module _ (ps es fs ds : List ℕ) (fixed : Fixed) (row : MaskRow) where
-  abbrev test : MaskRow → Bool
-  test r = judged ps es fs fixed r
+  abbrev Solves : MaskRow → Type 0
+  Solves r = Judged ps es fs fixed r
+
+  no-solution : (t : Turn) → Turned ps es fs ds fixed row t → t .solves ≡ false → Solves row → ⊥
+  no-solution t h s q = true≢false (sym q ∙ sym (h .solves) ∙ s)
 
   abbrev KeepsFrom : ℕ → Searched → Type 0
   KeepsFrom n r =
       (before later : List MaskRow) → maskRows ds ≡ before ++ (row ∷ later)
-      → Keeps test n (row ∷ later) (maskReply (r .answer) (r .row) (r .place))
+      → Keeps Solves n (row ∷ later) (maskReply (r .answer) (r .row) (r .place))
 
   -- A Found
   keeps-found : (n : ℕ) (t : Turn) (r : Searched) → 0 < n → Turned ps es fs ds fixed row t → t .solves ≡ true → Passed row t r
@@ -75,7 +78,7 @@ module _ (ps es fs ds : List ℕ) (fixed : Fixed) (row : MaskRow) where
   keeps-found n t r l h s p before later e =
       let reply : maskReply (r .answer) (r .row) (r .place) ≡ found row (placeOf later) =
       rw (p .answer, p .here, later-place t row r ds before later (h .steps) p e) in
-      subst (Keeps test n (row ∷ later)) (sym reply) (finds [] row later tt (sym (h .solves) ∙ s) l)
+      subst (Keeps Solves n (row ∷ later)) (sym reply) (finds [] row later tt (sym (h .solves) ∙ s) l)
 
   pub seeks-found : (n : ℕ) (t : Turn) (r : Searched) → 0 < n → Turned ps es fs ds fixed row t → t .solves ≡ true → Passed row t r
       → Seeks ps es fs ds fixed row n r
@@ -100,9 +103,9 @@ module _ (ps es fs ds : List ℕ) (fixed : Fixed) (row : MaskRow) where
     keeps = λ before later e.
         let none = no-later t before later (h .steps) m e in
         let reply : maskReply (r .answer) (r .row) (r .place) ≡ end past = rw (d .answer, past-place (r .place) (d .place)) in
-        subst (Keeps test n (row ∷ later)) (sym reply)
-        (subst (λ (l : List MaskRow). Keeps test n (row ∷ l) (end past)) (sym none)
-        (ends (row ∷ []) (sym (h .solves) ∙ s, tt) (omega arith)));
+        subst (Keeps Solves n (row ∷ later)) (sym reply)
+        (subst (λ (l : List MaskRow). Keeps Solves n (row ∷ l) (end past)) (sym none)
+        (ends (row ∷ []) (no-solution t h s, tt) (omega arith)));
     clean = λ q. d .place .masks;
   }
 
@@ -111,7 +114,7 @@ module _ (ps es fs ds : List ℕ) (fixed : Fixed) (row : MaskRow) where
   seeks-paused n r z d = record {
     keeps = λ before later e.
         let reply : maskReply (r .answer) (r .row) (r .place) ≡ paused (at row) = rw (d .answer, at-place (r .place) row (d .place)) in
-        subst (Keeps test n (row ∷ later)) (sym reply) (pauses [] row later tt (omega arith));
+        subst (Keeps Solves n (row ∷ later)) (sym reply) (pauses [] row later tt (omega arith));
     clean = λ q. absurd (true≢false (sym q ∙ d .place .here));
   }
 
@@ -128,7 +131,7 @@ module _ (ps es fs ds : List ℕ) (fixed : Fixed) (row : MaskRow) where
         let (rest, q) = begins-with (t .next) later (h .steps before later e .goes g) in
         let on : maskRows ds ≡ (before ++ (row ∷ [])) ++ (t .next ∷ rest) =
         e ∙ ap (λ (l : List MaskRow). before ++ (row ∷ l)) q ∙ sym (append-assoc before (row ∷ []) (t .next ∷ rest)) in
-        let kept = one-before test row (sym (h .solves) ∙ s) (k .keeps (before ++ (row ∷ [])) rest on) in
+        let kept = one-before Solves row (no-solution t h s) (k .keeps (before ++ (row ∷ [])) rest on) in
         rw (z, q) kept;
     clean = k .clean;
   }

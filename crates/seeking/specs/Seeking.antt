@@ -1,5 +1,6 @@
 -- Judging rows one after the other, in terms of the tables.
 --   judged     whether a row of masks is a solution row, by the test on the tables
+--   Judged     it is
 --   Rowed      what one row's turn requires; Seekable, what a search from a row on requires
 --   maskReply  an answer in terms of rows of masks
 --   Seeks      the promise of one call (`Keeps`) over the rows of the tables from a row on
@@ -27,6 +28,9 @@ use Rattle.seeking.specs.declared.Searched.{Searched}
 
 abbrev pub judged : List ℕ → List ℕ → List ℕ → Fixed → MaskRow → Bool
 judged ps es fs fixed row = isSome (judgedAt ps es fs (fixed .functions) (fixed .firsts) row)
+
+abbrev pub Judged : List ℕ → List ℕ → List ℕ → Fixed → MaskRow → Type 0
+Judged ps es fs fixed row = judged ps es fs fixed row ≡ true
 
 -- The tables are those of an accepted problem that has rows, and the first row is theirs
 pub record Grounded (ps es fs ds : List ℕ) (fixed : Fixed) (scratch : List ℕ) : Type 0 where
@@ -76,5 +80,5 @@ Clean v = v .past ≡ true → v .masks ≡ replicate maxFunctions 0
 
 pub record Seeks (ps es fs ds : List ℕ) (fixed : Fixed) (row : MaskRow) (n : ℕ) (r : Searched) : Type 0 where
   pub keeps : (before later : List MaskRow) → maskRows ds ≡ before ++ (row ∷ later)
-      → Keeps (judged ps es fs fixed) n (row ∷ later) (maskReply (r .answer) (r .row) (r .place))
+      → Keeps (Judged ps es fs fixed) n (row ∷ later) (maskReply (r .answer) (r .row) (r .place))
   pub clean : Clean (r .place)

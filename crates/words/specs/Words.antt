@@ -1,15 +1,17 @@
 -- Places as a C program holds them, in 64-bit words: 8 masks, then 0 for a row or 1 for past the last; a row is a place that names a row.
--- Document 01 leaves the form of a place free; what words name is its own.
+-- Document 01 leaves the form of a place free; what words name is its own. A buffer may have more words than a place: the place stands at
+-- its front.
 --   placeWords     how many words a place has
---   isPlaceLong    whether so many words are a place's
+--   hasPlace       whether so many words have room for one
 --   wordsOf        the words of a place
+--   placed         a buffer with a place at its front, and its later words as they were
 --   nowhere        a value that names no place of any problem (`nowhere-named`, WordLaws)
---   placeOfWords   the value that words hold: words of another number, or with another last word, are "no such place" (16)
+--   placeOfWords   the value at the front of a buffer: with too few words, or another last word, it is "no such place" (16)
 use Prim.Native.Nat.{ℕ, zero, suc}
 use mathlib.Core.Bool.{Bool, true, false}
 use mathlib.Core.List.{List, [], _∷_, _++_}
-use lib.ListN.{length, take, getD, replicate}
-use lib.Dec.{eqb}
+use lib.ListN.{length, take, drop, getD, replicate}
+use lib.Dec.{leb}
 use Rattle.meaning.specs.Limits.{maxFunctions}
 use Rattle.meaning.specs.Basics.{choose}
 use Rattle.meaning.specs.PlaceValue.{PlaceValue}
@@ -18,8 +20,8 @@ use Rattle.meaning.specs.PlaceValue.{PlaceValue}
 abbrev pub placeWords : ℕ
 placeWords = 9
 
-abbrev pub isPlaceLong : ℕ → Bool
-isPlaceLong n = eqb n placeWords
+abbrev pub hasPlace : ℕ → Bool
+hasPlace n = leb placeWords n
 
 abbrev pub lastWord : Bool → ℕ
 lastWord false = 0
@@ -27,6 +29,9 @@ lastWord true = 1
 
 abbrev pub wordsOf : PlaceValue → List ℕ
 wordsOf v = v .masks ++ (lastWord (v .isPast) ∷ [])
+
+abbrev pub placed : List ℕ → PlaceValue → List ℕ
+placed words v = wordsOf v ++ drop placeWords words
 
 -- Past the last no mask has a node
 unfoldable pub nowhere : PlaceValue
@@ -38,4 +43,4 @@ valueWith masks (suc zero) = record { masks = masks; isPast = true }
 valueWith masks (suc (suc n)) = nowhere
 
 unfoldable pub placeOfWords : List ℕ → PlaceValue
-placeOfWords words = choose (isPlaceLong (length words)) (valueWith (take maxFunctions words) (getD words maxFunctions 0)) nowhere
+placeOfWords words = choose (hasPlace (length words)) (valueWith (take maxFunctions words) (getD words maxFunctions 0)) nowhere

@@ -1,10 +1,11 @@
-// A place in words: 8 masks, then 0 for a row or 1 for past the last. Any words may be handed in.
+// A place in words: 8 masks, then 0 for a row or 1 for past the last. Any words may be handed in: a place stands at their front.
 use places::Place;
 ghost use mathlib.Core.Path.{_≡_};
+ghost use Prim.Native.Nat.{_≤_};
 ghost use lib.ListN.{length, take};
 ghost use Rattle.meaning.specs.Limits.{maxFunctions};
 ghost use Rattle.places.specs.Places.{valueOf};
-ghost use Rattle.words.specs.Words.{lastWord, nowhere, placeOfWords, placeWords, wordsOf};
+ghost use Rattle.words.specs.Words.{lastWord, nowhere, placeOfWords, placeWords, placed};
 
 pub const PLACE_WORDS: usize = Place::FUNCTIONS + 1;
 
@@ -18,9 +19,9 @@ fn nowhere() -> Place
     }
 }
 
-// The words before the last.
+// The words before the last of a place.
 fn masks_in(words: &[u64]) -> [u64; Place::FUNCTIONS]
-    requires { ⌜ length (now words) ≡ placeWords ⌝ }
+    requires { ⌜ placeWords ≤ length (now words) ⌝ }
     ensures { λ r. ⌜ r ≡ take maxFunctions (now (words .entry)) ⌝ }
 {
     let mut masks = [0u64; Place::FUNCTIONS];
@@ -32,11 +33,11 @@ fn masks_in(words: &[u64]) -> [u64; Place::FUNCTIONS]
     masks
 }
 
-// The place that words hold. Words that are no place are "no such place" (16) of every problem.
+// The place that words begin with. Words that are no place are "no such place" (16) of every problem.
 pub fn place_of(words: &[u64]) -> Place
     ensures { λ r. ⌜ valueOf r ≡ placeOfWords (now (words .entry)) ⌝ }
 {
-    if words.len() != PLACE_WORDS {
+    if words.len() < PLACE_WORDS {
         return nowhere();
     }
     let masks = masks_in(words);
@@ -60,10 +61,10 @@ fn last_word(past: bool) -> u64
     if past { 1 } else { 0 }
 }
 
-// The words of a place.
+// The words of a place at the front; the later ones stay as they are.
 pub fn put_place(words: &mut [u64], place: Place)
-    requires { ⌜ length (now words) ≡ placeWords ⌝ }
-    ensures { λ _. ⌜ now (words .exit) ≡ wordsOf (valueOf place) ⌝ }
+    requires { ⌜ placeWords ≤ length (now words) ⌝ }
+    ensures { λ _. ⌜ now (words .exit) ≡ placed (now (words .entry)) (valueOf place) ⌝ }
 {
     let masks = place.masks;
     let mut j = 0;

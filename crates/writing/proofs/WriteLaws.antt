@@ -1,5 +1,6 @@
 -- A law for each return of the functions of `write`, in document 01's terms.
 use mathlib.Core.Path.{_≡_, refl, ap, ap₂, sym, _∙_, subst}
+use mathlib.Core.Logic.{_↔_}
 use mathlib.Core.Bool.{true, false, not, true≢false}
 use mathlib.Core.List.{List, _++_}
 use Prim.Native.Nat.{ℕ, _<_, _≤_}
@@ -10,15 +11,16 @@ use borrow.Author.Tests.{not-false, not-true}
 use Rattle.meaning.specs.Limits.{maxText}
 use Rattle.meaning.specs.Basics.{Bytes, _∈_}
 use Rattle.meaning.specs.Problem.{Problem}
-use Rattle.meaning.specs.Row.{Row}
+use Rattle.meaning.specs.Row.{Row, SolutionRow}
 use Rattle.meaning.specs.Rows.{rows}
 use Rattle.meaning.specs.Candidate.{solves}
 use Rattle.meaning.specs.Read.{got, refused}
 use Rattle.meaning.specs.Accept.{accept}
 use Rattle.meaning.specs.Search.{at, past}
 use Rattle.meaning.specs.PlaceValue.{Names, masksOf}
-use Rattle.meaning.specs.Entry.{WriteCall, noSolutionRow, noSuchRow, notAccepted, rowText, tooShort, writes}
+use Rattle.meaning.specs.Entry.{WriteCall, noSolutionRow, noSuchRow, notAccepted, onAccepted, rowText, tooShort, writes}
 use Rattle.meaning.proofs.SecondDemand.{text-fits}
+use Rattle.meaning.proofs.Solutions.{solves-is-right}
 use Rattle.tokens.specs.Token.{Table, expressionTokens}
 use Rattle.tokens.proofs.ProblemTokens.{expression-table}
 use Rattle.faces.specs.declared.first.Firsts.{Firsts}
@@ -96,13 +98,19 @@ module _ (s : Bytes) (ps es fs ds : List ℕ) (a : Standing) (firsts : Firsts) (
       laid-ready p ps′ es′ fs′ (a .occurring .functions) firsts laid (row .masks) row-of scratch
       (omega (arith, length-take-le (a .patterns) ps (ready .laid .patternsInside), ready .laid .patternsInside))
 
+  -- Which rows are solution rows, by the test of a row
+  right : (solves p (isNamed .0) ≡ true) ↔ SolutionRow p (isNamed .0)
+  right = solves-is-right p (isNamed .0) (ready .laid .accepted) (isNamed .1)
+
   module _ (judged : Judged) (j : Judges (judgedAt ps′ es′ fs′ (a .occurring .functions) firsts (row .masks)) judged) where
     judgement : Judgement p (isNamed .0) judged
     judgement = judge-means p ps′ es′ fs′ (a .occurring .functions) firsts laid (row .masks) row-of judged j
 
     -- "17 not a solution row"
     pub no-solution : judged .solves ≡ false → (before : Bytes) → Writes s row before before (answers.Refused 17)
-    no-solution e before = noSolutionRow p (ready .answer) (isNamed .0) (isNamed .3) (sym (judgement .solution) ∙ e)
+    no-solution e before =
+        onAccepted p (ready .answer) (noSolutionRow (isNamed .0) (isNamed .3)
+        (λ x. true≢false (sym (right .1 x) ∙ sym (judgement .solution) ∙ e)))
 
     module _ (e : judged .solves ≡ true) where
       solved : solves p (isNamed .0) ≡ true
@@ -144,8 +152,8 @@ module _ (s : Bytes) (ps es fs ds : List ℕ) (a : Standing) (firsts : Firsts) (
           go (answers.Refused n) (number, short, same) =
               subst (λ (x : Bytes). WriteCall s (valueOf row) before (refused n) x) (sym same)
               (subst (λ (k : ℕ). WriteCall s (valueOf row) before (refused k) before) (sym number)
-              (tooShort p (ready .answer) (isNamed .0) (isNamed .3) solved
-              (subst (λ (bs : Bytes). length before < length bs) (sym (row-fields p (isNamed .0))) short)))
+              (onAccepted p (ready .answer) (tooShort (isNamed .0) (isNamed .3) (right .0 solved)
+              (subst (λ (bs : Bytes). length before < length bs) (sym (row-fields p (isNamed .0))) short))))
           go (answers.Wrote n) (fits, (count, same)) =
               let text : rowText p (isNamed .0) ≡ fieldsOf (entryOr p (isNamed .0)) 0 = row-fields p (isNamed .0) in
               let number : n ≡ length (rowText p (isNamed .0)) = count ∙ ap length (sym text) in
@@ -155,8 +163,8 @@ module _ (s : Bytes) (ps es fs ds : List ℕ) (a : Standing) (firsts : Firsts) (
               (subst
               (λ (k : ℕ). WriteCall s (valueOf row) before (got k) (rowText p (isNamed .0) ++ drop (length (rowText p (isNamed .0))) before))
               (sym number)
-              (writes p (ready .answer) (isNamed .0) (isNamed .3) solved
-              (subst (λ (bs : Bytes). length bs ≤ length before) (sym text) fits)))
+              (onAccepted p (ready .answer) (writes (isNamed .0) (isNamed .3) (right .0 solved)
+              (subst (λ (bs : Bytes). length bs ≤ length before) (sym text) fits))))
 
 -- `write_row`: what its calls require, and its returns
 abbrev pub planWith : Standing → Firsts → Place → Judged → Plan
@@ -198,9 +206,9 @@ module _ {ps es fs ds : List ℕ} {a : Standing} {firsts : Firsts} {row : Place}
   no-row : (s : Bytes) → Ready (accept s) ps es fs ds a firsts → (before : Bytes) → (IsRowOf row (a .rows) ds → ⊥)
       → Writes s row before before (answers.Refused 16)
   no-row s ready before f =
-      noSuchRow (ready .problem) (ready .answer)
-      (λ r n. f (named-row (ready .problem) (ready .laid .accepted) ds (a .rows) (ready .laid .hasRows)
-      (ready-tables (accept s) ps es fs ds a firsts ready) row r n))
+      onAccepted (ready .problem) (ready .answer)
+      (noSuchRow (λ r n. f (named-row (ready .problem) (ready .laid .accepted) ds (a .rows) (ready .laid .hasRows)
+      (ready-tables (accept s) ps es fs ds a firsts ready) row r n)))
 
   module _ (found : Named) (t : Tells row (a .rows) ds found) where
     pub named-nothing : {before : Bytes} → found ≡ named.Nothing → NamedWritten ps es fs ds a firsts row before before (answers.Refused 16)

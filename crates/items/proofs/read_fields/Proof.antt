@@ -7,8 +7,7 @@ use native.Mathlib.Omega.{arith}
 use lib.ListN.{length, take, drop}
 use borrow.Rule.Slice.PartMut.{putMid, same-len-mid}
 use borrow.Author.Needs.{needs}
-use Rattle.meaning.specs.Basics.{All}
-use Rattle.meaning.proofs.ByteLaws.{Byte}
+use Rattle.meaning.specs.Basics.{All, Byte}
 use Rattle.fields.specs.declared.number.Metavariable.{Metavariable}
 use Rattle.items.specs.Fields.{FieldDone, readField}
 use Rattle.items.specs.declared.Field.{Field}

@@ -2,7 +2,7 @@
 use mathlib.Core.Path.{_∙_, sym}
 use native.Mathlib.Omega.{arith}
 use Rattle.meaning.specs.Limits.{maxFunctions}
-use Rattle.words.proofs.WordLaws.{other-length, row-read, past-read, other-read}
+use Rattle.words.proofs.WordLaws.{too-few, row-read, past-read, other-read}
 use borrow.Author.Needs.{needs}
 use Rattle.words.proofs.place_of.Statement.{statement}
 use Rattle.words.proofs.place_of.Tie as tie
@@ -11,7 +11,7 @@ nowhere-requires : tie.Need-nowhere-requires
 nowhere-requires c κs = search needs
 
 returns : tie.Need-returns
-returns c = c .nowhere .ensures ∙ sym (other-length _ (c .before .if1 .taken))
+returns c = c .nowhere .ensures ∙ sym (too-few _ (c .before .if1 .taken))
 
 masks-in-requires : tie.Need-masks-in-requires
 masks-in-requires c κs = search needs

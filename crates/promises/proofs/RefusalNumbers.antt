@@ -2,12 +2,16 @@
 -- and not 12, which is withdrawn.
 --   start-numbers, search-numbers, write-numbers, check-numbers   one for each exported function
 -- The rest goes through the definitions of reading in document 01's order.
-use mathlib.Core.Path.{_≡_, refl, subst}
-use Prim.Native.Nat.{ℕ, zero, suc, _-_}
-use mathlib.Core.Bool.{Bool, true, false, false≢true}
+use mathlib.Core.Path.{_≡_, refl, subst, _∙_}
+use mathlib.Core.Logic.{⊎-elim}
+use Prim.Native.Nat.{ℕ, zero, suc, _-_, _<_}
+use mathlib.Core.Bool.{Bool, true, false, _&&_, _||_, not, false≢true}
 use mathlib.Core.List.{List}
 use lib.ListN.{length, getD}
 use lib.Dec.{eqb, ltb}
+use native.Mathlib.Omega.{arith}
+use borrow.Author.Tests.{ltb-true}
+use Rattle.meaning.proofs.Lists.{T-true, and-T, choose-false, eqb-eq, eqb-other, or-cases, true-T}
 use Rattle.meaning.specs.Limits.{firstWide, maxConstraints, maxDepth, maxFunctions, maxInput, maxText, metavariableCount}
 use Rattle.meaning.specs.Basics.{Bytes, choose}
 use Rattle.meaning.specs.Problem.{Problem, functions}
@@ -21,11 +25,11 @@ use Rattle.meaning.specs.Text.{inOrder, numbers, orTwenty, readItems, readText,
 use Rattle.meaning.specs.Row.{Row}
 use Rattle.meaning.specs.Search.{found, end, paused, refusedCall, Place, Reply, Keeps, finds, ends, pauses}
 use Rattle.meaning.specs.PlaceValue.{PlaceValue}
-use Rattle.meaning.specs.Entry.{HostReply, replyValue, startCall, SearchCall, notAccepted, noAllowance, noSuchPlace, searches}
-use Rattle.meaning.specs.Entry.{WriteCall, checkCall, noSuchRow, noSolutionRow, tooShort, writes}
-use Rattle.words.specs.Words.{isPlaceLong}
-use Rattle.exports.specs.Exported.{placeInto, startInto, withRow}
-use Rattle.exports.specs.Numbers.{isRefusal, Refuses, answer, refusal, RefusesReply}
+use Rattle.meaning.specs.Entry.{HostReply, replyValue, startCall, SearchCall, notAccepted, onAccepted, noAllowance, noSuchPlace, searches}
+use Rattle.meaning.specs.Entry.{WriteCall, checkCall, checkOn, noSuchRow, noSolutionRow, tooShort, writes}
+use Rattle.words.specs.Words.{hasPlace}
+use Rattle.exports.specs.Exported.{checkCode, lengthAfter, placeInto, startInto, withRow, writeCode}
+use Rattle.promises.specs.Numbers.{isRefusal, Refuses, answer, refusal, RefusesReply, checkAnswer, writeAnswer}
 
 -- A refusal comes from the first part or from the second
 then : {A B : Type 0} (a : Answer A) (f : A → Answer B) → Refuses a → ((x : A) → Refuses (f x)) → Refuses (after a f)
@@ -184,7 +188,7 @@ pub start-numbers : (words : List ℕ) (s : Bytes) → Refuses (startInto words 
 unfolding startCall
 start-numbers words s =
     then (startCall s) (placeInto words) (then (accept s) _ (accepted s) (λ p. answer _)) (λ v.
-    either (isPlaceLong (length words)) _ _ (answer v) (refusal 16 refl))
+    either (hasPlace (length words)) _ _ (answer v) (refusal 18 refl))
 
 -- `matcher_search`
 is-refusal : {A : Type 0} {r : ℕ} → Refuses {A = A} (refused r) → isRefusal r ≡ true
@@ -197,7 +201,7 @@ not-accepted s r e = is-refusal (subst (λ (a : Answer Problem). Refuses a) e (a
 pub never-twelve : (s : Bytes) → accept s ≡ refused 12 → ⊥
 never-twelve s e = false≢true (not-accepted s 12 e)
 
-kept : {solved : Row → Bool} (n : ℕ) {from : List Row} {reply : Reply Row (Place Row)} → Keeps solved n from reply
+kept : {IsSolution : Row → Type 0} (n : ℕ) {from : List Row} {reply : Reply Row (Place Row)} → Keeps IsSolution n from reply
     → RefusesReply (replyValue reply)
 kept n (finds skipped r later h y l) = tt
 kept n (ends from h l) = tt
@@ -205,9 +209,9 @@ kept n (pauses passed r later h l) = tt
 
 replied : (s : Bytes) (v : PlaceValue) (n : ℕ) (reply : HostReply) → SearchCall s v n reply → RefusesReply reply
 replied s v n reply (notAccepted r e) = not-accepted s r e
-replied s v n reply (noAllowance p e z) = refl
-replied s v n reply (noSuchPlace p e z none) = refl
-replied s v n reply (searches p e z place names from rows keeps) = kept n keeps
+replied s v n reply (onAccepted p e (noAllowance z)) = refl
+replied s v n reply (onAccepted p e (noSuchPlace z none)) = refl
+replied s v n reply (onAccepted p e (searches z place names from rows keeps)) = kept n keeps
 
 in-row : (long : Bool) (reply : HostReply) → RefusesReply reply → RefusesReply (withRow long reply)
 in-row true reply h = h
@@ -224,12 +228,39 @@ search-numbers s v n reply long call = in-row long reply (replied s v n reply ca
 pub write-numbers : (s : Bytes) (v : PlaceValue) (buffer after′ : Bytes) (given : Answer ℕ) → WriteCall s v buffer given after′
     → Refuses given
 write-numbers s v buffer after′ given (notAccepted r e) = refusal r (not-accepted s r e)
-write-numbers s v buffer after′ given (noSuchRow p e none) = refusal 16 refl
-write-numbers s v buffer after′ given (noSolutionRow p e r names f) = refusal 17 refl
-write-numbers s v buffer after′ given (tooShort p e r names t l) = refusal 18 refl
-write-numbers s v buffer after′ given (writes p e r names t l) = answer _
+write-numbers s v buffer after′ given (onAccepted p e (noSuchRow none)) = refusal 16 refl
+write-numbers s v buffer after′ given (onAccepted p e (noSolutionRow r names f)) = refusal 17 refl
+write-numbers s v buffer after′ given (onAccepted p e (tooShort r names t l)) = refusal 18 refl
+write-numbers s v buffer after′ given (onAccepted p e (writes r names t l)) = answer _
 
 -- `matcher_check`
 pub check-numbers : (s t : Bytes) → Refuses (checkCall s t)
-unfolding checkCall
+unfolding checkCall checkOn
 check-numbers s t = then (accept s) _ (accepted s) (λ p. then (readText t) _ (text t) (λ is. answer _))
+
+-- The numbers of refusals are above 0 and below 256
+pub small : (r : ℕ) → isRefusal r ≡ true → (0 < r) × (r < 256)
+small r e = ⊎-elim low high (or-cases (ltb 0 r && (ltb r 21 && not (eqb r 12))) (eqb r 25 || eqb r 27) e)
+  where
+    low : (ltb 0 r && (ltb r 21 && not (eqb r 12))) ≡ true → (0 < r) × (r < 256)
+    low h =
+        let (a, b) = and-T (ltb 0 r) (ltb r 21 && not (eqb r 12)) (true-T h) in
+        let (c, d) = and-T (ltb r 21) (not (eqb r 12)) b in
+        (ltb-true 0 r (T-true a), omega (arith, ltb-true r 21 (T-true c)))
+
+    high : (eqb r 25 || eqb r 27) ≡ true → (0 < r) × (r < 256)
+    high h = ⊎-elim (λ q. let z = eqb-eq r 25 q in (omega arith, omega arith)) (λ q. let z = eqb-eq r 27 q in (omega arith, omega arith))
+        (or-cases (eqb r 25) (eqb r 27) h)
+
+-- What a number says is what was answered
+pub check-read : (a : Answer Bool) → Refuses a → checkAnswer (checkCode a) ≡ a
+check-read (got true) h = refl
+check-read (got false) h = refl
+check-read (refused r) (refusal q e) =
+    let below = small q e in
+    choose-false _ _ (eqb-other q 256 (λ z. omega arith)) ∙ choose-false _ _ (eqb-other q 257 (λ z. omega arith))
+
+pub write-read : (a : Answer ℕ) (before : ℕ) → Refuses a → writeAnswer (writeCode a) (lengthAfter before a) ≡ a
+write-read (got n) before h = refl
+write-read (refused zero) before (refusal q e) = absurd (omega (arith, small zero e))
+write-read (refused (suc r)) before h = refl

@@ -1,2 +1,0 @@
--- The third demand for an open search.
-pub mod OpenLaws

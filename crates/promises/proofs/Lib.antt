@@ -1,0 +1,6 @@
+-- That the promises are kept.
+pub mod RefusalNumbers
+pub mod CallLists
+pub mod CLists
+pub mod HostTexts
+pub mod Kept

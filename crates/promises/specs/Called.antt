@@ -1,0 +1,121 @@
+-- The functions that a host calls, in Rattle (`matcher`) and in C (`exports`). A call is known here by what the function's contract, as it
+-- stands in the source, tells of it; that a call is told of means that it has returned.
+--   Lent        where what is lent lies, and for how long: nothing that a contract says depends on it
+--   ..Called    what is handed in, what comes back, and what each buffer holds before and after
+--   Unasked     no contract asks anything of its caller: any bytes, places, rows, allowances, texts and buffers may be handed in
+--   Ends        each call ends, without a fault, and then its contract holds: the program logic's own statement of the compiled function
+use mathlib.Core.List.{List}
+use Prim.Native.Nat.{ℕ}
+use base.Fml.{GName}
+use contract.Lifetimes.{Lfts}
+use denote.Ref.{RefT}
+use Rattle.meaning.specs.Basics.{Bytes}
+use Rattle.places.specs.declared.Place.{Place}
+use Rattle.places.specs.declared.Started.{Started}
+use Rattle.seeking.specs.declared.Searched.{Searched}
+use Rattle.writing.specs.declared.write.Written.{Written}
+use Rattle.checking.specs.declared.Checked.{Checked}
+use Rattle.matcher.specs.Opened.{OpenAnswers}
+use Rattle.matcher.specs.declared.OpenSearch.{OpenSearch}
+use Rattle.matcher.specs.declared.Moved.{Moved}
+use Rattle.matcher.specs.declared.Reply.{Reply}
+use Rattle.places.proofs.Place.start.Reads as start
+use Rattle.search.proofs.call.search.Reads as search
+use Rattle.writing.proofs.write.write.Reads as write
+use Rattle.checking.proofs.check.Reads as check
+use Rattle.matcher.proofs.OpenSearch.at.Reads as opened
+use Rattle.matcher.proofs.search_owned.Reads as owned
+use Rattle.exports.proofs.matcher_start.Reads as c-start
+use Rattle.exports.proofs.matcher_search.Reads as c-search
+use Rattle.exports.proofs.matcher_write.Reads as c-write
+use Rattle.exports.proofs.matcher_check.Reads as c-check
+use Rattle.places.proofs.Place.start.Statement as start-code
+use Rattle.search.proofs.call.search.Statement as search-code
+use Rattle.writing.proofs.write.write.Statement as write-code
+use Rattle.checking.proofs.check.Statement as check-code
+use Rattle.matcher.proofs.search_owned.Statement as owned-code
+use Rattle.matcher.proofs.search_open.Statement as open-code
+use Rattle.exports.proofs.matcher_start.Statement as c-start-code
+use Rattle.exports.proofs.matcher_search.Statement as c-search-code
+use Rattle.exports.proofs.matcher_write.Statement as c-write-code
+use Rattle.exports.proofs.matcher_check.Statement as c-check-code
+
+pub record Lent (references : ℕ) : Type 0 where
+  pub spans : Lfts references
+  pub pointer : ℕ → ℕ × ℕ
+  pub name : ℕ → GName
+
+-- What the k-th reference refers to
+abbrev pub lent : {n : ℕ} {A : Type 0} → Lent n → ℕ → A → RefT A
+lent l k x = record { ptr = l .pointer k; name = l .name k; now = x }
+
+-- In Rattle
+abbrev pub StartCalled : Bytes → Started → Type 0
+StartCalled s r = (l : Lent 1) × start.Learnt (l .spans) (lent l 0 s, tt) r (lent l 0 s, tt)
+
+abbrev pub SearchCalled : Bytes → Place → ℕ → Searched → Type 0
+SearchCalled s place n r =
+    (l : Lent 1) × search.Learnt (l .spans) (lent l 0 s, (place, (n, tt))) r (lent l 0 s, (place, (n, tt)))
+
+abbrev pub WriteCalled : Bytes → Place → Bytes → Written → Bytes → Type 0
+WriteCalled s row out r out′ =
+    (l : Lent 2) × write.Learnt (l .spans) (lent l 0 s, (row, (lent l 1 out, tt))) r (lent l 0 s, (row, (lent l 1 out′, tt)))
+
+abbrev pub CheckCalled : Bytes → Bytes → Checked → Type 0
+CheckCalled s text r =
+    (l : Lent 2) × check.Learnt (l .spans) (lent l 0 s, (lent l 1 text, tt)) r (lent l 0 s, (lent l 1 text, tt))
+
+abbrev pub OpenedCalled : Place → OpenSearch → Type 0
+OpenedCalled place r = opened.Learnt tt (place, tt) r (place, tt)
+
+abbrev pub OwnedCalled : OpenSearch → Bytes → ℕ → Moved → Type 0
+OwnedCalled kept s n r = (l : Lent 1) × owned.Learnt (l .spans) (kept, (lent l 0 s, (n, tt))) r (kept, (lent l 0 s, (n, tt)))
+
+-- `search_open` is walked by hand, so that its contract is not read off for us: `open-contract` says that this is it
+abbrev pub OpenCalled : OpenSearch → Bytes → ℕ → Reply → OpenSearch → Type 0
+OpenCalled kept s n r kept′ = OpenAnswers s (kept .place) n (kept′ .place) r
+
+-- In C
+abbrev pub CStartCalled : Bytes → List ℕ → ℕ → List ℕ → Type 0
+CStartCalled s place r place′ =
+    (l : Lent 2) × c-start.Learnt (l .spans) (lent l 0 s, (lent l 1 place, tt)) r (lent l 0 s, (lent l 1 place′, tt))
+
+abbrev pub CSearchCalled : Bytes → List ℕ → List ℕ → ℕ → ℕ → List ℕ → List ℕ → Type 0
+CSearchCalled s place row n r place′ row′ =
+    (l : Lent 3)
+    × c-search.Learnt (l .spans) (lent l 0 s, (lent l 1 place, (lent l 2 row, (n, tt)))) r
+    (lent l 0 s, (lent l 1 place′, (lent l 2 row′, (n, tt))))
+
+abbrev pub CWriteCalled : Bytes → List ℕ → Bytes → ℕ → ℕ → Bytes → ℕ → Type 0
+CWriteCalled s row out written r out′ written′ =
+    (l : Lent 4)
+    × c-write.Learnt (l .spans) (lent l 0 s, (lent l 1 row, (lent l 2 out, (lent l 3 written, tt)))) r
+    (lent l 0 s, (lent l 1 row, (lent l 2 out′, (lent l 3 written′, tt))))
+
+abbrev pub CCheckCalled : Bytes → Bytes → ℕ → Type 0
+CCheckCalled s text r =
+    (l : Lent 2) × c-check.Learnt (l .spans) (lent l 0 s, (lent l 1 text, tt)) r (lent l 0 s, (lent l 1 text, tt))
+
+-- Whatever they are handed
+pub record Unasked : Type 0 where
+  pub starts : (spans : Lfts 1) (handed : _) → start.Asked spans handed
+  pub searches : (spans : Lfts 1) (handed : _) → search.Asked spans handed
+  pub writes : (spans : Lfts 2) (handed : _) → write.Asked spans handed
+  pub checks : (spans : Lfts 2) (handed : _) → check.Asked spans handed
+  pub owned : (spans : Lfts 1) (handed : _) → owned.Asked spans handed
+  pub startsInC : (spans : Lfts 2) (handed : _) → c-start.Asked spans handed
+  pub searchesInC : (spans : Lfts 3) (handed : _) → c-search.Asked spans handed
+  pub writesInC : (spans : Lfts 4) (handed : _) → c-write.Asked spans handed
+  pub checksInC : (spans : Lfts 2) (handed : _) → c-check.Asked spans handed
+
+pub record Ends : Type 2 where
+  pub starts : {M : Type 1} → start-code.statement M
+  pub searches : {M : Type 1} → search-code.statement M
+  pub writes : {M : Type 1} → write-code.statement M
+  pub checks : {M : Type 1} → check-code.statement M
+  pub owned : {M : Type 1} → owned-code.statement M
+  pub opened : {M : Type 1} → open-code.statement M
+  pub startsInC : {M : Type 1} → c-start-code.statement M
+  pub searchesInC : {M : Type 1} → c-search-code.statement M
+  pub writesInC : {M : Type 1} → c-write-code.statement M
+  pub checksInC : {M : Type 1} → c-check-code.statement M

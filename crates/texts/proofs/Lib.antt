@@ -1,2 +1,0 @@
--- The second demand.
-pub mod SecondDemand

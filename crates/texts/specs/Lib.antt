@@ -1,2 +1,0 @@
--- What the writer and the checker promise together.
-pub mod Together
