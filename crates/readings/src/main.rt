@@ -4,7 +4,7 @@ mod input;
 use input::Input;
 use input::read_input;
 use libc::STDERR_FILENO;
-use listing::readings::print_readings;
+use printing::print_readings;
 
 // One byte more than a problem may have, so that a longer input is refused (1) and no more of it is read.
 const MOST: usize = 4097;

@@ -1,5 +1,6 @@
 // One line of the input: its kind, its problem and its text out of their digits, and its label.
 use crate::pair::show_pair;
+use crate::written::show_written;
 use checking::Checked;
 use checking::check;
 use lines::input::Part;
@@ -9,8 +10,7 @@ use lines::output::bad;
 use lines::output::end_line;
 use lines::output::print;
 use lines::output::print_number;
-use listing::readings::print_readings;
-use listing::written::show_written;
+use printing::print_readings;
 
 // Room for a problem, and for a text: one byte more than a text may have.
 const ROOM: usize = 8193;

@@ -4,11 +4,12 @@
 // where PROBLEM and TEXT are bytes, two upper-case digits for each, and one space stands between the parts. KIND is
 //     S   every solution of the problem, as document 01's program `readings` prints them, below the label; TEXT is empty
 //     C   the text is checked
-//     W   a row is written: TEXT is a place and the length of the buffer (see `listing::written`)
+//     W   a row is written: TEXT is a place and the length of the buffer (see `written`)
 //     N   two nodes of the problem's expressions are compared: TEXT is their numbers (see `pair`)
 // Any other line is printed as a bad one.
 mod line;
 mod pair;
+mod written;
 
 use line::show;
 use lines::input::buffer;

@@ -3,8 +3,8 @@ use mathlib.Core.Path.{_≡_}
 use Prim.Native.Nat.{_-_, _≤_}
 use lib.ListN.{length}
 use borrow.Author.Needs.{needs}
-use Rattle.listing.proofs.written.place_of.Statement.{statement}
-use Rattle.listing.proofs.written.place_of.Tie as tie
+use Rattle.vectors_texts.proofs.written.place_of.Statement.{statement}
+use Rattle.vectors_texts.proofs.written.place_of.Tie as tie
 
 abbrev Inv-loop : tie.InvT-loop
 Inv-loop asked masks₀ k₀ masks k = (k ≤ 8) × (length masks ≡ 8)

@@ -1,0 +1,3 @@
+-- The laws of what is printed.
+pub mod PutLaws
+pub mod DecimalLaws

@@ -1,0 +1,2 @@
+-- What is printed, in a buffer.
+pub mod Put

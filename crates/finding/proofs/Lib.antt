@@ -1,0 +1,2 @@
+-- The laws of a search call with the text of what it finds.
+pub mod FindingLaws

@@ -1,0 +1,3 @@
+-- The laws of the program's lines.
+pub mod LineLaws
+pub mod OutputLaws

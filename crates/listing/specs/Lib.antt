@@ -1,0 +1,2 @@
+-- What the program `readings` prints, line by line.
+pub mod Listing
