@@ -1,6 +1,6 @@
 -- A law for each return of the functions of `text`, and for what their calls require.
 use mathlib.Core.Path.{_≡_, refl, ap, ap₂, sym, _∙_, subst}
-use mathlib.Core.List.{List, [], _∷_, _++_, append-assoc}
+use mathlib.Core.List.{List, [], _∷_, _++_, append-assoc, append-nil}
 use Prim.Native.Nat.{ℕ, zero, suc, _+_, _-_, _<_, _≤_}
 use native.Mathlib.Omega.{arith}
 use borrow.Rule.Slice.PartMut.{putMid}
@@ -267,6 +267,15 @@ entry-written {es} plan m {before} {after} {r} q h = subst (λ (x : Entry). Entr
 pub record Counting (es : List ℕ) (plan : Plan) (m n : ℕ) : Type 0 where
   pub whole : (says : Entries) → DenotesAll es plan says → n + length (fieldsOf says m) ≡ length (fieldsOf says 0)
 
+-- What the loop of `write_from` keeps: the fields from metavariable m up to k are written, n bytes; with those from k on they are all
+-- from m on
+abbrev Written : Entries → ℕ → ℕ → ℕ → Bytes → Bytes → Type 0
+Written says m k n before out = (done : Bytes) × (fieldsOf says m ≡ done ++ fieldsOf says k) × Wrote done before out n
+
+pub record Writing (es : List ℕ) (plan : Plan) (m k n : ℕ) (before out : Bytes) : Type 0 where
+  pub within : k ≤ metavariableCount
+  pub written : (says : Entries) → DenotesAll es plan says → Written says m k n before out
+
 module _ {es : List ℕ} {plan : Plan} where
   pub counting-begins : Counting es plan 0 0
   counting-begins = record { whole = λ says d. omega arith }
@@ -314,60 +323,58 @@ module _ {es : List ℕ} {plan : Plan} where
         omega (arith, w .short)
 
   -- The fields one after the other
-  pub none-left : {m : ℕ} {before : Bytes} → m ≡ metavariableCount → FieldsWritten es plan m before before 0
-  none-left {before} e = record {
-    wrote = λ says d. subst (λ (bs : Bytes). Wrote bs before before 0) (sym (ap (fieldsOf says) e ∙ fields-end says)) (refl, refl);
-  }
+  pub writing-begins : {m : ℕ} {before : Bytes} → m ≤ metavariableCount → Writing es plan m m 0 before before
+  writing-begins h = record { within = h; written = λ says d. ([], refl, (refl, refl)) }
 
-  module _ {m room : ℕ} (t : TextRoom es plan m room) (small : m < metavariableCount) where
-    -- What `write_entry` requires, of the entry as the code has it
-    entry-room : EntryRoom es m (entryAt plan m) room
-    entry-room =
-        let l = fields-length (t .says) m small in
-        record {
-          says = t .says m;
-          denotes = t .denotes m small;
-          fits = record { inside = omega (arith, t .fits .inside); short = omega (arith, t .fits .short) };
-        }
+  module _ {m k n : ℕ} {before out : Bytes} (w : Writing es plan m k n before out) where
+    pub writing-ends : metavariableCount ≤ k → FieldsWritten es plan m before out n
+    writing-ends h = record { wrote = go }
+      where
+        go : (says : Entries) → DenotesAll es plan says → Wrote (fieldsOf says m) before out n
+        go says d =
+            let (done, whole, wrote) = w .written says d in
+            let last : k ≡ metavariableCount = omega (arith, w .within) in
+            rw (whole, last, fields-end says, append-nil done) wrote
 
-    pub entry-at-room : {entry : Entry} → entry ≡ entryAt plan m → EntryRoom es m entry room
-    entry-at-room q = subst (λ (x : Entry). EntryRoom es m x room) (sym q) entry-room
+    module _ (t : TextRoom es plan m (length before)) (same : length out ≡ length before) where
+      left : n + length (fieldsOf (t .says) k) ≡ length (fieldsOf (t .says) m)
+      left =
+          let (done, whole, wrote) = w .written (t .says) (t .denotes) in
+          rw (wrote .0, whole) (sym (length-append done (fieldsOf (t .says) k)))
 
-    module _ {before p : Bytes} {n : ℕ} (long : length before ≡ room) (kept : length p ≡ length before)
-        (e : EntryWritten es m (entryAt plan m) before p n) where
-      pub field-inside : n ≤ length p
-      field-inside =
-          let a = e .wrote (t .says m) (t .denotes m small) .0 in
-          let l = fields-length (t .says) m small in
-          omega (arith, t .fits .inside)
+      pub written-inside : n ≤ length out
+      written-inside = omega (arith, left, t .fits .inside)
 
-      -- What the writer of the later fields requires
-      pub later-room : TextRoom es plan (m + 1) (length (take (length p - n) (drop n p)))
-      later-room =
-          let a = e .wrote (t .says m) (t .denotes m small) .0 in
-          let l = fields-length (t .says) m small in
-          let z = ap length (rest-all n p) ∙ length-drop n p in
-          record {
-            planned = t .planned;
-            says = t .says;
-            denotes = t .denotes;
-            within = omega arith;
-            fits = record { inside = omega (arith, t .fits .inside); short = omega (arith, t .fits .short) };
-          }
+      module _ (small : k < metavariableCount) where
+        -- What `write_entry` requires, of the entry as the code has it
+        pub next-room : {entry : Entry} → entry ≡ entryAt plan k → EntryRoom es k entry (length (take (length out - n) (drop n out)))
+        next-room q =
+            let l = fields-length (t .says) k small in
+            let z = ap length (rest-all n out) ∙ length-drop n out in
+            subst (λ (x : Entry). EntryRoom es k x (length (take (length out - n) (drop n out)))) (sym q) (record {
+              says = t .says k;
+              denotes = t .denotes k small;
+              fits = record { inside = omega (arith, left, t .fits .inside); short = omega (arith, left, t .fits .short) };
+            })
 
-      module _ {x : Bytes} {r : ℕ} (f : FieldsWritten es plan (m + 1) (take (length p - n) (drop n p)) x r) where
-        pub sum-fits : n + r < 65536
-        sum-fits =
-            let a = e .wrote (t .says m) (t .denotes m small) .0 in
-            let b = f .wrote (t .says) (t .denotes) .0 in
-            let l = fields-length (t .says) m small in
-            omega (arith, t .fits .short)
+        module _ {x : Bytes} {j : ℕ} (e : EntryWritten es k (entryAt plan k) (take (length out - n) (drop n out)) x j) where
+          pub next-short : n + j < 65536
+          next-short =
+              let a = e .wrote (t .says k) (t .denotes k small) .0 in
+              let l = fields-length (t .says) k small in
+              omega (arith, left, t .fits .short)
 
-        pub fields-written : FieldsWritten es plan m before (putMid n (length p - n) p x) (n + r)
-        fields-written = record {
-          wrote = λ says d. subst (λ (bs : Bytes). Wrote bs before (putMid n (length p - n) p x) (n + r)) (sym (fields-next says m small))
-              (joined (encodeEntry m (says m)) (fieldsOf says (m + 1)) before p x n r (e .wrote (says m) (d m small)) (f .wrote says d));
-        }
+          pub writing-goes : Writing es plan m (k + 1) (n + j) before (putMid n (length out - n) out x)
+          writing-goes = record { within = omega arith; written = go }
+            where
+              go : (says : Entries) → DenotesAll es plan says → Written says m (k + 1) (n + j) before (putMid n (length out - n) out x)
+              go says d =
+                  let (done, whole, wrote) = w .written says d in
+                  let next = encodeEntry k (says k) in (
+                    done ++ next,
+                    rw (whole, fields-next says k small) (sym (append-assoc done next (fieldsOf says (k + 1)))),
+                    joined done next before out x n j wrote (e .wrote (says k) (d k small)),
+                  )
 
   -- What the writer of all fields requires
   pub text-room : (before : Bytes) {n : ℕ} → Writable es plan → TextMeasured es plan n → n ≤ length before

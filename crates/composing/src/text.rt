@@ -1,5 +1,4 @@
-// The bytes of a row's text: how many they are, and how they are written. The tail of the buffer after a field is lent on to the writer
-// of the later ones.
+// The bytes of a row's text: how many they are, and how they are written.
 use crate::entry::Entry;
 use crate::entry::Plan;
 use crate::entry::entry_of;
@@ -76,14 +75,17 @@ fn write_entry(m: u8, es: &[u64], entry: Entry, out: &mut [u8]) -> usize
     }
 }
 
-// The fields of the metavariables from m on.
+// The fields of the metavariables from m on, each into the part of the buffer after those before it. A loop, so that the stack does not
+// grow with their number.
 pub fn write_from(m: u32, es: &[u64], plan: Plan, out: &mut [u8]) -> usize
     requires { ⌜ TextRoom (now es) plan m (length (now out)) ⌝ }
     ensures { λ r. ⌜ FieldsWritten (now (es .entry)) plan m (now (out .entry)) (now (out .exit)) r ⌝ }
 {
-    if m == METAVARIABLES {
-        return 0;
+    let mut k = m;
+    let mut n = 0;
+    while k < METAVARIABLES {
+        n += write_entry(k as u8, es, entry_of(plan, k), &mut out[n..]);
+        k += 1;
     }
-    let n = write_entry(m as u8, es, entry_of(plan, m), out);
-    n + write_from(m + 1, es, plan, &mut out[n..])
+    n
 }
