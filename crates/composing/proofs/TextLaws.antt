@@ -3,7 +3,7 @@ use mathlib.Core.Path.{_≡_, refl, ap, ap₂, sym, _∙_, subst}
 use mathlib.Core.List.{List, [], _∷_, _++_, append-assoc, append-nil}
 use Prim.Native.Nat.{ℕ, zero, suc, _+_, _-_, _<_, _≤_}
 use native.Mathlib.Omega.{arith}
-use borrow.Rule.Slice.PartMut.{putMid}
+use borrow.Rule.Slice.PartMut.{putMid, same-len-mid}
 use lib.ListN.{length, take, drop, set, length-append, length-drop, length-set, take-append-drop}
 use lib.Seq.{drop-append-seam, length-take-le}
 use Rattle.meaning.specs.Limits.{metavariableCount}
@@ -274,6 +274,7 @@ Written says m k n before out = (done : Bytes) × (fieldsOf says m ≡ done ++ f
 
 pub record Writing (es : List ℕ) (plan : Plan) (m k n : ℕ) (before out : Bytes) : Type 0 where
   pub within : k ≤ metavariableCount
+  pub same : length out ≡ length before
   pub written : (says : Entries) → DenotesAll es plan says → Written says m k n before out
 
 module _ {es : List ℕ} {plan : Plan} where
@@ -324,7 +325,7 @@ module _ {es : List ℕ} {plan : Plan} where
 
   -- The fields one after the other
   pub writing-begins : {m : ℕ} {before : Bytes} → m ≤ metavariableCount → Writing es plan m m 0 before before
-  writing-begins h = record { within = h; written = λ says d. ([], refl, (refl, refl)) }
+  writing-begins h = record { within = h; same = refl; written = λ says d. ([], refl, (refl, refl)) }
 
   module _ {m k n : ℕ} {before out : Bytes} (w : Writing es plan m k n before out) where
     pub writing-ends : metavariableCount ≤ k → FieldsWritten es plan m before out n
@@ -336,14 +337,14 @@ module _ {es : List ℕ} {plan : Plan} where
             let last : k ≡ metavariableCount = omega (arith, w .within) in
             rw (whole, last, fields-end says, append-nil done) wrote
 
-    module _ (t : TextRoom es plan m (length before)) (same : length out ≡ length before) where
+    module _ (t : TextRoom es plan m (length before)) where
       left : n + length (fieldsOf (t .says) k) ≡ length (fieldsOf (t .says) m)
       left =
           let (done, whole, wrote) = w .written (t .says) (t .denotes) in
           rw (wrote .0, whole) (sym (length-append done (fieldsOf (t .says) k)))
 
       pub written-inside : n ≤ length out
-      written-inside = omega (arith, left, t .fits .inside)
+      written-inside = omega (arith, left, t .fits .inside, w .same)
 
       module _ (small : k < metavariableCount) where
         -- What `write_entry` requires, of the entry as the code has it
@@ -354,7 +355,7 @@ module _ {es : List ℕ} {plan : Plan} where
             subst (λ (x : Entry). EntryRoom es k x (length (take (length out - n) (drop n out)))) (sym q) (record {
               says = t .says k;
               denotes = t .denotes k small;
-              fits = record { inside = omega (arith, left, t .fits .inside); short = omega (arith, left, t .fits .short) };
+              fits = record { inside = omega (arith, left, t .fits .inside, w .same); short = omega (arith, left, t .fits .short) };
             })
 
         module _ {x : Bytes} {j : ℕ} (e : EntryWritten es k (entryAt plan k) (take (length out - n) (drop n out)) x j) where
@@ -364,8 +365,10 @@ module _ {es : List ℕ} {plan : Plan} where
               let l = fields-length (t .says) k small in
               omega (arith, left, t .fits .short)
 
-          pub writing-goes : Writing es plan m (k + 1) (n + j) before (putMid n (length out - n) out x)
-          writing-goes = record { within = omega arith; written = go }
+          pub writing-goes : length x ≡ length (take (length out - n) (drop n out))
+              → Writing es plan m (k + 1) (n + j) before (putMid n (length out - n) out x)
+          writing-goes kept =
+              record { within = omega arith; same = same-len-mid n (length out - n) out x kept ∙ w .same; written = go }
             where
               go : (says : Entries) → DenotesAll es plan says → Written says m (k + 1) (n + j) before (putMid n (length out - n) out x)
               go says d =

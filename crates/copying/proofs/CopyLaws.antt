@@ -1,14 +1,15 @@
 -- What `copy_term` and `copy_terms` owe each other at each call, and what they leave at each return.
---   Some   what `copy_terms` asks, where there is a first term
-use mathlib.Core.Path.{_≡_, refl, ap, _∙_}
+--   Copying   what the loop of `copy_terms` keeps: the terms from `node` up to `next` are written, n bytes; with those from `next` on
+--             they are all up to `to`
+use mathlib.Core.Path.{_≡_, refl, ap, sym, _∙_}
 use Prim.Native.Nat.{ℕ, suc, _+_, _-_, _*_, _<_, _≤_}
 use native.Mathlib.Omega.{arith}
 use mathlib.Core.Bool.{true, false}
-use mathlib.Core.List.{List}
-use borrow.Rule.Slice.PartMut.{putMid}
+use mathlib.Core.List.{List, [], _++_, append-assoc, append-nil}
+use borrow.Rule.Slice.PartMut.{putMid, same-len-mid}
 use lib.ListN.{length, take, drop, length-append}
 use Rattle.meaning.specs.Basics.{Bytes}
-use Rattle.meaning.specs.Term.{Forest, Named, NamedTerm, cons, graft, nil, one, size}
+use Rattle.meaning.specs.Term.{Forest, Named, NamedTerm, cons, nil, one, size}
 use Rattle.tokens.specs.Token.{sizeIn}
 use Rattle.tokens.specs.Key.{at}
 use Rattle.slices.proofs.Slices.{part-length}
@@ -18,7 +19,7 @@ use Rattle.copying.specs.Copied.{Copied, CopiedTerm, CopiedTerms, Copies
 use Rattle.copying.proofs.FixedLaws.{head-length, hole-length}
 use Rattle.copying.proofs.WriteLaws.{headed, joined}
 use Rattle.copying.proofs.CopiedBytes.{copied-none, first-bytes, hole-bytes}
-use Rattle.copying.proofs.SpanLaws.{span-first, span-later, span-none, span-some, term-below, term-bytes, term-long, term-size}
+use Rattle.copying.proofs.SpanLaws.{span-first, span-later, span-none, term-below, term-bytes, term-long, term-size}
 
 -- Numbers of nodes, counted from the copied term's
 next-node : (from node : ℕ) → from ≤ node → node + 1 - from ≡ suc (node - from)
@@ -82,89 +83,126 @@ term-copied {es} {from} {mask} {node} {f} {m} {n} {r} {o} {o′} {y} begins e is
         (headed (headIn (at es node) n) b o y o′ (3 + f) n r (rw is-f (head-length (at es node) n)) room v (rw is-f (w .0))
         (w .1 ∙ rw is-f))
 
--- `copy_terms`
-pub record Some (es : List ℕ) (from mask node to room : ℕ) : Type 0 where
-  pub first : NamedTerm
-  pub later : Forest Named
-  pub there : Spans es node to (graft first later)
-  pub begins : from ≤ node
-  pub fits : length (copiedFrom mask (node - from) (graft first later)) ≤ room
-  pub short : length (copiedFrom mask (node - from) (graft first later)) < 65536
+-- `copy_terms`: of several terms the first, of m nodes, and those after it
+record First (es : List ℕ) (from mask node to m : ℕ) (u : Forest Named) : Type 0 where
+  term : NamedTerm
+  later : Forest Named
+  there : TermIn es node term
+  laterThere : Spans es (node + m) to later
+  bytes : copiedFrom mask (node - from) u ≡ copiedFrom mask (node - from) (one term) ++ copiedFrom mask (node + m - from) later
 
-module _ {es : List ℕ} {from mask node to room : ℕ} where
-  pub some-terms : CopiesTerms es from mask node to room → (node ≡ to → ⊥) → Some es from mask node to room
-  some-terms h e =
-      let (t, s, q) = span-some (h .terms) (h .there) e in
-      record { first = t; later = s; there = rw q at (h .there); begins = h .begins; fits = rw q at (h .fits); short = rw q at (h .short) }
+first-of : {es : List ℕ} {from node to : ℕ} (mask m : ℕ) (u : Forest Named) → Spans es node to u → from ≤ node → node < to
+    → m ≡ sizeIn (at es node) → First es from mask node to m u
+first-of mask m nil h begins more is-m = absurd (omega (arith, h .ends))
+first-of {from} {node} mask m (cons l c s) h begins more is-m =
+    record {
+      term = (l, c);
+      later = s;
+      there = span-first h;
+      laterThere = span-later h m is-m;
+      bytes = rw (later-node from m (span-first h) begins is-m) (first-bytes mask (node - from) l c s);
+    }
 
-  module _ (h : Some es from mask node to room) where
-    lengths : length (copiedFrom mask (node - from) (graft (h .first) (h .later)))
-        ≡ length (copiedFrom mask (node - from) (one (h .first)))
-        + length (copiedFrom mask (suc (node - from) + size (h .first .1)) (h .later))
-    lengths =
-        ap length (first-bytes mask (node - from) (h .first .0) (h .first .1) (h .later))
-        ∙ length-append (copiedFrom mask (node - from) (one (h .first)))
-        (copiedFrom mask (suc (node - from) + size (h .first .1)) (h .later))
+-- Where its loop stands. Of the terms u: the bytes of those before `next`, and those that are left
+module _ (es : List ℕ) (from mask node to next n : ℕ) (before out : Bytes) where
+  pub record Part (u : Forest Named) : Type 0 where
+    pub done : Bytes
+    pub rest : Forest Named
+    pub there : Spans es next to rest
+    pub whole : copiedFrom mask (node - from) u ≡ done ++ copiedFrom mask (next - from) rest
+    pub wrote : Wrote done before out n
 
-    pub first-copies : CopiesTerm es from mask node room
-    first-copies =
-        record {
-          term = h .first;
-          there = span-first (h .there);
-          begins = h .begins;
-          fits = omega (arith, h .fits, lengths);
-          short = omega (arith, h .short, lengths);
-        }
+  pub record Copying : Type 0 where
+    pub begins : node ≤ next
+    pub same : length out ≡ length before
+    pub written : (u : Forest Named) → Spans es node to u → Part u
 
-    pub first-less : 2 * sizeIn (at es node) < 2 * (to - node) + 1
-    first-less = omega (arith, term-size (span-first (h .there)), h .there .ends)
+pub copying-begins : {es : List ℕ} {from mask node to : ℕ} {before : Bytes} → Copying es from mask node to node 0 before before
+copying-begins =
+    record {
+      begins = omega arith;
+      same = refl;
+      written = λ u there. record { done = []; rest = u; there = there; whole = refl; wrote = (refl, refl) };
+    }
 
-    module _ {o p : Bytes} {n : ℕ} (same : length p ≡ room) (first : CopiedTerm es from mask node o p n) where
-      first-long : n ≡ length (copiedFrom mask (node - from) (one (h .first)))
-      first-long = first .wrote (h .first) (span-first (h .there)) .0
+module _ {es : List ℕ} {from mask node to next n : ℕ} {before out : Bytes} (w : Copying es from mask node to next n before out) where
+  pub copying-ends : to ≤ next → CopiedTerms es from mask node to before out n
+  copying-ends h = record { wrote = go }
+    where
+      go : (u : Forest Named) → Spans es node to u → Wrote (copiedFrom mask (node - from) u) before out n
+      go u there =
+          let p = w .written u there in
+          rw (p .whole, span-none (p .rest) (p .there) h, copied-none mask (next - from), append-nil (p .done)) (p .wrote)
 
-      pub first-within : n ≤ length p
-      first-within = omega (arith, first-long, h .fits, lengths)
+  module _ (h : CopiesTerms es from mask node to (length before)) where
+    part : Part es from mask node to next n before out (h .terms)
+    part = w .written (h .terms) (h .there)
 
-      module _ {m : ℕ} (is-m : m ≡ sizeIn (at es node)) where
-        later-long : n + length (copiedFrom mask (node + m - from) (h .later))
-            ≡ length (copiedFrom mask (node - from) (graft (h .first) (h .later)))
-        later-long = rw (later-node from m (span-first (h .there)) (h .begins) is-m) (omega (arith, lengths, first-long))
+    part-long : n + length (copiedFrom mask (next - from) (part .rest)) ≡ length (copiedFrom mask (node - from) (h .terms))
+    part-long =
+        omega (arith, part .wrote .0, ap length (part .whole), length-append (part .done) (copiedFrom mask (next - from) (part .rest)))
 
-        pub later-less : 2 * (to - (node + m)) + 1 < 2 * (to - node) + 1
-        later-less = omega (arith, term-size (span-first (h .there)), h .there .ends)
+    pub part-within : n ≤ length out
+    part-within = omega (arith, part-long, h .fits, w .same)
 
-        pub later-copies : CopiesTerms es from mask (node + m) to (length (take (length p - n) (drop n p)))
-        later-copies =
+    module _ (more : next < to) where
+      next-begins : from ≤ next
+      next-begins = omega (arith, h .begins, w .begins)
+
+      next-term : First es from mask next to (sizeIn (at es next)) (part .rest)
+      next-term = first-of mask (sizeIn (at es next)) (part .rest) (part .there) next-begins more refl
+
+      next-long : length (copiedFrom mask (next - from) (part .rest))
+          ≡ length (copiedFrom mask (next - from) (one (next-term .term)))
+          + length (copiedFrom mask (next + sizeIn (at es next) - from) (next-term .later))
+      next-long =
+          ap length (next-term .bytes)
+          ∙ length-append (copiedFrom mask (next - from) (one (next-term .term)))
+          (copiedFrom mask (next + sizeIn (at es next) - from) (next-term .later))
+
+      pub next-nodes : (1 ≤ sizeIn (at es next)) × (next + sizeIn (at es next) ≤ to)
+      next-nodes = (omega (arith, term-size (next-term .there)), omega (arith, next-term .laterThere .ends))
+
+      pub next-less : 2 * sizeIn (at es next) < 2 * (to - node) + 1
+      next-less = omega (arith, next-nodes, w .begins)
+
+      pub next-copies : CopiesTerm es from mask next (length (take (length out - n) (drop n out)))
+      next-copies =
+          record {
+            term = next-term .term;
+            there = next-term .there;
+            begins = next-begins;
+            fits = omega (arith, part-long, next-long, h .fits, w .same, part-length n (length out) out part-within (omega arith));
+            short = omega (arith, part-long, next-long, h .short);
+          }
+
+      module _ {x : Bytes} {k : ℕ} (one-more : CopiedTerm es from mask next (take (length out - n) (drop n out)) x k) where
+        pub next-short : n + k < 65536
+        next-short = omega (arith, one-more .wrote (next-term .term) (next-term .there) .0, part-long, next-long, h .short)
+
+        pub copying-goes : {m : ℕ} → m ≡ sizeIn (at es next) → length x ≡ length (take (length out - n) (drop n out))
+            → Copying es from mask node to (next + m) (n + k) before (putMid n (length out - n) out x)
+        copying-goes {m} is-m kept =
             record {
-              terms = h .later;
-              there = span-later (h .there) m is-m;
-              begins = omega (arith, h .begins);
-              fits = omega (arith, later-long, h .fits, part-length n (length p) p first-within (omega arith));
-              short = omega (arith, later-long, h .short);
+              begins = omega (arith, w .begins);
+              same = same-len-mid n (length out - n) out x kept ∙ w .same;
+              written = go;
             }
-
-        pub sum-short : {x y : Bytes} {k : ℕ} → CopiedTerms es from mask (node + m) to x y k → n + k < 65536
-        sum-short w = omega (arith, w .wrote (h .later) (span-later (h .there) m is-m) .0, later-long, h .short)
-
-pub none-copied : {es : List ℕ} {from mask node to : ℕ} {o : Bytes} → node ≡ to → CopiedTerms es from mask node to o o 0
-none-copied {from} {mask} {node} e =
-    record { wrote = λ u there. rw (span-none u there e, copied-none mask (node - from)) (refl, refl) }
-
-pub terms-copied : {es : List ℕ} {from mask node to m n k : ℕ} {o p y : Bytes} → (node ≡ to → ⊥) → from ≤ node → m ≡ sizeIn (at es node)
-    → CopiedTerm es from mask node o p n → CopiedTerms es from mask (node + m) to (take (length p - n) (drop n p)) y k
-    → CopiedTerms es from mask node to o (putMid n (length p - n) p y) (n + k)
-terms-copied {es} {from} {mask} {node} {to} {m} {n} {k} {o} {p} {y} more begins is-m first later = record { wrote = go }
-  where
-    go : (u : Forest Named) → Spans es node to u → Wrote (copiedFrom mask (node - from) u) o (putMid n (length p - n) p y) (n + k)
-    go nil there = absurd (more (omega (arith, there .ends)))
-    go (cons l c s) there =
-        let one-in = span-first there in
-        let w : Wrote (copiedFrom mask (suc (node - from) + size c) s) (take (length p - n) (drop n p)) y k =
-        rw (later-node from m one-in begins is-m) at (later .wrote s (span-later there m is-m)) in
-        rw (first-bytes mask (node - from) l c s)
-        (joined (copiedFrom mask (node - from) (one (l, c))) (copiedFrom mask (suc (node - from) + size c) s) o p y n k
-        (first .wrote (l, c) one-in) w)
+          where
+            go : (u : Forest Named) → Spans es node to u
+                → Part es from mask node to (next + m) (n + k) before (putMid n (length out - n) out x) u
+            go u there =
+                let p = w .written u there in
+                let f = first-of mask m (p .rest) (p .there) next-begins more is-m in
+                let bytes : Bytes = copiedFrom mask (next - from) (one (f .term)) in
+                record {
+                  done = p .done ++ bytes;
+                  rest = f .later;
+                  there = f .laterThere;
+                  whole = rw (p .whole, f .bytes)
+                      (sym (append-assoc (p .done) bytes (copiedFrom mask (next + m - from) (f .later))));
+                  wrote = joined (p .done) bytes before out x n k (p .wrote) (one-more .wrote (f .term) (f .there));
+                }
 
 -- `copy`: the copied term's own node has the number 0
 own-number : (node : ℕ) → node - node ≡ 0

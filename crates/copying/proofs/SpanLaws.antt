@@ -137,12 +137,7 @@ module _ {es : List ℕ} {node to : ℕ} {t : NamedTerm} {s : Forest Named} (h :
         ends = omega (arith, h .ends, term-size span-first, is-m);
       }
 
--- Between two nodes that are the same there is nothing
-pub span-none : {es : List ℕ} {node to : ℕ} (u : Forest Named) → Spans es node to u → node ≡ to → u ≡ nil
+-- Up to the node itself there is nothing
+pub span-none : {es : List ℕ} {node to : ℕ} (u : Forest Named) → Spans es node to u → to ≤ node → u ≡ nil
 span-none nil h e = refl
 span-none (cons l c s) h e = absurd (omega (arith, h .ends))
-
-pub span-some : {es : List ℕ} {node to : ℕ} (u : Forest Named) → Spans es node to u → (node ≡ to → ⊥)
-    → (t : NamedTerm) × (s : Forest Named) × (u ≡ graft t s)
-span-some nil h e = absurd (e (omega (arith, h .ends)))
-span-some (cons l c s) h e = ((l, c), s, refl)

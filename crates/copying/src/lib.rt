@@ -129,17 +129,19 @@ fn copy_term(es: &[u64], from: usize, mask: u64, at: usize, out: &mut [u8]) -> u
     write_node(x, n, out)
 }
 
-// The terms from node `at` up to node `to`.
+// The terms from node `at` up to node `to`, each into the part of the buffer after those before it. A loop, so that the stack grows with
+// the depth of a term and not with the number of its children.
 fn copy_terms(es: &[u64], from: usize, mask: u64, at: usize, to: usize, out: &mut [u8]) -> usize
     requires { ⌜ CopiesTerms (now es) from mask at to (length (now out)) ⌝ }
     ensures { λ r. ⌜ CopiedTerms (now (es .entry)) from mask at to (now (out .entry)) (now (out .exit)) r ⌝ }
 {
-    if at == to {
-        return 0;
+    let mut next = at;
+    let mut n = 0;
+    while next < to {
+        n += copy_term(es, from, mask, next, &mut out[n..]);
+        next += size(es[next]) as usize;
     }
-    let n = copy_term(es, from, mask, at, out);
-    let next = at + size(es[at]) as usize;
-    n + copy_terms(es, from, mask, next, to, &mut out[n..])
+    n
 }
 
 // The term at a node with the marked nodes as holes.

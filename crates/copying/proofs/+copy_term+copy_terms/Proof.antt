@@ -1,22 +1,25 @@
 -- `copy_term` and `copy_terms`, which call each other, meet their contracts. The measure is the number of nodes: the terms below a node are
--- fewer than the node's term, and a list calls for its first term, and then for those after it. First the facts at a place of the code,
--- then an answer for each need.
+-- fewer than the node's term, and each of several terms has at most as many as all. The loop's invariant: the terms before `next` are
+-- written, and with those from `next` on they are all.
 use mathlib.Core.Path.{_≡_, refl, sym, _∙_}
 use mathlib.Core.Bool.{false}
-use native.Mathlib.Omega.{arith}
-use lib.ListN.{length}
-use denote.Ref.{now}
-use Rattle.tokens.specs.Token.{sizeIn}
-use Rattle.tokens.specs.Key.{Inside, at}
-use Rattle.bodies.specs.Marked.{marked}
-use Rattle.copying.proofs.SpanLaws.{term-inside}
-use Rattle.copying.proofs.CopyLaws.{Some, first-copies, first-less, first-within, hole-room, inner-copies, inner-less, inner-room}
-use Rattle.copying.proofs.CopyLaws.{later-copies, later-less, node-room, none-copied, some-terms, sum-short, term-copied, term-hole}
-use Rattle.copying.proofs.CopyLaws.{terms-copied}
-use borrow.Author.Needs.{needs}
+use mathlib.Core.List.{List}
 use Prim.Native.Nat.{ℕ, _+_, _-_, _*_, _<_, _≤_}
-use borrow.Fn.Kinds.{In}
+use native.Mathlib.Omega.{arith}
+use lib.ListN.{drop, length, take}
+use denote.Ref.{now}
+use borrow.Author.Needs.{needs}
+use borrow.Fn.Kinds.{In, Out}
 use borrow.Fn.PlainCycle.{Measures, is, falls, and}
+use Rattle.meaning.specs.Basics.{Bytes}
+use Rattle.tokens.specs.Token.{sizeIn}
+use Rattle.tokens.specs.Key.{at}
+use Rattle.bodies.specs.Marked.{marked}
+use Rattle.copying.specs.Copied.{CopiesTerm}
+use Rattle.copying.proofs.SpanLaws.{term-inside}
+use Rattle.copying.proofs.CopyLaws.{Copying, copying-begins, copying-ends, copying-goes, hole-room, inner-copies, inner-less}
+use Rattle.copying.proofs.CopyLaws.{inner-room, next-copies, next-less, next-nodes, next-short, node-room, part-within, term-copied}
+use Rattle.copying.proofs.CopyLaws.{term-hole}
 use Rattle.copying.proofs.copy_term.Reads as copy-term
 use Rattle.copying.proofs.copy_term.Kinds as copy-term-kinds
 use Rattle.copying.proofs.+copy_term+copy_terms.Lts-copy_term as copy-term-lts
@@ -69,188 +72,204 @@ copy-term-callees t = (
 )
 
 abbrev copy-terms-callees : ℕ → copy-terms-lts.Claims
-copy-terms-callees t = (
-  copy-term-below t,
-  copy-term.Post,
-  size-reads.Asked,
-  size-reads.Learnt,
-  copy-terms-below t,
-  copy-terms.Post,
-)
+copy-terms-callees t = (copy-term-below t, copy-term.Post, size-reads.Asked, size-reads.Learnt)
 
--- `copy_term`: the node is no hole
-unmarked : (t : ℕ) (c : copy-term-lts.Else1 (copy-term-callees t) (copy-term-at t) copy-term.Post)
-    → marked (c .before .before .before .before .args .mask)
-    (c .before .before .before .before .args .at - c .before .before .before .before .args .from) ≡ false
-unmarked t c = sym (c .before .marked .ensures) ∙ c .if1 .left
+abbrev Inv-loop : copy-terms-lts.InvT-loop
+Inv-loop es from mask node to out₀ next₀ n₀ out next n = Copying es from mask node to next n out₀ out
 
--- room for its head and fixed part
-has-room : (t : ℕ) (c : copy-term-lts.After-fixed-length (copy-term-callees t) (copy-term-at t) copy-term.Post)
-    → 3 + c .fixed-length .result ≤ length (now (c .before .before .before .before .before .before .args .out))
-has-room t c =
-    inner-room (c .before .before .before .before .before .before .pre .1) (unmarked t (c .before .before)) (c .fixed-length .ensures)
+abbrev μ-loop : copy-terms-lts.MeasureT-loop
+μ-loop es from mask node to out₀ next₀ n₀ out next n = to - next
 
--- `copy_terms`: there is a first term
-some-first : (t : ℕ) (c : copy-terms-lts.Else1 (copy-terms-callees t) (copy-terms-at t) copy-terms.Post)
-    → Some (now (c .before .before .before .args .es)) (c .before .before .before .args .from) (c .before .before .before .args .mask)
-    (c .before .before .before .args .at) (c .before .before .before .args .to) (length (now (c .before .before .before .args .out)))
-some-first t c = some-terms (c .before .before .before .pre .1) (c .if1 .left)
+-- The places and needs of both, at a measure t
+module _ (t : ℕ) where
+  abbrev Term : (copy-term-lts.Claims → In 2 copy-term-kinds.ps → Out 2 copy-term-kinds.ps copy-term-kinds.r → Type 0) → Type 0
+  Term place = place (copy-term-callees t) (copy-term-at t) copy-term.Post
 
--- it stands in the table
-first-inside : (t : ℕ) (c : copy-terms-lts.Else1 (copy-terms-callees t) (copy-terms-at t) copy-terms.Post)
-    → Inside (now (c .before .before .before .args .es)) (c .before .before .before .args .at)
-first-inside t c = term-inside (first-copies (some-first t c) .there)
+  abbrev Terms : (copy-terms-lts.Claims → In 2 copy-terms-kinds.ps → Out 2 copy-terms-kinds.ps copy-terms-kinds.r
+      → copy-terms-lts.InvT-loop → copy-terms-lts.MeasureT-loop → Type 0) → Type 0
+  Terms place = place (copy-terms-callees t) (copy-terms-at t) copy-terms.Post Inv-loop μ-loop
 
--- and its bytes in the buffer
-first-fits : (t : ℕ) (c : copy-terms-lts.After-copy-term (copy-terms-callees t) (copy-terms-at t) copy-terms.Post)
-    → c .copy-term .result ≤ length (c .copy-term .last .1 .1 .1 .1 .0)
-first-fits t c =
-    first-within (some-first t (c .before .before)) (c .copy-term .kept .1 .1 .1 .1 .0) (c .copy-term .ensures)
+  -- `copy_term`: the node is no hole
+  unmarked : (c : Term copy-term-lts.Else1)
+      → marked (c .before .before .before .before .args .mask)
+      (c .before .before .before .before .args .at - c .before .before .before .before .args .from) ≡ false
+  unmarked c = sym (c .before .marked .ensures) ∙ c .if1 .left
 
-copy-term-sub-marked : (t : ℕ) → copy-term-lts.Need-sub-marked (copy-term-callees t) (copy-term-at t) copy-term.Post
-copy-term-sub-marked t c = omega (arith, c .before .before .pre .1 .begins)
+  -- room for its head and fixed part
+  has-room : (c : Term copy-term-lts.After-fixed-length)
+      → 3 + c .fixed-length .result ≤ length (now (c .before .before .before .before .before .before .args .out))
+  has-room c = inner-room (c .before .before .before .before .before .before .pre .1) (unmarked (c .before .before)) (c .fixed-length .ensures)
 
-copy-term-marked-requires : (t : ℕ) → copy-term-lts.Need-marked-requires (copy-term-callees t) (copy-term-at t) copy-term.Post
-copy-term-marked-requires t c κs = search needs
+  copy-term-sub-marked : Term copy-term-lts.Need-sub-marked
+  copy-term-sub-marked c = omega (arith, c .before .before .pre .1 .begins)
 
-copy-term-write-hole-requires : (t : ℕ) → copy-term-lts.Need-write-hole-requires (copy-term-callees t) (copy-term-at t) copy-term.Post
-copy-term-write-hole-requires t c κs =
-    let met = c .before .before in
-    hole-room (met .before .before .before .pre .1) (sym (met .marked .ensures) ∙ c .before .if1 .taken)
+  copy-term-marked-requires : Term copy-term-lts.Need-marked-requires
+  copy-term-marked-requires c κs = search needs
 
-copy-term-same-length : (t : ℕ) → copy-term-lts.Need-same-length (copy-term-callees t) (copy-term-at t) copy-term.Post
-copy-term-same-length t c = search needs
+  copy-term-write-hole-requires : Term copy-term-lts.Need-write-hole-requires
+  copy-term-write-hole-requires c κs =
+      let met = c .before .before in
+      hole-room (met .before .before .before .pre .1) (sym (met .marked .ensures) ∙ c .before .if1 .taken)
 
-copy-term-returns : (t : ℕ) → copy-term-lts.Need-returns (copy-term-callees t) (copy-term-at t) copy-term.Post
-copy-term-returns t c =
-    let wrote = c .before .before in
-    term-hole (sym (wrote .before .before .before .marked .ensures) ∙ wrote .before .before .if1 .taken) (wrote .write-hole .ensures)
+  copy-term-same-length : Term copy-term-lts.Need-same-length
+  copy-term-same-length c = search needs
 
-copy-term-mul-x : (t : ℕ) → copy-term-lts.Need-mul-x (copy-term-callees t) (copy-term-at t) copy-term.Post
-copy-term-mul-x t c =
-    let s = c .before .before .before .before in
-    let inside = term-inside (s .pre .1 .there) .starts in
-    search needs
+  copy-term-returns : Term copy-term-lts.Need-returns
+  copy-term-returns c =
+      let wrote = c .before .before in
+      term-hole (sym (wrote .before .before .before .marked .ensures) ∙ wrote .before .before .if1 .taken) (wrote .write-hole .ensures)
 
-copy-term-shared-slice-read-x : (t : ℕ) → copy-term-lts.Need-shared-slice-read-x (copy-term-callees t) (copy-term-at t) copy-term.Post
-copy-term-shared-slice-read-x t c = term-inside (c .before .before .before .before .before .pre .1 .there) .starts
+  copy-term-mul-x : Term copy-term-lts.Need-mul-x
+  copy-term-mul-x c =
+      let s = c .before .before .before .before in
+      let inside = term-inside (s .pre .1 .there) .starts in
+      search needs
 
-copy-term-fixed-length-requires : (t : ℕ) → copy-term-lts.Need-fixed-length-requires (copy-term-callees t) (copy-term-at t) copy-term.Post
-copy-term-fixed-length-requires t c κs = search needs
+  copy-term-shared-slice-read-x : Term copy-term-lts.Need-shared-slice-read-x
+  copy-term-shared-slice-read-x c = term-inside (c .before .before .before .before .before .pre .1 .there) .starts
 
-copy-term-add-inner : (t : ℕ) → copy-term-lts.Need-add-inner (copy-term-callees t) (copy-term-at t) copy-term.Post
-copy-term-add-inner t c = omega (arith, has-room t c)
+  copy-term-fixed-length-requires : Term copy-term-lts.Need-fixed-length-requires
+  copy-term-fixed-length-requires c κs = search needs
 
-copy-term-size-requires : (t : ℕ) → copy-term-lts.Need-size-requires (copy-term-callees t) (copy-term-at t) copy-term.Post
-copy-term-size-requires t c κs = search needs
+  copy-term-add-inner : Term copy-term-lts.Need-add-inner
+  copy-term-add-inner c = omega (arith, has-room c)
 
-copy-term-add-end : (t : ℕ) → copy-term-lts.Need-add-end (copy-term-callees t) (copy-term-at t) copy-term.Post
-copy-term-add-end t c =
-    let s = c .before .before .before .before .before .before .before in
-    omega (arith, c .size .ensures, term-inside (s .pre .1 .there) .ends)
+  copy-term-size-requires : Term copy-term-lts.Need-size-requires
+  copy-term-size-requires c κs = search needs
 
-copy-term-add-copy-terms : (t : ℕ) → copy-term-lts.Need-add-copy-terms (copy-term-callees t) (copy-term-at t) copy-term.Post
-copy-term-add-copy-terms t c =
-    let s = c .before .before .before .before .before .before .before in
-    omega (arith, term-inside (s .pre .1 .there) .starts)
+  copy-term-add-end : Term copy-term-lts.Need-add-end
+  copy-term-add-end c =
+      let s = c .before .before .before .before .before .before .before in
+      omega (arith, c .size .ensures, term-inside (s .pre .1 .there) .ends)
 
-copy-term-sub-copy-terms : (t : ℕ) → copy-term-lts.Need-sub-copy-terms (copy-term-callees t) (copy-term-at t) copy-term.Post
-copy-term-sub-copy-terms t c = has-room t (c .before)
+  copy-term-add-copy-terms : Term copy-term-lts.Need-add-copy-terms
+  copy-term-add-copy-terms c =
+      let s = c .before .before .before .before .before .before .before in
+      omega (arith, term-inside (s .pre .1 .there) .starts)
 
-copy-term-part-copy-terms-start : (t : ℕ) → copy-term-lts.Need-part-copy-terms-start (copy-term-callees t) (copy-term-at t) copy-term.Post
-copy-term-part-copy-terms-start t c = has-room t (c .before)
+  copy-term-sub-copy-terms : Term copy-term-lts.Need-sub-copy-terms
+  copy-term-sub-copy-terms c = has-room (c .before)
 
-copy-term-part-copy-terms-end : (t : ℕ) → copy-term-lts.Need-part-copy-terms-end (copy-term-callees t) (copy-term-at t) copy-term.Post
-copy-term-part-copy-terms-end t c = search needs
+  copy-term-part-copy-terms-start : Term copy-term-lts.Need-part-copy-terms-start
+  copy-term-part-copy-terms-start c = has-room (c .before)
 
-copy-term-copy-terms-requires : (t : ℕ) → copy-term-lts.Need-copy-terms-requires (copy-term-callees t) (copy-term-at t) copy-term.Post
-copy-term-copy-terms-requires t c κs =
-    let fixed = c .before .before in
-    let s = fixed .before .before .before .before .before .before in
-    let e = unmarked t (fixed .before .before) in
-    let is-size = c .before .size .ensures in (
-      omega (arith, inner-less (s .pre .1) e is-size, s .pre .0),
-      inner-copies (s .pre .1) e is-size (now (s .args .out)) refl (fixed .fixed-length .ensures),
-    )
+  copy-term-part-copy-terms-end : Term copy-term-lts.Need-part-copy-terms-end
+  copy-term-part-copy-terms-end c = search needs
 
-copy-term-write-node-requires : (t : ℕ) → copy-term-lts.Need-write-node-requires (copy-term-callees t) (copy-term-at t) copy-term.Post
-copy-term-write-node-requires t c κs =
-    let inner = c .before .before .before in
-    let fixed = inner .before .before .before in
-    let s = fixed .before .before .before .before .before .before in
-    node-room (s .pre .1) (unmarked t (fixed .before .before)) (inner .before .before .size .ensures) _ (c .before .before .out2 .given .1)
-    (inner .copy-terms .ensures)
+  copy-term-copy-terms-requires : Term copy-term-lts.Need-copy-terms-requires
+  copy-term-copy-terms-requires c κs =
+      let fixed = c .before .before in
+      let s = fixed .before .before .before .before .before .before in
+      let e = unmarked (fixed .before .before) in
+      let is-size = c .before .size .ensures in (
+        omega (arith, inner-less (s .pre .1) e is-size, s .pre .0),
+        inner-copies (s .pre .1) e is-size (now (s .args .out)) refl (fixed .fixed-length .ensures),
+      )
 
-copy-term-same-length-2 : (t : ℕ) → copy-term-lts.Need-same-length-2 (copy-term-callees t) (copy-term-at t) copy-term.Post
-copy-term-same-length-2 t c = search needs
+  copy-term-write-node-requires : Term copy-term-lts.Need-write-node-requires
+  copy-term-write-node-requires c κs =
+      let inner = c .before .before .before in
+      let fixed = inner .before .before .before in
+      let s = fixed .before .before .before .before .before .before in
+      node-room (s .pre .1) (unmarked (fixed .before .before)) (inner .before .before .size .ensures) _ (c .before .before .out2 .given .1)
+      (inner .copy-terms .ensures)
 
-copy-term-returns-2 : (t : ℕ) → copy-term-lts.Need-returns-2 (copy-term-callees t) (copy-term-at t) copy-term.Post
-copy-term-returns-2 t c =
-    let inner = c .before .before .before .before .before .before in
-    let fixed = inner .before .before .before in
-    let s = fixed .before .before .before .before .before .before in
-    term-copied (s .pre .1 .begins) (unmarked t (fixed .before .before)) (fixed .fixed-length .ensures)
-    (inner .before .before .size .ensures) (has-room t fixed) (inner .copy-terms .ensures) (c .before .before .write-node .ensures)
+  copy-term-same-length-2 : Term copy-term-lts.Need-same-length-2
+  copy-term-same-length-2 c = search needs
 
-copy-terms-returns : (t : ℕ) → copy-terms-lts.Need-returns (copy-terms-callees t) (copy-terms-at t) copy-terms.Post
-copy-terms-returns t c = none-copied (c .if1 .taken)
+  copy-term-returns-2 : Term copy-term-lts.Need-returns-2
+  copy-term-returns-2 c =
+      let inner = c .before .before .before .before .before .before in
+      let fixed = inner .before .before .before in
+      let s = fixed .before .before .before .before .before .before in
+      term-copied (s .pre .1 .begins) (unmarked (fixed .before .before)) (fixed .fixed-length .ensures)
+      (inner .before .before .size .ensures) (has-room fixed) (inner .copy-terms .ensures) (c .before .before .write-node .ensures)
 
-copy-terms-copy-term-requires : (t : ℕ) → copy-terms-lts.Need-copy-term-requires (copy-terms-callees t) (copy-terms-at t) copy-terms.Post
-copy-terms-copy-term-requires t c κs =
-    let h = some-first t (c .before) in
-    (omega (arith, first-less h, c .before .before .before .before .pre .0), first-copies h)
+  -- `copy_terms`: what is written lies in the buffer
+  inside : (c : Terms copy-terms-lts.At-loop) → c .loop .n ≤ length (c .loop .out)
+  inside c = part-within (c .loop .inv) (c .before .before .before .pre .1)
 
-copy-terms-mul-size : (t : ℕ) → copy-terms-lts.Need-mul-size (copy-terms-callees t) (copy-terms-at t) copy-terms.Post
-copy-terms-mul-size t c = let inside = first-inside t (c .before .before .before .before) .starts in search needs
+  -- there is a next term
+  module _ (c : Terms copy-terms-lts.In-loop) where
+    abbrev loop : Terms copy-terms-lts.At-loop
+    loop = c .before
 
-copy-terms-shared-slice-read-size : (t : ℕ)
-    → copy-terms-lts.Need-shared-slice-read-size (copy-terms-callees t) (copy-terms-at t) copy-terms.Post
-copy-terms-shared-slice-read-size t c = first-inside t (c .before .before .before .before .before) .starts
+    abbrev start : Terms copy-terms-lts.Start
+    start = loop .before .before .before
 
-copy-terms-size-requires : (t : ℕ) → copy-terms-lts.Need-size-requires (copy-terms-callees t) (copy-terms-at t) copy-terms.Post
-copy-terms-size-requires t c κs = search needs
+    abbrev es : List ℕ
+    es = start .args .es .now
 
-copy-terms-add-next : (t : ℕ) → copy-terms-lts.Need-add-next (copy-terms-callees t) (copy-terms-at t) copy-terms.Post
-copy-terms-add-next t c = omega (arith, c .size .ensures, first-inside t (c .before .before .before .before .before .before) .ends)
+    abbrev out : Bytes
+    out = loop .loop .out
 
-copy-terms-sub-copy-terms : (t : ℕ) → copy-terms-lts.Need-sub-copy-terms (copy-terms-callees t) (copy-terms-at t) copy-terms.Post
-copy-terms-sub-copy-terms t c = first-fits t (c .before .before .before .before)
+    abbrev n : ℕ
+    n = loop .loop .n
 
-copy-terms-part-copy-terms-start : (t : ℕ)
-    → copy-terms-lts.Need-part-copy-terms-start (copy-terms-callees t) (copy-terms-at t) copy-terms.Post
-copy-terms-part-copy-terms-start t c = first-fits t (c .before .before .before .before)
+    copies : CopiesTerm es (start .args .from) (start .args .mask) (loop .loop .next) (length (take (length out - n) (drop n out)))
+    copies = next-copies (loop .loop .inv) (start .pre .1) (c .loop-test .taken)
 
-copy-terms-part-copy-terms-end : (t : ℕ) → copy-terms-lts.Need-part-copy-terms-end (copy-terms-callees t) (copy-terms-at t) copy-terms.Post
-copy-terms-part-copy-terms-end t c = search needs
+    nodes : (1 ≤ sizeIn (at es (loop .loop .next))) × (loop .loop .next + sizeIn (at es (loop .loop .next)) ≤ start .args .to)
+    nodes = next-nodes (loop .loop .inv) (start .pre .1) (c .loop-test .taken)
 
-copy-terms-copy-terms-requires : (t : ℕ) → copy-terms-lts.Need-copy-terms-requires (copy-terms-callees t) (copy-terms-at t) copy-terms.Post
-copy-terms-copy-terms-requires t c κs =
-    let first = c .before .before .before .before .before in
-    let h = some-first t (first .before .before) in
-    let kept = first .copy-term .kept .1 .1 .1 .1 .0 in
-    let is-size = c .before .size .ensures in (
-      omega (arith, later-less h kept (first .copy-term .ensures) is-size, first .before .before .before .before .before .pre .0),
-      later-copies h kept (first .copy-term .ensures) is-size,
-    )
+  copy-terms-loop-holds : Terms copy-terms-lts.Need-loop-holds
+  copy-terms-loop-holds c = copying-begins
 
-copy-terms-add-result : (t : ℕ) → copy-terms-lts.Need-add-result (copy-terms-callees t) (copy-terms-at t) copy-terms.Post
-copy-terms-add-result t c =
-    let later = c .before .before in
-    let first = later .before .before .before .before .before .before in
-    let h = some-first t (first .before .before) in
-    let kept = first .copy-term .kept .1 .1 .1 .1 .0 in
-    omega (arith, sum-short h kept (first .copy-term .ensures) (later .before .before .size .ensures) (later .copy-terms .ensures))
+  copy-terms-sub-copy-term : Terms copy-terms-lts.Need-sub-copy-term
+  copy-terms-sub-copy-term c = inside (c .before)
 
-copy-terms-same-length : (t : ℕ) → copy-terms-lts.Need-same-length (copy-terms-callees t) (copy-terms-at t) copy-terms.Post
-copy-terms-same-length t c = search needs
+  copy-terms-part-copy-term-start : Terms copy-terms-lts.Need-part-copy-term-start
+  copy-terms-part-copy-term-start c = inside (c .before)
 
-copy-terms-returns-2 : (t : ℕ) → copy-terms-lts.Need-returns-2 (copy-terms-callees t) (copy-terms-at t) copy-terms.Post
-copy-terms-returns-2 t c =
-    let later = c .before .before in
-    let first = later .before .before .before .before .before .before in
-    let s = first .before .before .before .before .before in
-    terms-copied (first .before .before .if1 .left) (s .pre .1 .begins) (later .before .before .size .ensures)
-    (first .copy-term .ensures) (later .copy-terms .ensures)
+  copy-terms-part-copy-term-end : Terms copy-terms-lts.Need-part-copy-term-end
+  copy-terms-part-copy-term-end c = search needs
+
+  copy-terms-copy-term-requires : Terms copy-terms-lts.Need-copy-term-requires
+  copy-terms-copy-term-requires c κs =
+      let l = c .before in
+      let less = next-less (loop l .loop .inv) (start l .pre .1) (l .loop-test .taken) in
+      (omega (arith, less, start l .pre .0), copies l)
+
+  copy-terms-add-n : Terms copy-terms-lts.Need-add-n
+  copy-terms-add-n c =
+      let copied = c .before .before in
+      let l = copied .before .before in
+      omega (
+        arith,
+        next-short (loop l .loop .inv) (start l .pre .1) (l .loop-test .taken) (copied .copy-term .ensures),
+      )
+
+  copy-terms-mul-size : Terms copy-terms-lts.Need-mul-size
+  copy-terms-mul-size c = let inside = term-inside (copies (c .before .before .before .before) .there) .starts in search needs
+
+  copy-terms-shared-slice-read-size : Terms copy-terms-lts.Need-shared-slice-read-size
+  copy-terms-shared-slice-read-size c = term-inside (copies (c .before .before .before .before .before) .there) .starts
+
+  copy-terms-size-requires : Terms copy-terms-lts.Need-size-requires
+  copy-terms-size-requires c κs = search needs
+
+  copy-terms-add-next : Terms copy-terms-lts.Need-add-next
+  copy-terms-add-next c =
+      let l = c .before .before .before .before .before .before in
+      omega (arith, c .size .ensures, nodes l, start l .fits .to)
+
+  copy-terms-loop-less : Terms copy-terms-lts.Need-loop-less
+  copy-terms-loop-less c =
+      let l = c .before .before .before .before .before .before in
+      omega (arith, c .size .ensures, nodes l)
+
+  copy-terms-loop-again : Terms copy-terms-lts.Need-loop-again
+  copy-terms-loop-again c =
+      let copied = c .before .before .before .before in
+      let l = copied .before .before in
+      copying-goes (loop l .loop .inv) (start l .pre .1) (l .loop-test .taken) (copied .copy-term .ensures) (c .size .ensures)
+      (copied .copy-term .kept .1 .1 .1 .1 .0)
+
+  copy-terms-same-length : Terms copy-terms-lts.Need-same-length
+  copy-terms-same-length c = c .before .loop .inv .same
+
+  copy-terms-returns : Terms copy-terms-lts.Need-returns
+  copy-terms-returns c = copying-ends (c .before .loop .inv) (c .loop-test .left)
 
 pub +copy-term+copy-terms-spec : {M : Type 1} → statement M
 +copy-term+copy-terms-spec = close μ-copy-term μ-copy-terms (λ t. copy-term-lts.spec (copy-term-callees t)
@@ -278,16 +297,19 @@ pub +copy-term+copy-terms-spec : {M : Type 1} → statement M
     λ t. copy-terms-lts.spec (copy-terms-callees t)
     (copy-terms-at t)
     copy-terms.Post
-    (copy-terms-returns t)
+    Inv-loop
+    μ-loop
+    (copy-terms-loop-holds t)
+    (copy-terms-sub-copy-term t)
+    (copy-terms-part-copy-term-start t)
+    (copy-terms-part-copy-term-end t)
     (copy-terms-copy-term-requires t)
+    (copy-terms-add-n t)
     (copy-terms-mul-size t)
     (copy-terms-shared-slice-read-size t)
     (copy-terms-size-requires t)
     (copy-terms-add-next t)
-    (copy-terms-sub-copy-terms t)
-    (copy-terms-part-copy-terms-start t)
-    (copy-terms-part-copy-terms-end t)
-    (copy-terms-copy-terms-requires t)
-    (copy-terms-add-result t)
+    (copy-terms-loop-less t)
+    (copy-terms-loop-again t)
     (copy-terms-same-length t)
-    (copy-terms-returns-2 t)
+    (copy-terms-returns t)

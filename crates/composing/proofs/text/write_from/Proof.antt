@@ -1,10 +1,8 @@
 -- `write_from` meets its contract. The loop's invariant: the fields before k are written, and with those from k on they are all from m on.
 -- The measure is the number of metavariables left.
-use mathlib.Core.Path.{_≡_, refl, _∙_}
 use Prim.Native.Nat.{ℕ, _+_, _-_, _<_, _≤_}
 use native.Mathlib.Omega.{arith}
 use lib.ListN.{drop, length, take}
-use borrow.Rule.Slice.PartMut.{same-len-mid}
 use borrow.Author.Needs.{needs}
 use Rattle.meaning.specs.Limits.{metavariableCount}
 use Rattle.meaning.specs.Basics.{Bytes}
@@ -15,14 +13,14 @@ use Rattle.composing.proofs.text.write_from.Statement.{statement}
 use Rattle.composing.proofs.text.write_from.Tie as tie
 
 abbrev Inv-loop : tie.InvT-loop
-Inv-loop m es plan out₀ k₀ n₀ out k n = (length out ≡ length out₀) × Writing es plan m k n out₀ out
+Inv-loop m es plan out₀ k₀ n₀ out k n = Writing es plan m k n out₀ out
 
 abbrev μ-loop : tie.MeasureT-loop
 μ-loop m es plan out₀ k₀ n₀ out k n = 32 - k
 
 -- What is written lies in the buffer
 inside : (c : tie.At-loop Inv-loop μ-loop) → c .loop .n ≤ length (c .loop .out)
-inside c = written-inside (c .loop .inv .1) (c .before .before .before .pre) (c .loop .inv .0)
+inside c = written-inside (c .loop .inv) (c .before .before .before .pre)
 
 -- A field is written: x is the buffer after those before it, with the field at its front
 module _ (c : tie.After-write-entry Inv-loop μ-loop) where
@@ -50,10 +48,10 @@ module _ (c : tie.After-write-entry Inv-loop μ-loop) where
   wrote = entry-written _ _ (c .before .before .entry-of .ensures) (c .write-entry .ensures)
 
   short : n + c .write-entry .result < 65536
-  short = next-short (loop .loop .inv .1) (start .pre) (loop .loop .inv .0) small wrote
+  short = next-short (loop .loop .inv) (start .pre) small wrote
 
 loop-holds : tie.Need-loop-holds Inv-loop μ-loop
-loop-holds c = (refl, writing-begins (c .before .before .pre .within))
+loop-holds c = writing-begins (c .before .before .pre .within)
 
 cast-write-entry : tie.Need-cast-write-entry Inv-loop μ-loop
 cast-write-entry c = search needs
@@ -74,8 +72,7 @@ write-entry-requires : tie.Need-write-entry-requires Inv-loop μ-loop
 unfolding metavariableCount
 write-entry-requires c κs =
     let l = c .before .before .before in
-    next-room (l .loop .inv .1) (l .before .before .before .pre) (l .loop .inv .0) (c .before .before .loop-test .taken)
-    (c .before .entry-of .ensures)
+    next-room (l .loop .inv) (l .before .before .before .pre) (c .before .before .loop-test .taken) (c .before .entry-of .ensures)
 
 add-n : tie.Need-add-n Inv-loop μ-loop
 add-n c = omega (arith, short (c .before .before))
@@ -88,17 +85,15 @@ loop-less c = search needs
 
 loop-again : tie.Need-loop-again Inv-loop μ-loop
 loop-again c =
-    let w = c .before .before in (
-      same-len-mid (n w) (length (out w) - n w) (out w) (x w) (w .write-entry .kept .1 .1 .1 .0) ∙ loop w .loop .inv .0,
-      writing-goes (loop w .loop .inv .1) (start w .pre) (loop w .loop .inv .0) (small w) (wrote w),
-    )
+    let w = c .before .before in
+    writing-goes (loop w .loop .inv) (start w .pre) (small w) (wrote w) (w .write-entry .kept .1 .1 .1 .0)
 
 same-length : tie.Need-same-length Inv-loop μ-loop
-same-length c = c .before .loop .inv .0
+same-length c = c .before .loop .inv .same
 
 returns : tie.Need-returns Inv-loop μ-loop
 unfolding metavariableCount
-returns c = writing-ends (c .before .loop .inv .1) (c .loop-test .left)
+returns c = writing-ends (c .before .loop .inv) (c .loop-test .left)
 
 pub write-from-spec : {M : Type 1} → statement M
 write-from-spec =
