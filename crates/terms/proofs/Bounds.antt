@@ -2,7 +2,7 @@
 --   Within   what reading a term says of the bytes
 --   Fine     a reader of terms that keeps to it
 use Prim.Native.Nat.{ℕ, zero, suc, _+_, _-_, _*_, _≤_}
-use mathlib.Core.Path.{_≡_, refl, _∙_}
+use mathlib.Core.Path.{_≡_, refl, ap, sym, _∙_}
 use native.Mathlib.Omega.{arith}
 use lib.ListN.{length, take, drop, getD, length-take, length-drop}
 use lib.Dec.{eqb, ltb}
@@ -27,6 +27,16 @@ refused-got h = absurd (refused-not h)
 pub after-inv : {A B : Type 0} (a : Answer A) (f : A → Answer B) {y : B} → after a f ≡ got y → (x : A) × (a ≡ got x) × (f x ≡ got y)
 after-inv (refused r) f h = refused-got h
 after-inv (got x) f h = (x, refl, h)
+
+-- What is read, changed twice or not at all
+pub after-twice : {A B C : Type 0} (f : B → C) (g : A → B) (h : A → C) → ((x : A) → f (g x) ≡ h x) → (a : Answer A)
+    → after (after a (λ x. got (g x))) (λ y. got (f y)) ≡ after a (λ x. got (h x))
+after-twice f g h e (refused r) = refl
+after-twice f g h e (got x) = ap got (e x)
+
+pub after-none : {A : Type 0} (f : A → A) → ((x : A) → f x ≡ x) → (a : Answer A) → a ≡ after a (λ x. got (f x))
+after-none f e (refused r) = refl
+after-none f e (got x) = ap got (sym (e x))
 
 pub record Within (s : Bytes) (x : NamedTerm × Bytes) : Type 0 where
   pub rest : x .1 ≡ drop (length s - length (x .1)) s

@@ -1,3 +1,4 @@
 -- What the proofs of the functions rest on.
 pub mod Bounds
+pub mod Rows
 pub mod TermLaws

@@ -1,10 +1,12 @@
 -- Terms and lists of inner fields: what the recursive functions leave at each return.
 --   next-..     what is due decides how a list of fields is read
 --   Took        a term that was read, taken out of the code's answer
---   term-..     the returns of `read_term`; fields-.. those of `read_fields`
-use Prim.Native.Nat.{ℕ, zero, suc, _+_, _-_, _*_, _≤_, _<_}
+--   Reading     what the loop of `read_fields` keeps: the fields before `at` are read, their tokens the front of the table; with those
+--               that are left they are all
+--   reading-..  its steps, and the returns of `read_fields`; term-.. those of `read_term`
+use Prim.Native.Nat.{ℕ, zero, suc, _+_, _-_, _*_, _^_, _≤_, _<_}
 use mathlib.Core.Path.{_≡_, refl, sym, ap, _∙_}
-use mathlib.Core.List.{List, _∷_, _++_, append-nil}
+use mathlib.Core.List.{List, [], _∷_, _++_, append-nil}
 use native.Mathlib.Omega.{arith}
 use native.Mathlib.Numerals.{add-one}
 use borrow.Rule.Slice.PartMut.{putMid}
@@ -14,13 +16,13 @@ use lib.Dec.{eqb}
 use borrow.Author.Tests.{eqb-true, eqb-false, ne-eqb, eq-eqb}
 use Rattle.meaning.specs.Basics.{choose, Bytes}
 use Rattle.meaning.specs.Term.{Forest, nil, cons, graft, one, size, trees, Named, NamedTerm}
+use Rattle.meaning.specs.Problem.{forestOf}
 use Rattle.meaning.specs.Scope.{enter}
 use Rattle.meaning.specs.Read.{Answer, refused, got, after, Context, Reader, contextBelow, readExactly, readAll, readTerm}
 use Rattle.tokens.specs.Token.{tokens}
 use Rattle.fields.specs.Heads.{labelOf, fixedOf, dueOf, readFields, openRead, OpenFits, OpenDone}
 use Rattle.sites.specs.Site.{siteScope}
 use Rattle.terms.specs.Reading.{Space, Written, termAnswer, TermDone, fieldsAnswer, FieldsDone, nextOf, FieldsFit, nodeToken, Closed}
-use Rattle.terms.specs.Reading.{joinedOf}
 use Rattle.terms.specs.declared.term.Term.{Term}
 use Rattle.terms.specs.declared.term.Term.the-variants as terms
 use Rattle.fields.specs.declared.node.Node.{Node}
@@ -33,10 +35,11 @@ use Rattle.terms.specs.declared.term.Fields.{Fields}
 use Rattle.terms.specs.declared.term.Fields.the-variants as fields
 use Rattle.terms.specs.declared.term.Next.the-variants as nexts
 use Rattle.meaning.proofs.ByteLaws.{by-choice}
-use Rattle.tokens.proofs.TokenParts.{tokens-length, tokens-graft}
-use Rattle.terms.proofs.Bounds.{Fine, fields-room}
+use Rattle.tokens.proofs.TokenParts.{tokens-length}
+use Rattle.terms.proofs.Bounds.{Fine, after-none, after-twice, fields-room}
+use Rattle.terms.proofs.Rows.{Row, row-more, row-none, row-space, tokens-more}
 use Rattle.sites.proofs.SiteLaws.{names-length}
-use Rattle.slices.proofs.Slices.{rest-all, part-length, rows-joined, head-put}
+use Rattle.slices.proofs.Slices.{rest-all, part-length, head-put}
 
 -- Fields
 trees-size : (f : Forest Named) → trees f ≤ size f
@@ -134,6 +137,15 @@ took sc s (got x) before after k m d =
     let q = d .answer in
     record { term = x .0; later = x .1; reads = refl; bytesAre = cc; nodesAre = cc; row = d .table }
 
+pub not-took : {sc : List ℕ} {s : Bytes} {a : Answer (NamedTerm × Bytes)} {before after : List ℕ} {r : ℕ}
+    → TermDone sc s a before after (terms.Refused r) → a ≡ refused r
+unfolding termAnswer
+not-took {sc} {s} {a} {r = r} d = go a (d .answer)
+  where
+    go : (a : Answer (NamedTerm × Bytes)) → terms.Refused r ≡ termAnswer sc s a → a ≡ refused r
+    go (refused q) h = cc
+    go (got x) h = absurd (let z : _≡_ {A = ℕ} 0 1 = cc in omega arith)
+
 pub record TookFits (s : Bytes) (k m : ℕ) : Type 0 where
   pub some : 3 ≤ k
   pub within : k ≤ length s
@@ -169,52 +181,128 @@ later-part read fine sc s before after {k} t =
     let w = fine s (t .term, t .later) (t .reads) in
     rest-all k s ∙ ap (λ (n : ℕ). drop n s) (t .bytesAre) ∙ sym (w .rest)
 
--- The fields after the first, joined to it
-fields-grafted : (sc o p x : List ℕ) (t : NamedTerm) (a : Answer (Forest Named)) (inner : Fields) {m : ℕ} {r : Fields}
-    → m ≡ length (tokens sc (one t))
-    → p ≡ tokens sc (one t) ++ drop (length (tokens sc (one t))) o → inner ≡ fieldsAnswer sc a
-    → Written (tokens sc) a (take (length p - m) (drop m p)) x → r ≡ joinedOf m inner
-    → FieldsDone sc (after a (λ f. got (graft t f))) o (putMid m (length p - m) p x) r
+-- Terms before the others of a forest
+abbrev graftAll : List NamedTerm → Forest Named → Forest Named
+graftAll [] f = f
+graftAll (t ∷ ts) f = graft t (graftAll ts f)
+
+graft-more : (ts : List NamedTerm) (t : NamedTerm) (f : Forest Named) → graftAll ts (graft t f) ≡ graftAll (ts ++ (t ∷ [])) f
+graft-more [] t f = refl
+graft-more (u ∷ ts) t f = ap (graft u) (graft-more ts t f)
+
+graft-none : (ts : List NamedTerm) → graftAll ts nil ≡ forestOf ts
+graft-none [] = refl
+graft-none (t ∷ ts) = ap (graft t) (graft-none ts)
+
+trees-all : (ts : List NamedTerm) → trees (forestOf ts) ≡ length ts
+trees-all [] = refl
+trees-all (t ∷ ts) = ap suc (trees-all ts)
+
+-- What is refused, and what is read to the end
+fields-refused : {sc o p : List ℕ} {a : Answer (Forest Named)} {r : ℕ} → a ≡ refused r → FieldsDone sc a o p (fields.Refused r)
 unfolding fieldsAnswer Written
-fields-grafted sc o p x t (refused q) inner hm hp e v j = record { answer = cc; table = tt }
-fields-grafted sc o p x t (got f) inner {m} hm hp e v j =
+fields-refused e = record { answer = rw (e, fieldsAnswer); table = rw (e, Written) tt }
+
+fields-got : {sc o p : List ℕ} {a : Answer (Forest Named)} {nodes count bytes : ℕ} (ts : List NamedTerm) → a ≡ got (forestOf ts)
+    → Row (tokens sc (forestOf ts)) nodes bytes o p → count ≡ length ts → FieldsDone sc a o p (fields.Read nodes count)
+unfolding fieldsAnswer Written
+fields-got ts e row counted =
+    record { answer = rw (e, fieldsAnswer, row .count, counted, trees-all ts); table = rw (e, Written) (row .front) }
+
+pub record Reading (read : Reader) (sc : List ℕ) (due : Due) (s o p : List ℕ) (left : Due) (nodes count at : ℕ) : Type 0 where
+  pub done : List NamedTerm
+  pub leads : readFields due read s ≡ after (readFields left read (drop at s)) (λ f. got (graftAll done f))
+  pub row : Row (tokens sc (forestOf done)) nodes at o p
+  pub counted : count ≡ length done
+  pub few : 3 * count ≤ at
+  pub within : at ≤ length s
+
+pub reading-begins : (read : Reader) (sc : List ℕ) (due : Due) (s o : List ℕ) → Reading read sc due s o o due 0 0 0
+unfolding tokens
+reading-begins read sc due s o =
     record {
-      answer = j ∙ rw e (rw (tokens-graft sc t f, length-append (tokens sc (one t)) (tokens sc f), hm, add-one));
-      table = rw (tokens-graft sc t f, hm) (rows-joined (tokens sc (one t)) (tokens sc f) o p x hp (rw hm at v));
+      done = [];
+      leads = after-none (λ f. f) (λ f. refl) (readFields due read s);
+      row = row-none o;
+      counted = refl;
+      few = omega arith;
+      within = omega arith;
     }
 
--- The returns of `read_fields`
-module _ (read : Reader) (fine : Fine read) (sc : List ℕ) (due : Due) (s o : List ℕ) where
-  pub fields-none : nextOf due (length s) ≡ nexts.Done → FieldsDone sc (readFields due read s) o o (fields.Read 0 0)
-  unfolding fieldsAnswer Written tokens
-  fields-none h = let e = next-done read fine s due h in record { answer = rw (e, fieldsAnswer); table = rw (e, Written) }
+module _ {read : Reader} (fine : Fine read) {sc : List ℕ} {due left : Due} {s o p : List ℕ} {nodes count at : ℕ}
+    (r : Reading read sc due s o p left nodes count at) where
+  pub reading-ends : nextOf left (length s - at) ≡ nexts.Done → FieldsDone sc (readFields due read s) o p (fields.Read nodes count)
+  reading-ends h =
+      let none = next-done read fine (drop at s) left (rw (length-drop at s) h) in
+      fields-got (r .done) (r .leads ∙ rw (none, graft-none (r .done))) (r .row) (r .counted)
 
-  pub fields-refused : {r : ℕ} → nextOf due (length s) ≡ nexts.Refused r → FieldsDone sc (readFields due read s) o o (fields.Refused r)
-  unfolding fieldsAnswer Written
-  fields-refused h = let e = next-refused read fine s due h in record { answer = rw (e, fieldsAnswer); table = rw (e, Written) tt }
+  pub reading-refused : {q : ℕ} {p′ : List ℕ} → nextOf left (length s - at) ≡ nexts.Refused q
+      → FieldsDone sc (readFields due read s) o p′ (fields.Refused q)
+  reading-refused {q} h = fields-refused (r .leads ∙ rw (next-refused read fine (drop at s) left {r = q} (rw (length-drop at s) h)))
 
-  pub first-refused : {r : ℕ} (later : Due) (p p′ : List ℕ) → nextOf due (length s) ≡ nexts.Field later
-      → TermDone sc s (read s) o p (terms.Refused r) → FieldsDone sc (readFields due read s) o p′ (fields.Refused r)
-  unfolding fieldsAnswer Written termAnswer
-  first-refused {r} later p p′ h d = rw (next-field read fine s due later h) (go (read s) (d .answer))
-    where
-      go : (a : Answer (NamedTerm × Bytes)) → terms.Refused r ≡ termAnswer sc s a
-          → FieldsDone sc (after a (fieldsFrom later read)) o p′ (fields.Refused r)
-      go (refused x) e = record { answer = cc; table = tt }
-      go (got x) e = absurd (let z : _≡_ {A = ℕ} 0 1 = cc in omega arith)
+  abbrev rest : Bytes
+  rest = take (length s - at) (drop at s)
 
-  pub fields-joined : {k m : ℕ} (later : Due) (p x : List ℕ) (inner r : Fields) → nextOf due (length s) ≡ nexts.Field later
-      → TermDone sc s (read s) o p (terms.Took k m)
-      → FieldsDone sc (readFields later read (take (length s - k) (drop k s))) (take (length p - m) (drop m p)) x inner
-      → r ≡ joinedOf m inner
-      → FieldsDone sc (readFields due read s) o (putMid m (length p - m) p x) r
-  unfolding fieldsFrom
-  fields-joined {k} {m} later p x inner r h d f j =
-      let t = took sc s (read s) o p k m d in
-      let part = later-part read fine sc s o p t in
-      rw (next-field read fine s due later h, t .reads)
-      (fields-grafted sc o p x (t .term) (readFields later read (t .later)) inner (t .nodesAre) (t .row) (rw part at (f .answer))
-      (rw part at (f .table)) j)
+  abbrev room : List ℕ
+  room = take (length p - nodes) (drop nodes p)
+
+  rest-length : length rest ≡ length s - at
+  rest-length = part-length at (length s) s (r .within) (omega arith)
+
+  -- What `read_term` requires
+  pub rest-space : Space (length s) (length o) → Space (length rest) (length room)
+  rest-space space = row-space (r .row) (r .within) space (omega (arith, rest-length, r .within))
+
+  module _ {later : Due} (h : nextOf left (length s - at) ≡ nexts.Field later) where
+    next : readFields due read s ≡ after (after (read rest) (fieldsFrom later read)) (λ f. got (graftAll (r .done) f))
+    next = r .leads ∙ rw (next-field read fine (drop at s) left later (rw (length-drop at s) h), rest-all at s)
+
+    pub reading-cut : {q : ℕ} {x p′ : List ℕ} → TermDone sc rest (read rest) room x (terms.Refused q)
+        → FieldsDone sc (readFields due read s) o p′ (fields.Refused q)
+    reading-cut d = fields-refused (next ∙ rw (not-took d))
+
+    -- One field more
+    module _ {k m : ℕ} (x : List ℕ) (d : TermDone sc rest (read rest) room x (terms.Took k m)) where
+      one-more : Took sc rest (read rest) room x k m
+      one-more = took sc rest (read rest) room x k m d
+
+      fits : TookFits rest k m
+      fits = took-fits read fine sc rest room x d
+
+      within : at + k ≤ length s
+      within = omega (arith, fits .within, rest-length, r .within)
+
+      pub sums-fit : length s < 65536 → (nodes + m < 2 ^ 64) × (count + 1 < 2 ^ 64) × (at + k < 2 ^ 64)
+      sums-fit short =
+          let all = within in
+          (omega (arith, fits .nodes, r .row .few), omega (arith, fits .some, r .few), omega arith)
+
+      later-is : one-more .later ≡ drop (at + k) s
+      later-is =
+          sym (later-part read fine sc rest room x one-more) ∙ rest-all k rest ∙ ap (drop k) (rest-all at s) ∙ drop-drop k at s
+
+      pub bytes-less : length s - (at + k) < length s - at
+      bytes-less = omega (arith, fits .some, within)
+
+      pub reading-goes : length x ≡ length room
+          → Reading read sc due s o (putMid nodes (length p - nodes) p x) later (nodes + m) (count + 1) (at + k)
+      unfolding fieldsFrom
+      reading-goes kept =
+          let t = one-more .term in
+          record {
+            done = r .done ++ (t ∷ []);
+            leads =
+                next
+                ∙ rw (one-more .reads, fieldsFrom, later-is)
+                (after-twice (graftAll (r .done)) (graft t) (graftAll (r .done ++ (t ∷ []))) (graft-more (r .done) t)
+                (readFields later read (drop (at + k) s)));
+            row =
+                rw (tokens-more sc (r .done) t)
+                (row-more (r .row) (tokens sc (one t)) x (one-more .nodesAre) (fits .nodes) (one-more .row) kept);
+            counted = ap (λ (j : ℕ). j + 1) (r .counted) ∙ sym (length-append (r .done) (t ∷ []));
+            few = omega (arith, r .few, fits .some);
+            within = within;
+          }
 
 label-enter : (n : Node) (count : ℕ) (sc : List ℕ) → enter (labelOf n count) sc ≡ enter (labelOf n 0) sc
 label-enter (nodes.Symbol x) count sc = refl
@@ -297,13 +385,3 @@ inner-space {levels} {fixed} {end} s o h r =
 pub inner-short : {levels fixed end : ℕ} (s : Bytes) → OpenFits levels (length s) fixed end
     → length (take (end - (3 + fixed)) (drop (3 + fixed) s)) < 65536
 inner-short {levels} {fixed} {end} s h = omega (arith, part-length (3 + fixed) end s (h .start) (h .within), h .short)
-
-pub later-less : {k m : ℕ} (s : Bytes) → TookFits s k m → length (take (length s - k) (drop k s)) + 3 ≤ length s
-later-less {k} s h = omega (arith, part-length k (length s) s (h .within) (omega arith), h .some, h .within)
-
-pub later-space : {k m : ℕ} (s p : List ℕ) → TookFits s k m → Space (length s) (length p)
-    → Space (length (take (length s - k) (drop k s))) (length (take (length p - m) (drop m p)))
-later-space {k} {m} s p h r =
-    let a = part-length k (length s) s (h .within) (omega arith) in
-    let b = part-length m (length p) p (omega (arith, h .within, h .nodes, r .table)) (omega arith) in
-    record { table = omega (arith, a, b, h .within, h .nodes, r .table) }

@@ -87,8 +87,3 @@ closeTable x n (fields.Read nodes count) o = set o 0 (nodeToken x n (nodes + 1) 
 pub record Closed (x : Site) (n : Node) (end : ℕ) (inner : Fields) (before after : List ℕ) (r : Term) : Type 0 where
   pub answer : r ≡ closeAnswer end inner
   pub table : after ≡ closeTable x n inner before
-
--- One field of so many nodes before others
-abbrev pub joinedOf : ℕ → Fields → Fields
-joinedOf nodes (fields.Refused r) = fields.Refused r
-joinedOf nodes (fields.Read more count) = fields.Read (nodes + more) (count + 1)

@@ -8,12 +8,12 @@ use sites::site::Site;
 ghost use mathlib.Core.Path.{_≡_};
 ghost use lib.ListN.{length};
 ghost use mathlib.Core.List.{[]};
-ghost use Prim.Native.Nat.{_+_, _≤_, _<_};
+ghost use Prim.Native.Nat.{_≤_};
 ghost use Rattle.meaning.specs.Limits.{maxDepth};
 ghost use Rattle.meaning.specs.Read.{readTerm, inPattern, inExpression, inBody};
 ghost use Rattle.fields.specs.Heads.{readFields};
 ghost use Rattle.sites.specs.Site.{siteScope, siteContext};
-ghost use Rattle.terms.specs.Reading.{Space, Room, Inner, TermDone, FieldsDone, FieldsFit, nextOf, Closed, joinedOf};
+ghost use Rattle.terms.specs.Reading.{Space, Room, Inner, TermDone, FieldsDone, FieldsFit, nextOf, Closed};
 
 // What reading a term answers: document 01's refusal by its number, or counts of what stands in the table.
 pub enum Term {
@@ -75,17 +75,6 @@ fn close(inner: Fields, node: Node, site: Site, end: usize, out: &mut [u64]) -> 
     }
 }
 
-// One field of so many nodes, and the fields after it.
-fn joined(nodes: usize, later: Fields) -> Fields
-    requires { ⌜ (nodes < 65536) × FieldsFit later ⌝ }
-    ensures { λ r. ⌜ r ≡ joinedOf nodes later ⌝ }
-{
-    match later {
-        Fields::Refused(r) => Fields::Refused(r),
-        Fields::Read(more, count) => Fields::Read(nodes + more, count + 1),
-    }
-}
-
 pub fn read_term(s: &[u8], site: Site, out: &mut [u64]) -> Term
     requires { ⌜ Room site (length (now s)) (length (now out)) ⌝ }
     ensures { λ r. ⌜ TermDone (siteScope site) (now (s .entry)) (readTerm (site .levels) (siteContext site) (now (s .entry)))
@@ -102,21 +91,38 @@ pub fn read_term(s: &[u8], site: Site, out: &mut [u64]) -> Term
     }
 }
 
+// The inner fields of a node, each into the part of the table after those before it. A loop, so that the stack grows with the depth of a
+// term and not with the number of its children.
 fn read_fields(s: &[u8], due: Due, site: Site, out: &mut [u64]) -> Fields
     requires { ⌜ Inner site (length (now s)) (length (now out)) ⌝ }
     ensures { λ r. ⌜ FieldsDone (siteScope site) (readFields due (readTerm (site .levels) (siteContext site)) (now (s .entry)))
         (now (out .entry)) (now (out .exit)) r ⌝ }
 {
-    match next_due(due, s.len()) {
-        Next::Done => Fields::Read(0, 0),
-        Next::Refused(r) => Fields::Refused(r),
-        Next::Field(later) => match read_term(s, site, out) {
-            Term::Refused(r) => Fields::Refused(r),
-            Term::Took(k, nodes) => joined(
-                nodes,
-                read_fields(&s[k..], later, site, &mut out[nodes..]),
-            ),
-        },
+    // What is still due, the nodes and the fields that are read, and the bytes that they take.
+    let mut left = due;
+    let mut nodes = 0;
+    let mut count = 0;
+    let mut at = 0;
+    loop {
+        match next_due(left, s.len() - at) {
+            Next::Done => {
+                return Fields::Read(nodes, count);
+            }
+            Next::Refused(r) => {
+                return Fields::Refused(r);
+            }
+            Next::Field(later) => match read_term(&s[at..], site, &mut out[nodes..]) {
+                Term::Refused(r) => {
+                    return Fields::Refused(r);
+                }
+                Term::Took(bytes, more) => {
+                    left = later;
+                    nodes += more;
+                    count += 1;
+                    at += bytes;
+                }
+            },
+        }
     }
 }
 

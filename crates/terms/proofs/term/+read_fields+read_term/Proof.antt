@@ -1,25 +1,30 @@
--- `read_term` and `read_fields`, which call each other, meet their contracts. The measure is the length of the bytes: an inner list is
--- shorter than its term, and a list calls for a term of the same bytes. First the facts at a place of the code, then an answer for each
--- need.
-use mathlib.Core.Path.{_≡_, sym, _∙_}
+-- `read_term` and `read_fields`, which call each other, meet their contracts. The measure is the number of levels that may still be opened:
+-- the inner fields of a term have one less, and each of them is a term with as many as the list. The loop's invariant: the fields before
+-- `at` are read, and with those that are left they are all.
+use mathlib.Core.Path.{_≡_, sym, _∙_, subst}
+use mathlib.Core.List.{List}
+use Prim.Native.Nat.{ℕ, _+_, _-_, _*_, _^_, _≤_, _<_}
 use native.Mathlib.Omega.{arith}
-use lib.ListN.{length}
+use lib.ListN.{length, take, drop}
 use denote.Ref.{now}
-use Rattle.meaning.specs.Read.{readTerm}
-use Rattle.fields.specs.Heads.{OpenFits, OpenDone}
-use Rattle.sites.specs.Site.{siteContext, siteScope}
-use Rattle.terms.specs.Reading.{Space, TermDone, nextOf}
-use Rattle.terms.specs.declared.term.Term.the-variants as terms
-use Rattle.fields.specs.declared.node.Opened.the-variants as opens
-use Rattle.terms.specs.declared.term.Next.the-variants as nexts
-use Rattle.terms.proofs.Bounds.{term-fine}
-use Rattle.terms.proofs.TermLaws.{TookFits, took-fits, fields-fit, term-refused, term-closed, fields-none, fields-refused}
-use Rattle.terms.proofs.TermLaws.{first-refused, fields-joined, inner-less, open-room, inner-space, inner-short, later-less}
-use Rattle.terms.proofs.TermLaws.{later-space}
 use borrow.Author.Needs.{needs}
-use Prim.Native.Nat.{ℕ, _+_, _*_, _≤_, _<_}
-use borrow.Fn.Kinds.{In}
+use borrow.Fn.Kinds.{In, Out}
 use borrow.Fn.PlainCycle.{Measures, is, falls, and}
+use Rattle.meaning.specs.Basics.{Bytes}
+use Rattle.meaning.specs.Read.{Reader, readTerm}
+use Rattle.fields.specs.Heads.{OpenFits, OpenDone}
+use Rattle.fields.specs.declared.node.Node.{Node}
+use Rattle.fields.specs.declared.node.Opened.the-variants as opens
+use Rattle.sites.specs.Site.{siteContext, siteScope}
+use Rattle.sites.specs.declared.site.Site.{Site}
+use Rattle.terms.specs.Reading.{TermDone, nextOf}
+use Rattle.terms.specs.declared.term.Next.the-variants as nexts
+use Rattle.terms.specs.declared.term.Term as declared
+use Rattle.terms.specs.declared.term.Term.the-variants as terms
+use Rattle.terms.proofs.Bounds.{Fine, term-fine}
+use Rattle.terms.proofs.Rows.{row-inside, row-same, row-scaled}
+use Rattle.terms.proofs.TermLaws.{Reading, bytes-less, fields-fit, inner-short, inner-space, open-room, reading-begins, reading-cut}
+use Rattle.terms.proofs.TermLaws.{reading-ends, reading-goes, reading-refused, rest-space, sums-fit, term-closed, term-refused}
 use Rattle.terms.proofs.term.read_fields.Reads as read-fields
 use Rattle.terms.proofs.term.read_fields.Kinds as read-fields-kinds
 use Rattle.terms.proofs.term.+read_fields+read_term.Lts-read_fields as read-fields-lts
@@ -31,16 +36,15 @@ use Rattle.fields.proofs.node.Node.fixed.Reads as fixed-reads
 use Rattle.fields.proofs.node.open_term.Reads as open-term-reads
 use Rattle.sites.proofs.site.Site.below.Reads as below-reads
 use Rattle.terms.proofs.term.close.Reads as close-reads
-use Rattle.terms.proofs.term.joined.Reads as joined-reads
 use Rattle.terms.proofs.term.next_due.Reads as next-due-reads
 use Rattle.terms.proofs.term.+read_fields+read_term.{statement}
 use Rattle.terms.proofs.term.+read_fields+read_term.Tie.{close}
 
 abbrev μ-read-fields : Measures 2 read-fields-kinds.ps ℕ
-μ-read-fields κs a = 2 * length (a .0 .now) + 1
+μ-read-fields κs a = 2 * a .1 .1 .0 .levels + 1
 
 abbrev μ-read-term : Measures 2 read-term-kinds.ps ℕ
-μ-read-term κs a = 2 * length (a .0 .now)
+μ-read-term κs a = 2 * a .1 .0 .levels
 
 abbrev read-fields-at : ℕ → In 2 read-fields-kinds.ps
 read-fields-at t =
@@ -58,16 +62,7 @@ read-term-below t =
     and 2 read-term-kinds.ps (falls 2 read-term-kinds.ps _<_ μ-read-term t) read-term.Pre
 
 abbrev read-fields-callees : ℕ → read-fields-lts.Claims
-read-fields-callees t = (
-  next-due-reads.Asked,
-  next-due-reads.Learnt,
-  read-term-below t,
-  read-term.Post,
-  read-fields-below t,
-  read-fields.Post,
-  joined-reads.Asked,
-  joined-reads.Learnt,
-)
+read-fields-callees t = (next-due-reads.Asked, next-due-reads.Learnt, read-term-below t, read-term.Post)
 
 abbrev read-term-callees : ℕ → read-term-lts.Claims
 read-term-callees t = (
@@ -85,291 +80,326 @@ read-term-callees t = (
   close-reads.Learnt,
 )
 
--- `read_term`: what is known of the node, once its field is opened
-opened : (t : ℕ) (c : read-term-lts.After-node (read-term-callees t) (read-term-at t) read-term.Post)
-    → OpenDone
-    (c .before .before .before .before .before .args .site .levels)
-    (siteContext (c .before .before .before .before .before .args .site))
-    (now (c .before .before .before .before .before .args .s))
-    (opens.Node (c .node .given .0 .0) (c .node .given .0 .1 .0))
-opened t c = rw (c .node .given .1) at (c .before .before .open-term .ensures)
+-- The reader of the inner fields
+abbrev inner : Site → Reader
+inner site = readTerm (site .levels) (siteContext site)
 
--- where its inner fields begin and end
-inside : (t : ℕ) (c : read-term-lts.After-fixed (read-term-callees t) (read-term-at t) read-term.Post)
-    → OpenFits
-    (c .before .before .before .before .before .before .before .args .site .levels)
-    (length (now (c .before .before .before .before .before .before .before .args .s)))
-    (c .fixed .result)
-    (c .before .before .node .given .0 .1 .0)
-inside t c = rw (c .fixed .ensures) (opened t (c .before .before) .fits)
+abbrev Inv-loop : read-fields-lts.InvT-loop
+Inv-loop s site out₀ left₀ nodes₀ count₀ at₀ out left nodes count at =
+    Reading (inner site) (siteScope site) left₀ s out₀ out left nodes count at
 
--- there is room for its token
-has-room : (t : ℕ) (c : read-term-lts.After-fixed (read-term-callees t) (read-term-at t) read-term.Post)
-    → 1 ≤ length (now (c .before .before .before .before .before .before .before .args .out))
-has-room t c =
-    open-room (now (c .before .before .before .before .before .before .before .args .s))
-    (now (c .before .before .before .before .before .before .before .args .out)) (inside t c)
-    (c .before .before .before .before .before .before .before .pre .1 .space)
+abbrev μ-loop : read-fields-lts.MeasureT-loop
+μ-loop s site out₀ left₀ nodes₀ count₀ at₀ out left nodes count at = length s - at
 
--- `read_fields`: what is due after the first field
-due-later : (t : ℕ) (c : read-fields-lts.After-later (read-fields-callees t) (read-fields-at t) read-fields.Post)
-    → nextOf (c .before .before .before .before .before .args .due) (length (now (c .before .before .before .before .before .args .s)))
-    ≡ nexts.Field (c .later .given .0 .0)
-due-later t c = sym (c .before .before .next-due .ensures) ∙ c .later .given .1
+-- The places and needs of both, at a measure t
+module _ (t : ℕ) where
+  abbrev Term : (read-term-lts.Claims → In 2 read-term-kinds.ps → Out 2 read-term-kinds.ps read-term-kinds.r → Type 0) → Type 0
+  Term place = place (read-term-callees t) (read-term-at t) read-term.Post
 
--- the first field, once it is read
-first : (t : ℕ) (c : read-fields-lts.After-k (read-fields-callees t) (read-fields-at t) read-fields.Post)
-    → TermDone
-    (siteScope (c .before .before .before .before .before .before .before .before .before .before .before .before .args .site))
-    (now (c .before .before .before .before .before .before .before .before .before .before .before .before .args .s))
-    (readTerm (c .before .before .before .before .before .before .before .before .before .before .before .before .args .site .levels)
-    (siteContext (c .before .before .before .before .before .before .before .before .before .before .before .before .args .site))
-    (now (c .before .before .before .before .before .before .before .before .before .before .before .before .args .s)))
-    (now (c .before .before .before .before .before .before .before .before .before .before .before .before .args .out))
-    (c .before .before .before .before .read-term .last .1 .1 .0)
-    (terms.Took (c .k .given .0 .0) (c .k .given .0 .1 .0))
-first t c = rw (c .k .given .1) at (c .before .before .before .before .read-term .ensures)
+  abbrev Fields : (read-fields-lts.Claims → In 2 read-fields-kinds.ps → Out 2 read-fields-kinds.ps read-fields-kinds.r
+      → read-fields-lts.InvT-loop → read-fields-lts.MeasureT-loop → Type 0) → Type 0
+  Fields place = place (read-fields-callees t) (read-fields-at t) read-fields.Post Inv-loop μ-loop
 
-first-fits : (t : ℕ) (c : read-fields-lts.After-k (read-fields-callees t) (read-fields-at t) read-fields.Post)
-    → TookFits (now (c .before .before .before .before .before .before .before .before .before .before .before .before .args .s))
-    (c .k .given .0 .0) (c .k .given .0 .1 .0)
-first-fits t c = took-fits _ (term-fine _ _) _ _ _ _ (first t c)
+  -- `read_term`: the field is opened, and the length of its fixed part is known
+  module _ (c : Term read-term-lts.After-fixed) where
+    abbrev entry : Term read-term-lts.Start
+    entry = c .before .before .before .before .before .before .before
 
--- room after it
-first-space : (t : ℕ) (c : read-fields-lts.After-k (read-fields-callees t) (read-fields-at t) read-fields.Post)
-    → Space (length (now (c .before .before .before .before .before .before .before .before .before .before .before .before .args .s)))
-    (length (c .before .before .before .before .read-term .last .1 .1 .0))
-first-space t c =
-    rw (c .before .before .before .before .read-term .kept .1 .1 .0)
-    (c .before .before .before .before .before .before .before .before .before .before .before .before .pre .1 .outer .space)
+    abbrev site : Site
+    site = entry .args .site
 
--- and its bytes are those of a content
-first-short : (t : ℕ) (c : read-fields-lts.After-k (read-fields-callees t) (read-fields-at t) read-fields.Post)
-    → length (now (c .before .before .before .before .before .before .before .before .before .before .before .before .args .s)) < 65536
-first-short t c = c .before .before .before .before .before .before .before .before .before .before .before .before .pre .1 .short
+    abbrev node : Node
+    node = c .before .before .node .given .0 .0
 
-read-fields-next-due-requires : (t : ℕ) → read-fields-lts.Need-next-due-requires (read-fields-callees t) (read-fields-at t) read-fields.Post
-read-fields-next-due-requires t c κs = search needs
+    abbrev end : ℕ
+    end = c .before .before .node .given .0 .1 .0
 
-read-fields-enum-told : (t : ℕ) → read-fields-lts.Need-enum-told (read-fields-callees t) (read-fields-at t) read-fields.Post
-read-fields-enum-told t c = search needs
+    opened : OpenDone (site .levels) (siteContext site) (now (entry .args .s)) (opens.Node node end)
+    opened = rw (c .before .before .node .given .1) at (c .before .before .before .before .open-term .ensures)
 
-read-fields-enum-known-r : (t : ℕ) → read-fields-lts.Need-enum-known-r (read-fields-callees t) (read-fields-at t) read-fields.Post
-read-fields-enum-known-r t c = search needs
+    inside : OpenFits (site .levels) (length (now (entry .args .s))) (c .fixed .result) end
+    inside = subst (λ (k : ℕ). OpenFits (site .levels) (length (now (entry .args .s))) k end) (sym (c .fixed .ensures)) (opened .fits)
 
-read-fields-enum-known-later : (t : ℕ) → read-fields-lts.Need-enum-known-later (read-fields-callees t) (read-fields-at t) read-fields.Post
-read-fields-enum-known-later t c = search needs
+    has-room : 1 ≤ length (now (entry .args .out))
+    has-room = open-room (now (entry .args .s)) (now (entry .args .out)) inside (entry .pre .1 .space)
 
-read-fields-read-term-requires : (t : ℕ)
-    → read-fields-lts.Need-read-term-requires (read-fields-callees t) (read-fields-at t) read-fields.Post
-read-fields-read-term-requires t c κs = (
-  omega (arith, c .before .before .before .before .before .before .before .pre .0),
-  c .before .before .before .before .before .before .before .pre .1 .outer,
-)
+  read-term-open-term-requires : Term read-term-lts.Need-open-term-requires
+  read-term-open-term-requires c κs = search needs
 
-read-fields-enum-known-r-2 : (t : ℕ) → read-fields-lts.Need-enum-known-r-2 (read-fields-callees t) (read-fields-at t) read-fields.Post
-read-fields-enum-known-r-2 t c = search needs
+  read-term-enum-known-r : Term read-term-lts.Need-enum-known-r
+  read-term-enum-known-r c = c .match .keys1
 
-read-fields-enum-known-k : (t : ℕ) → read-fields-lts.Need-enum-known-k (read-fields-callees t) (read-fields-at t) read-fields.Post
-read-fields-enum-known-k t c = search needs
+  read-term-enum-known-node : Term read-term-lts.Need-enum-known-node
+  read-term-enum-known-node c = c .match .keys2
 
-read-fields-sub-read-fields : (t : ℕ) → read-fields-lts.Need-sub-read-fields (read-fields-callees t) (read-fields-at t) read-fields.Post
-read-fields-sub-read-fields t c = omega (arith, first-fits t (c .before) .within)
+  read-term-fixed-requires : Term read-term-lts.Need-fixed-requires
+  read-term-fixed-requires c κs = search needs
 
-read-fields-part-read-fields-start : (t : ℕ)
-    → read-fields-lts.Need-part-read-fields-start (read-fields-callees t) (read-fields-at t) read-fields.Post
-read-fields-part-read-fields-start t c = omega (arith, first-fits t (c .before) .within)
+  read-term-add-at : Term read-term-lts.Need-add-at
+  read-term-add-at c = omega (arith, inside c .start, inside c .within)
 
-read-fields-part-read-fields-end : (t : ℕ)
-    → read-fields-lts.Need-part-read-fields-end (read-fields-callees t) (read-fields-at t) read-fields.Post
-read-fields-part-read-fields-end t c = search needs
+  read-term-sub-read-fields : Term read-term-lts.Need-sub-read-fields
+  read-term-sub-read-fields c = inside c .start
 
-read-fields-mul-read-fields : (t : ℕ) → read-fields-lts.Need-mul-read-fields (read-fields-callees t) (read-fields-at t) read-fields.Post
-read-fields-mul-read-fields t c =
-    let fits = first-fits t (c .before .before) in omega (arith, fits .within, fits .nodes, first-short t (c .before .before))
+  read-term-part-read-fields-start : Term read-term-lts.Need-part-read-fields-start
+  read-term-part-read-fields-start c = inside c .start
 
-read-fields-sub-read-fields-2 : (t : ℕ) → read-fields-lts.Need-sub-read-fields-2 (read-fields-callees t) (read-fields-at t) read-fields.Post
-read-fields-sub-read-fields-2 t c =
-    let room = first-space t (c .before .before) in let fits = first-fits t (c .before .before) in
-    omega (arith, fits .within, fits .nodes, room .table)
+  read-term-part-read-fields-end : Term read-term-lts.Need-part-read-fields-end
+  read-term-part-read-fields-end c = inside c .within
 
-read-fields-part-read-fields-start-2 : (t : ℕ)
-    → read-fields-lts.Need-part-read-fields-start-2 (read-fields-callees t) (read-fields-at t) read-fields.Post
-read-fields-part-read-fields-start-2 t c =
-    let room = first-space t (c .before .before) in let fits = first-fits t (c .before .before) in
-    omega (arith, fits .within, fits .nodes, room .table)
+  read-term-due-requires : Term read-term-lts.Need-due-requires
+  read-term-due-requires c κs = search needs
 
-read-fields-part-read-fields-end-2 : (t : ℕ)
-    → read-fields-lts.Need-part-read-fields-end-2 (read-fields-callees t) (read-fields-at t) read-fields.Post
-read-fields-part-read-fields-end-2 t c = search needs
+  read-term-below-requires : Term read-term-lts.Need-below-requires
+  read-term-below-requires c κs = let f = c .before .before in (inside f .deep, entry f .pre .1 .good)
 
-read-fields-read-fields-requires : (t : ℕ)
-    → read-fields-lts.Need-read-fields-requires (read-fields-callees t) (read-fields-at t) read-fields.Post
-read-fields-read-fields-requires t c κs =
-    let fits = first-fits t (c .before .before .before) in (
-      omega (
-        arith,
-        later-less _ fits,
-        c .before .before .before .before .before .before .before .before .before .before .before .before .before .before .before .pre .0,
-      ),
-      record { outer = record { good = c .before .before .before .before .before .before .before .before .before .before .before .before .before .before .before .pre .1 .outer .good; space = later-space (now (c .before .before .before .before .before .before .before .before .before .before .before .before .before .before .before .args .s)) (c .before .before .before .before .before .before .before .read-term .last .1 .1 .0) fits (first-space t (c .before .before .before)) }; short = omega (arith, later-less _ fits, first-short t (c .before .before .before)) },
-    )
+  read-term-sub-read-fields-2 : Term read-term-lts.Need-sub-read-fields-2
+  read-term-sub-read-fields-2 c = has-room (c .before .before .before)
 
-read-fields-joined-requires : (t : ℕ) → read-fields-lts.Need-joined-requires (read-fields-callees t) (read-fields-at t) read-fields.Post
-read-fields-joined-requires t c κs =
-    let fits = first-fits t (c .before .before .before .before .before .before) in
-    let short = first-short t (c .before .before .before .before .before .before) in (
-      omega (arith, fits .within, fits .nodes, short),
-      fields-fit _ (term-fine _ _) _ _ _ _ _ _ (c .before .before .read-fields .ensures) (omega (arith, later-less _ fits, short)),
-    )
+  read-term-part-read-fields-start-2 : Term read-term-lts.Need-part-read-fields-start-2
+  read-term-part-read-fields-start-2 c = has-room (c .before .before .before)
 
-read-fields-returns : (t : ℕ) → read-fields-lts.Need-returns (read-fields-callees t) (read-fields-at t) read-fields.Post
-read-fields-returns t c = fields-none _ (term-fine _ _) _ _ _ _ (sym (c .before .before .next-due .ensures) ∙ c .enum-told .given .1)
+  read-term-part-read-fields-end-2 : Term read-term-lts.Need-part-read-fields-end-2
+  read-term-part-read-fields-end-2 c = search needs
 
-read-fields-returns-2 : (t : ℕ) → read-fields-lts.Need-returns-2 (read-fields-callees t) (read-fields-at t) read-fields.Post
-read-fields-returns-2 t c =
-    fields-refused _ (term-fine _ _) _ _ _ _ (sym (c .before .before .before .next-due .ensures) ∙ c .before .r .given .1)
+  read-term-read-fields-requires : Term read-term-lts.Need-read-fields-requires
+  read-term-read-fields-requires c κs =
+      let f = c .before .before .before .before in
+      let below = c .before .below .ensures in (
+        omega (arith, below .levels, inside f .deep, entry f .pre .0),
+        record {
+          outer =
+              record {
+                good = below .good;
+                space = inner-space (now (entry f .args .s)) (now (entry f .args .out)) (inside f) (entry f .pre .1 .space);
+              };
+          short = inner-short (now (entry f .args .s)) (inside f);
+        },
+      )
 
-read-fields-same-length : (t : ℕ) → read-fields-lts.Need-same-length (read-fields-callees t) (read-fields-at t) read-fields.Post
-read-fields-same-length t c = search needs
+  read-term-close-requires : Term read-term-lts.Need-close-requires
+  read-term-close-requires c κs =
+      let read = c .before .before .before in
+      let f = read .before .before .before .before .before in (
+        omega (arith, entry f .pre .1 .good .levels),
+        omega (arith, c .before .before .out .given .1, has-room f),
+        fields-fit _ (term-fine _ _) _ _ _ _ _ _ (read .read-fields .ensures)
+            (omega (arith, inner-short (now (entry f .args .s)) (inside f))),
+      )
 
-read-fields-returns-3 : (t : ℕ) → read-fields-lts.Need-returns-3 (read-fields-callees t) (read-fields-at t) read-fields.Post
-read-fields-returns-3 t c =
-    first-refused _ (term-fine _ _) _ _ _ _ _ _ _ (due-later t (c .before .before .before .before .before .before .before .before))
-    (rw (c .before .r2 .given .1) at (c .before .before .before .before .before .read-term .ensures))
+  read-term-returns : Term read-term-lts.Need-returns
+  read-term-returns c =
+      let read = c .before .before .before in
+      term-refused (read .before .before .before .args .site) _ _ _ _ (rw (c .before .r .given .1) at (read .open-term .ensures))
 
-read-fields-same-length-2 : (t : ℕ) → read-fields-lts.Need-same-length-2 (read-fields-callees t) (read-fields-at t) read-fields.Post
-read-fields-same-length-2 t c = search needs
+  read-term-same-length : Term read-term-lts.Need-same-length
+  read-term-same-length c = search needs
 
-read-fields-returns-4 : (t : ℕ) → read-fields-lts.Need-returns-4 (read-fields-callees t) (read-fields-at t) read-fields.Post
-read-fields-returns-4 t c =
-    fields-joined _ (term-fine _ _) _ _ _ _ _ _ _ _ _
-    (due-later t (c .before .before .before .before .before .before .before .before .before .before .before .before .before .before))
-    (first t (c .before .before .before .before .before .before .before)) (c .before .before .before .read-fields .ensures)
-    (c .joined .ensures)
+  read-term-returns-2 : Term read-term-lts.Need-returns-2
+  read-term-returns-2 c =
+      let closed = c .before .before in
+      let read = closed .before .before .before .before in
+      let below = read .before .before in
+      let due = below .before in
+      let f = due .before .before in
+      term-closed (site f) _ _ _ _ _ _ _ _ _ _ (opened f) (has-room f) (below .below .ensures .levels) (below .below .ensures .context)
+      (below .below .ensures .names) (rw (f .fixed .ensures, due .due .ensures) at (read .read-fields .ensures)) (closed .close .ensures)
 
-read-term-open-term-requires : (t : ℕ) → read-term-lts.Need-open-term-requires (read-term-callees t) (read-term-at t) read-term.Post
-read-term-open-term-requires t c κs = search needs
+  -- `read_fields`: what is read lies in the table
+  nodes-inside : (c : Fields read-fields-lts.At-loop) → c .loop .nodes ≤ length (c .loop .out)
+  nodes-inside c = row-inside (c .loop .inv .row) (c .loop .inv .within) (c .before .before .before .pre .1 .outer .space)
 
-read-term-enum-known-r : (t : ℕ) → read-term-lts.Need-enum-known-r (read-term-callees t) (read-term-at t) read-term.Post
-read-term-enum-known-r t c = search needs
+  -- a field is due
+  module _ (c : Fields read-fields-lts.After-later) where
+    abbrev loop : Fields read-fields-lts.At-loop
+    loop = c .before .before .before
 
-read-term-enum-known-node : (t : ℕ) → read-term-lts.Need-enum-known-node (read-term-callees t) (read-term-at t) read-term.Post
-read-term-enum-known-node t c = search needs
+    abbrev start : Fields read-fields-lts.Start
+    start = loop .before .before .before
 
-read-term-fixed-requires : (t : ℕ) → read-term-lts.Need-fixed-requires (read-term-callees t) (read-term-at t) read-term.Post
-read-term-fixed-requires t c κs = search needs
+    abbrev fine : Fine (inner (start .args .site))
+    fine = term-fine (start .args .site .levels) (siteContext (start .args .site))
 
-read-term-add-at : (t : ℕ) → read-term-lts.Need-add-at (read-term-callees t) (read-term-at t) read-term.Post
-read-term-add-at t c = omega (arith, inside t c .start, inside t c .within)
+    abbrev s : Bytes
+    s = start .args .s .now
 
-read-term-sub-read-fields : (t : ℕ) → read-term-lts.Need-sub-read-fields (read-term-callees t) (read-term-at t) read-term.Post
-read-term-sub-read-fields t c = omega (arith, inside t c .start)
+    due-later : nextOf (loop .loop .left) (length s - loop .loop .at) ≡ nexts.Field (c .later .given .0 .0)
+    due-later = sym (c .before .before .next-due .ensures) ∙ c .later .given .1
 
-read-term-part-read-fields-start : (t : ℕ) → read-term-lts.Need-part-read-fields-start (read-term-callees t) (read-term-at t) read-term.Post
-read-term-part-read-fields-start t c = omega (arith, inside t c .start)
+  -- its term is read: x is the table after those before it, with its tokens at the front
+  module _ (c : Fields read-fields-lts.After-read-term) where
+    abbrev top : Fields read-fields-lts.After-later
+    top = c .before .before .before .before
 
-read-term-part-read-fields-end : (t : ℕ) → read-term-lts.Need-part-read-fields-end (read-term-callees t) (read-term-at t) read-term.Post
-read-term-part-read-fields-end t c = omega (arith, inside t c .within)
+    abbrev at : ℕ
+    at = loop top .loop .at
 
-read-term-due-requires : (t : ℕ) → read-term-lts.Need-due-requires (read-term-callees t) (read-term-at t) read-term.Post
-read-term-due-requires t c κs = search needs
+    abbrev nodes : ℕ
+    nodes = loop top .loop .nodes
 
-read-term-below-requires : (t : ℕ) → read-term-lts.Need-below-requires (read-term-callees t) (read-term-at t) read-term.Post
-read-term-below-requires t c κs =
-    (inside t (c .before .before) .deep, c .before .before .before .before .before .before .before .before .before .pre .1 .good)
+    abbrev out : List ℕ
+    out = loop top .loop .out
 
-read-term-sub-read-fields-2 : (t : ℕ) → read-term-lts.Need-sub-read-fields-2 (read-term-callees t) (read-term-at t) read-term.Post
-read-term-sub-read-fields-2 t c = has-room t (c .before .before .before)
+    abbrev x : List ℕ
+    x = c .read-term .last .1 .1 .0
 
-read-term-part-read-fields-start-2 : (t : ℕ)
-    → read-term-lts.Need-part-read-fields-start-2 (read-term-callees t) (read-term-at t) read-term.Post
-read-term-part-read-fields-start-2 t c = has-room t (c .before .before .before)
+    abbrev Found : declared.Term → Type 0
+    Found =
+        TermDone (siteScope (start top .args .site)) (take (length (s top) - at) (drop at (s top)))
+        (inner (start top .args .site) (take (length (s top) - at) (drop at (s top)))) (take (length out - nodes) (drop nodes out)) x
 
-read-term-part-read-fields-end-2 : (t : ℕ) → read-term-lts.Need-part-read-fields-end-2 (read-term-callees t) (read-term-at t) read-term.Post
-read-term-part-read-fields-end-2 t c = search needs
+  -- of so many bytes and nodes
+  module _ (c : Fields read-fields-lts.After-bytes) where
+    abbrev read : Fields read-fields-lts.After-read-term
+    read = c .before .before .before .before
 
-read-term-read-fields-requires : (t : ℕ) → read-term-lts.Need-read-fields-requires (read-term-callees t) (read-term-at t) read-term.Post
-read-term-read-fields-requires t c κs =
-    let fits = inside t (c .before .before .before .before) in (
-      omega (
-        arith,
-        inner-less (now (c .before .before .before .before .before .before .before .before .before .before .before .args .s)) fits,
-        c .before .before .before .before .before .before .before .before .before .before .before .pre .0,
-      ),
-      record {
-        outer =
-            record {
-              good = c .before .below .ensures .good;
-              space =
-                  inner-space (now (c .before .before .before .before .before .before .before .before .before .before .before .args .s))
-                  (now (c .before .before .before .before .before .before .before .before .before .before .before .args .out)) fits
-                  (c .before .before .before .before .before .before .before .before .before .before .before .pre .1 .space);
-            };
-        short = inner-short _ fits;
-      },
-    )
+    found : Found read (terms.Took (c .bytes .given .0 .0) (c .bytes .given .0 .1 .0))
+    found = subst (Found read) (c .bytes .given .1) (read .read-term .ensures)
 
-read-term-close-requires : (t : ℕ) → read-term-lts.Need-close-requires (read-term-callees t) (read-term-at t) read-term.Post
-read-term-close-requires t c κs =
-    let fits = inside t (c .before .before .before .before .before .before .before .before) in
-    let x =
-    c .before .before .before .before .before .before .before .before .before .before .before .before .before .before .before .args in
-    let room =
-    c .before .before .before .before .before .before .before .before .before .before .before .before .before .before .before .pre .1 in (
-      omega (arith, room .good .levels),
-      (omega (arith, c .before .before .out .given .1, has-room t (c .before .before .before .before .before .before .before .before))),
-      fields-fit _ (term-fine _ _) _ _ _ _ _ _ (c .before .before .before .read-fields .ensures)
-          (omega (arith, inner-short (now (x .s)) fits)),
-    )
+    abbrev below : Fields read-fields-lts.After-later
+    below = top read
 
-read-term-returns : (t : ℕ) → read-term-lts.Need-returns (read-term-callees t) (read-term-at t) read-term.Post
-read-term-returns t c =
-    term-refused (c .before .before .before .before .before .before .args .site) _ _ _ _
-    (rw (c .before .r .given .1) at (c .before .before .before .open-term .ensures))
+    sums : (nodes read + c .bytes .given .0 .1 .0 < 2 ^ 64) × (loop below .loop .count + 1 < 2 ^ 64)
+        × (at read + c .bytes .given .0 .0 < 2 ^ 64)
+    sums = sums-fit (fine below) (loop below .loop .inv) (due-later below) (x read) found (start below .pre .1 .short)
 
-read-term-same-length : (t : ℕ) → read-term-lts.Need-same-length (read-term-callees t) (read-term-at t) read-term.Post
-read-term-same-length t c = search needs
+  read-fields-loop-holds : Fields read-fields-lts.Need-loop-holds
+  read-fields-loop-holds c =
+      let a = c .before .before .args in
+      reading-begins (inner (a .site)) (siteScope (a .site)) (a .due) (a .s .now) (a .out .now)
 
-read-term-returns-2 : (t : ℕ) → read-term-lts.Need-returns-2 (read-term-callees t) (read-term-at t) read-term.Post
-read-term-returns-2 t c =
-    let below = c .before .before .before .before .before .before .before .before .below .ensures in
-    term-closed
-    (c .before .before .before .before .before .before .before .before .before .before .before .before .before .before .before .before .before .before .args .site) _ _ _ _ _ _ _ _ _ _ (opened t (c .before .before .before .before .before .before .before .before .before .before .before .before .before)) (has-room t (c .before .before .before .before .before .before .before .before .before .before .before)) (below .levels) (below .context) (below .names)
-    (rw (
-      c .before .before .before .before .before .before .before .before .before .before .before .fixed .ensures,
-      c .before .before .before .before .before .before .before .before .before .due .ensures,
-    ) at (c .before .before .before .before .before .before .read-fields .ensures)) (c .before .before .close .ensures)
+  read-fields-sub-next-due : Fields read-fields-lts.Need-sub-next-due
+  read-fields-sub-next-due c = c .loop .inv .within
+
+  read-fields-next-due-requires : Fields read-fields-lts.Need-next-due-requires
+  read-fields-next-due-requires c κs = search needs
+
+  read-fields-enum-told : Fields read-fields-lts.Need-enum-told
+  read-fields-enum-told c = c .match .keys1
+
+  read-fields-same-length : Fields read-fields-lts.Need-same-length
+  read-fields-same-length c = c .before .before .before .loop .inv .row .same
+
+  read-fields-returns : Fields read-fields-lts.Need-returns
+  read-fields-returns c =
+      let next = c .before .before in
+      reading-ends (term-fine _ _) (next .before .loop .inv) (sym (next .next-due .ensures) ∙ c .enum-told .given .1)
+
+  read-fields-enum-known-r : Fields read-fields-lts.Need-enum-known-r
+  read-fields-enum-known-r c = c .match .keys2
+
+  read-fields-same-length-2 : Fields read-fields-lts.Need-same-length-2
+  read-fields-same-length-2 c = c .before .before .before .before .loop .inv .row .same
+
+  read-fields-returns-2 : Fields read-fields-lts.Need-returns-2
+  read-fields-returns-2 c =
+      let next = c .before .before .before in
+      reading-refused (term-fine _ _) (next .before .loop .inv) (sym (next .next-due .ensures) ∙ c .before .r .given .1)
+
+  read-fields-enum-known-later : Fields read-fields-lts.Need-enum-known-later
+  read-fields-enum-known-later c = c .match .keys3
+
+  read-fields-sub-read-term : Fields read-fields-lts.Need-sub-read-term
+  read-fields-sub-read-term c = loop (c .before) .loop .inv .within
+
+  read-fields-part-read-term-start : Fields read-fields-lts.Need-part-read-term-start
+  read-fields-part-read-term-start c = loop (c .before) .loop .inv .within
+
+  read-fields-part-read-term-end : Fields read-fields-lts.Need-part-read-term-end
+  read-fields-part-read-term-end c = search needs
+
+  read-fields-mul-read-term : Fields read-fields-lts.Need-mul-read-term
+  read-fields-mul-read-term c =
+      let h = c .before .before in
+      let inv = loop h .loop .inv in
+      record { fits = row-scaled (inv .row) (inv .within) (start h .pre .1 .outer .space) (start h .good .1 .1 .1 .0 .1) }
+
+  read-fields-sub-read-term-2 : Fields read-fields-lts.Need-sub-read-term-2
+  read-fields-sub-read-term-2 c = nodes-inside (loop (c .before .before))
+
+  read-fields-part-read-term-start-2 : Fields read-fields-lts.Need-part-read-term-start-2
+  read-fields-part-read-term-start-2 c = nodes-inside (loop (c .before .before))
+
+  read-fields-part-read-term-end-2 : Fields read-fields-lts.Need-part-read-term-end-2
+  read-fields-part-read-term-end-2 c = search needs
+
+  read-fields-read-term-requires : Fields read-fields-lts.Need-read-term-requires
+  read-fields-read-term-requires c κs =
+      let h = c .before .before .before in
+      let outer = start h .pre .1 .outer in
+      (omega (arith, start h .pre .0), record { good = outer .good; space = rest-space (fine h) (loop h .loop .inv) (outer .space) })
+
+  read-fields-enum-known-r-2 : Fields read-fields-lts.Need-enum-known-r-2
+  read-fields-enum-known-r-2 c = c .match2 .keys1
+
+  read-fields-same-length-3 : Fields read-fields-lts.Need-same-length-3
+  read-fields-same-length-3 c =
+      let r = c .before .before .before .before .before in
+      row-same (loop (top r) .loop .inv .row) (x r) (r .read-term .kept .1 .1 .0)
+
+  read-fields-returns-3 : Fields read-fields-lts.Need-returns-3
+  read-fields-returns-3 c =
+      let r = c .before .before .before .before .before in
+      let h = top r in
+      reading-cut (fine h) (loop h .loop .inv) (due-later h) (subst (Found r) (c .before .r2 .given .1) (r .read-term .ensures))
+
+  read-fields-enum-known-bytes : Fields read-fields-lts.Need-enum-known-bytes
+  read-fields-enum-known-bytes c = c .match2 .keys2
+
+  read-fields-add-nodes : Fields read-fields-lts.Need-add-nodes
+  read-fields-add-nodes c = record { fits = sums (c .before) .0 }
+
+  read-fields-add-count : Fields read-fields-lts.Need-add-count
+  read-fields-add-count c = record { fits = sums (c .before) .1 }
+
+  read-fields-add-at : Fields read-fields-lts.Need-add-at
+  read-fields-add-at c = record { fits = sums (c .before) .2 }
+
+  read-fields-loop-less : Fields read-fields-lts.Need-loop-less
+  read-fields-loop-less c =
+      let h = below (c .before) in
+      bytes-less (fine h) (loop h .loop .inv) (due-later h) (x (read (c .before))) (found (c .before))
+
+  read-fields-loop-again : Fields read-fields-lts.Need-loop-again
+  read-fields-loop-again c =
+      let r = read (c .before) in
+      let h = top r in
+      reading-goes (fine h) (loop h .loop .inv) (due-later h) (x r) (found (c .before)) (r .read-term .kept .1 .1 .0)
 
 pub +read-fields+read-term-spec : {M : Type 1} → statement M
-+read-fields+read-term-spec = close μ-read-fields μ-read-term (λ t. read-fields-lts.spec
-    (read-fields-callees t)
++read-fields+read-term-spec = close μ-read-fields μ-read-term (λ t. read-fields-lts.spec (read-fields-callees t)
     (read-fields-at t)
     read-fields.Post
+    Inv-loop
+    μ-loop
+    (read-fields-loop-holds t)
+    (read-fields-sub-next-due t)
     (read-fields-next-due-requires t)
     (read-fields-enum-told t)
+    (read-fields-same-length t)
+    (read-fields-returns t)
     (read-fields-enum-known-r t)
+    (read-fields-same-length-2 t)
+    (read-fields-returns-2 t)
     (read-fields-enum-known-later t)
+    (read-fields-sub-read-term t)
+    (read-fields-part-read-term-start t)
+    (read-fields-part-read-term-end t)
+    (read-fields-mul-read-term t)
+    (read-fields-sub-read-term-2 t)
+    (read-fields-part-read-term-start-2 t)
+    (read-fields-part-read-term-end-2 t)
     (read-fields-read-term-requires t)
     (read-fields-enum-known-r-2 t)
-    (read-fields-enum-known-k t)
-    (read-fields-sub-read-fields t)
-    (read-fields-part-read-fields-start t)
-    (read-fields-part-read-fields-end t)
-    (read-fields-mul-read-fields t)
-    (read-fields-sub-read-fields-2 t)
-    (read-fields-part-read-fields-start-2 t)
-    (read-fields-part-read-fields-end-2 t)
-    (read-fields-read-fields-requires t)
-    (read-fields-joined-requires t)
-    (read-fields-returns t)
-    (read-fields-returns-2 t)
-    (read-fields-same-length t)
+    (read-fields-same-length-3 t)
     (read-fields-returns-3 t)
-    (read-fields-same-length-2 t)
-    (read-fields-returns-4 t))
-    λ t. read-term-lts.spec
-    (read-term-callees t)
+    (read-fields-enum-known-bytes t)
+    (read-fields-add-nodes t)
+    (read-fields-add-count t)
+    (read-fields-add-at t)
+    (read-fields-loop-less t)
+    (read-fields-loop-again t))
+    λ t. read-term-lts.spec (read-term-callees t)
     (read-term-at t)
     read-term.Post
     (read-term-open-term-requires t)
