@@ -1,27 +1,30 @@
 -- Constraints and problems: what the code finds is what document 01's reading says.
---   top-..     the returns of `constraint_head`
-use Prim.Native.Nat.{ℕ, zero, suc, _+_, _-_, _*_, _≤_, _<_}
+--   top-..      the returns of `constraint_head`
+--   Reading     what the loop of `read_constraints` keeps: the constraints before `at` are read, their tokens the fronts of the tables;
+--               with those that are left they are all
+--   reading-..  its steps, and the returns of `read_constraints`
+use Prim.Native.Nat.{ℕ, zero, suc, _+_, _-_, _*_, _^_, _≤_, _<_}
 use mathlib.Core.Path.{_≡_, refl, sym, ap, _∙_}
 use native.Mathlib.Omega.{arith}
-use mathlib.Core.List.{List, [], _∷_, _++_}
+use mathlib.Core.List.{List, [], _∷_, _++_, append-assoc, append-nil, map, map-append}
 use mathlib.Core.Bool.{Bool, true, false}
 use borrow.Rule.Slice.PartMut.{putMid}
 use native.Mathlib.Nat.{add-sub-cancel-left}
-use native.Mathlib.Numerals.{add-one}
-use lib.ListN.{length, take, drop, length-append}
+use lib.ListN.{length, take, drop, length-append, length-drop}
+use lib.Seq.{drop-drop}
 use lib.Dec.{eqb}
 use borrow.Author.Tests.{ne-eqb, eq-eqb, eqb-true, eqb-false, lt-ltb, le-ltb}
 use Rattle.meaning.specs.Basics.{choose, Bytes}
 use Rattle.meaning.specs.Limits.{maxInput, maxConstraints, maxDepth}
 use Rattle.meaning.specs.Term.{one, NamedTerm}
-use Rattle.meaning.specs.Problem.{Constraint, Problem, namedPatterns, namedExpressions}
+use Rattle.meaning.specs.Problem.{Constraint, Problem, forestOf}
 use Rattle.meaning.specs.Read.{Answer, refused, got, after, Parts, inPattern, inExpression, readTerm, readPair, constraintHead}
 use Rattle.meaning.specs.Read.{readConstraints, readProblem}
 use Rattle.tokens.specs.Token.{tokens, patternTokens, expressionTokens}
 use Rattle.fields.specs.Heads.{PartsDone}
 use Rattle.terms.specs.Reading.{Space, Written, termAnswer, TermDone}
-use Rattle.table.specs.Whole.{Spaces, TopDone, patternRow, expressionRow, pairedOf, pairAnswer, PairDone, ReadFits, listedOf}
-use Rattle.table.specs.Whole.{problemAnswer, ProblemDone}
+use Rattle.table.specs.Whole.{Spaces, TopDone, patternRow, expressionRow, pairedOf, pairAnswer, PairDone, problemAnswer}
+use Rattle.table.specs.Whole.{ProblemDone}
 use Rattle.terms.specs.declared.term.Term.{Term}
 use Rattle.terms.specs.declared.term.Term.the-variants as terms
 use Rattle.table.specs.declared.answer.Read.{Read}
@@ -29,10 +32,11 @@ use Rattle.table.specs.declared.answer.Read.the-variants as answers
 use Rattle.table.specs.declared.problem.Pair.{Pair}
 use Rattle.table.specs.declared.problem.Pair.the-variants as pairs
 use Rattle.meaning.proofs.ByteLaws.{got-is, by-choice}
-use Rattle.terms.proofs.Bounds.{refused-got, after-inv, term-fine, top-read, field-lengths}
-use Rattle.tokens.proofs.TokenParts.{tokens-length, tokens-graft}
-use Rattle.terms.proofs.TermLaws.{took, later-part}
-use Rattle.slices.proofs.Slices.{positive, rest-all, part-length, rows-joined}
+use Rattle.terms.proofs.Bounds.{after-inv, after-none, after-twice, refused-got, term-fine}
+use Rattle.tokens.proofs.TokenParts.{tokens-length}
+use Rattle.terms.proofs.Rows.{Row, row-more, row-none, row-space, tokens-more}
+use Rattle.terms.proofs.TermLaws.{later-part, not-took, took}
+use Rattle.slices.proofs.Slices.{part-length, positive, rest-all}
 use Rattle.fields.specs.declared.field.Parts.the-variants as parts
 use Rattle.table.specs.declared.problem.Top.the-variants as tops
 
@@ -88,13 +92,10 @@ pair-read o p x y t later (got z) e hf hd hm hp d j =
 module _ (s o x : List ℕ) where
   pub pair-refused : {r : ℕ} (p p′ y : List ℕ) → TermDone [] s (readTerm maxDepth inPattern s) o p (terms.Refused r)
       → PairDone (readPair s) o p′ x y (pairs.Refused r)
-  unfolding readPair pairAnswer Written termAnswer expressionOf
-  pair-refused {r} p p′ y d = go (readTerm maxDepth inPattern s) (d .answer)
-    where
-      go : (a : Answer (NamedTerm × Bytes)) → terms.Refused r ≡ termAnswer [] s a
-          → PairDone (after a (λ t. after (readTerm maxDepth inExpression (t .1)) (expressionOf (t .0)))) o p′ x y (pairs.Refused r)
-      go (refused z) e = record { answer = cc; patternTable = tt; expressionTable = tt }
-      go (got z) e = absurd (let w : _≡_ {A = ℕ} 0 1 = cc in omega arith)
+  unfolding readPair pairAnswer Written
+  pair-refused {r} p p′ y d =
+      let e : readPair s ≡ refused r = rw (not-took d) in
+      record { answer = rw (e, pairAnswer); patternTable = rw (e, Written) tt; expressionTable = rw (e, Written) tt }
 
   pub pair-paired : {k m : ℕ} (p y : List ℕ) (e : Term) (r : Pair) → TermDone [] s (readTerm maxDepth inPattern s) o p (terms.Took k m)
       → TermDone [] (take (length s - k) (drop k s)) (readTerm maxDepth inExpression (take (length s - k) (drop k s))) x y e
@@ -157,73 +158,26 @@ pair-took s o p x y m n d = go (readPair s) refl (d .answer) (d .patternTable) (
           expressionRoom = omega (arith, hn, room .1);
         }
 
--- The tables of a problem, constraint by constraint
-patterns-joined : (c : Constraint) (cs : Problem) → patternTokens (c ∷ cs) ≡ patternRow c ++ patternTokens cs
-unfolding patternTokens
-patterns-joined c cs = tokens-graft [] (c .pattern) (namedPatterns cs)
-
-expressions-joined : (c : Constraint) (cs : Problem) → expressionTokens (c ∷ cs) ≡ expressionRow c ++ expressionTokens cs
-unfolding expressionTokens
-expressions-joined c cs = tokens-graft [] (c .expression) (namedExpressions cs)
-
-pub record ProblemRoom (s : Bytes) (p : Problem) : Type 0 where
-  pub patterns : 3 * length (patternTokens p) ≤ length s
-  pub expressions : 3 * length (expressionTokens p) ≤ length s
-  pub count : 3 * length p ≤ length s
-
-no-room : (s : Bytes) → ProblemRoom s []
-unfolding patternTokens expressionTokens tokens
-no-room s = record { patterns = omega arith; expressions = omega arith; count = omega arith }
-
-problem-room : (left : ℕ) (s : Bytes) (p : Problem) → readConstraints left s ≡ got p → ProblemRoom s p
-unfolding readConstraints
-problem-room zero s p h =
-    by-choice (eqb (length s) 0) (got []) _ h
-    (λ b e. let w : [] ≡ p = got-is e in rw (← w) (no-room s))
-    (λ b e. refused-got ((after-inv (constraintHead 0 s) _ e) .2))
-problem-room (suc left) s p h =
-    by-choice (eqb (length s) 0) (got []) _ h
-    (λ b e. let w : [] ≡ p = got-is e in rw (← w) (no-room s))
-    (λ b e.
-    let t = after-inv (constraintHead (suc left) s) _ e in
-    let c = after-inv (readPair (t .0 .content)) _ (t .2) in
-    let l = after-inv (readConstraints left (t .0 .later)) _ (c .2) in
-    let w : c .0 ∷ l .0 ≡ p = got-is (l .2) in
-    let f = field-lengths (top-read (suc left) s (t .0) (t .1)) in
-    let i = problem-room left (t .0 .later) (l .0) (l .1) in
-    let room = pair-room (t .0 .content) (c .0) (c .1) in
-    rw (← w)
-    (record {
-      patterns =
-          omega (
-            arith,
-            f,
-            i .patterns,
-            room .0,
-            ap length (patterns-joined (c .0) (l .0)),
-            length-append (patternRow (c .0)) (patternTokens (l .0)),
-          );
-      expressions =
-          omega (
-            arith,
-            f,
-            i .expressions,
-            room .1,
-            ap length (expressions-joined (c .0) (l .0)),
-            length-append (expressionRow (c .0)) (expressionTokens (l .0)),
-          );
-      count = omega (arith, f, i .count);
-    }))
-
-pub problem-fits : (left : ℕ) (s o p x y : List ℕ) (r : Read) → ProblemDone (readConstraints left s) o p x y r → length s < 3 * 65536
-    → ReadFits r
-unfolding problemAnswer
-problem-fits left s o p x y r d l = go (readConstraints left s) refl r (d .answer)
+pub pair-not-took : {a : Answer Constraint} {o p x y : List ℕ} {r : ℕ} → PairDone a o p x y (pairs.Refused r) → a ≡ refused r
+unfolding pairAnswer
+pair-not-took {a} {r = r} d = go a (d .answer)
   where
-    go : (a : Answer Problem) → readConstraints left s ≡ a → (r : Read) → r ≡ problemAnswer a → ReadFits r
-    go (refused z) e r h = rw h tt
-    go (got q) e r h =
-        let w = problem-room left s q e in rw h (omega (arith, w .patterns), omega (arith, w .expressions), omega (arith, w .count))
+    go : (a : Answer Constraint) → pairs.Refused r ≡ pairAnswer a → a ≡ refused r
+    go (refused q) h = cc
+    go (got c) h = absurd (let z : _≡_ {A = ℕ} 0 1 = cc in omega arith)
+
+-- The tables of a problem with one constraint more
+patterns-more : (done : Problem) (c : Constraint) → patternTokens (done ++ (c ∷ [])) ≡ patternTokens done ++ patternRow c
+unfolding patternTokens
+patterns-more done c =
+    ap (λ (ts : List NamedTerm). tokens [] (forestOf ts)) (map-append (λ (c : Constraint). c .pattern) done (c ∷ []))
+    ∙ tokens-more [] (map (λ (c : Constraint). c .pattern) done) (c .pattern)
+
+expressions-more : (done : Problem) (c : Constraint) → expressionTokens (done ++ (c ∷ [])) ≡ expressionTokens done ++ expressionRow c
+unfolding expressionTokens
+expressions-more done c =
+    ap (λ (ts : List NamedTerm). tokens [] (forestOf ts)) (map-append (λ (c : Constraint). c .expression) done (c ∷ []))
+    ∙ tokens-more [] (map (λ (c : Constraint). c .expression) done) (c .expression)
 
 -- Constraints, one by one
 constraints-none : (left : ℕ) (s : Bytes) → length s ≡ 0 → readConstraints left s ≡ got []
@@ -231,127 +185,164 @@ unfolding readConstraints
 constraints-none zero s z = rw (eq-eqb (length s) 0 z)
 constraints-none (suc left) s z = rw (eq-eqb (length s) 0 z)
 
-constraints-cut : (left : ℕ) (s : Bytes) {r : ℕ} → (length s ≡ 0 → ⊥) → constraintHead left s ≡ refused r
+constraints-cut : (left : ℕ) (s : Bytes) {r : ℕ} → (length s ≡ 0 → ⊥) → TopDone left s (tops.Refused r)
     → readConstraints left s ≡ refused r
 unfolding readConstraints
-constraints-cut zero s z h = rw (ne-eqb (length s) 0 z, h)
-constraints-cut (suc left) s z h = rw (ne-eqb (length s) 0 z, h)
+constraints-cut zero s z h = rw (ne-eqb (length s) 0 z, ← h .says)
+constraints-cut (suc left) s z h = rw (ne-eqb (length s) 0 z, ← h .says)
 
-constraints-step : (left : ℕ) (s : Bytes) {p : Parts} → (length s ≡ 0 → ⊥) → 1 ≤ left → constraintHead left s ≡ got p
-    → readConstraints left s ≡ after (readPair (p .content)) (λ c. after (readConstraints (left - 1) (p .later)) (λ cs. got (c ∷ cs)))
+constraints-step : (left : ℕ) (s : Bytes) {n : ℕ} → (length s ≡ 0 → ⊥) → TopDone left s (tops.Content n)
+    → readConstraints left s
+    ≡ after (readPair (take n (drop 3 s))) (λ c. after (readConstraints (left - 1) (drop (3 + n) s)) (λ cs. got (c ∷ cs)))
 unfolding readConstraints
-constraints-step zero s z l h = absurd (omega arith)
-constraints-step (suc left) s z l h = let w : suc left - 1 ≡ left = omega arith in rw (w, ne-eqb (length s) 0 z, h)
+constraints-step zero s z h = absurd (omega (arith, h .fits .1))
+constraints-step (suc left) s z h = let w : suc left - 1 ≡ left = omega arith in rw (w, ne-eqb (length s) 0 z, ← h .says)
 
--- The constraints after the first, joined to it
-problem-joined : (o p p′ x y y′ : List ℕ) (c : Constraint) (a : Answer Problem) (inner : Read) {m n : ℕ} {r : Read}
-    → m ≡ length (patternRow c) → n ≡ length (expressionRow c)
-    → p ≡ patternRow c ++ drop (length (patternRow c)) o → y ≡ expressionRow c ++ drop (length (expressionRow c)) x
-    → ProblemDone a (take (length p - m) (drop m p)) p′ (take (length y - n) (drop n y)) y′ inner → r ≡ listedOf m n inner
-    → ProblemDone (after a (λ cs. got (c ∷ cs))) o (putMid m (length p - m) p p′) x (putMid n (length y - n) y y′) r
+problem-refused : {a : Answer Problem} {o p x y : List ℕ} {r : ℕ} → a ≡ refused r → ProblemDone a o p x y (answers.Refused r)
 unfolding problemAnswer Written
-problem-joined o p p′ x y y′ c (refused q) inner hm hn hp hy d j =
-    record { answer = j ∙ rw (d .answer); patternTable = tt; expressionTable = tt }
-problem-joined o p p′ x y y′ c (got cs) inner hm hn hp hy d j =
+problem-refused e = record { answer = rw (e, problemAnswer); patternTable = rw (e, Written) tt; expressionTable = rw (e, Written) tt }
+
+problem-got : {a : Answer Problem} {o p x y : List ℕ} {m n k bytes : ℕ} (q : Problem) → a ≡ got q → Row (patternTokens q) m bytes o p
+    → Row (expressionTokens q) n bytes x y → k ≡ length q → ProblemDone a o p x y (answers.Problem m n k)
+unfolding problemAnswer Written
+problem-got q e patterns expressions counted =
     record {
-      answer =
-          j
-          ∙ rw (
-            d .answer,
-            problemAnswer,
-            hm,
-            hn,
-            patterns-joined c cs,
-            expressions-joined c cs,
-            length-append (patternRow c) (patternTokens cs),
-            length-append (expressionRow c) (expressionTokens cs),
-            add-one,
-          );
-      patternTable = rw (patterns-joined c cs, hm) (rows-joined (patternRow c) (patternTokens cs) o p p′ hp (rw hm at (d .patternTable)));
-      expressionTable =
-          rw (expressions-joined c cs, hn) (rows-joined (expressionRow c) (expressionTokens cs) x y y′ hy (rw hn at (d .expressionTable)));
+      answer = rw (e, patterns .count, expressions .count, counted, problemAnswer);
+      patternTable = rw (e, Written) (patterns .front);
+      expressionTable = rw (e, Written) (expressions .front);
     }
 
--- The returns of `read_constraints`
-module _ (left : ℕ) (s o x : List ℕ) where
-  pub problem-none : length s ≡ 0 → ProblemDone (readConstraints left s) o o x x (answers.Problem 0 0 0)
-  unfolding problemAnswer Written patternTokens expressionTokens tokens
-  problem-none z =
-      let e = constraints-none left s z in
-      record { answer = rw (e, problemAnswer); patternTable = rw (e, Written); expressionTable = rw (e, Written) }
+-- Constraints before those that are left
+abbrev joined : Problem → Answer Problem → Answer Problem
+joined done a = after a (λ cs. got (done ++ cs))
 
-  pub problem-cut : {r : ℕ} → (length s ≡ 0 → ⊥) → TopDone left s (tops.Refused r)
-      → ProblemDone (readConstraints left s) o o x x (answers.Refused r)
-  unfolding problemAnswer Written
-  problem-cut z h =
-      let e = constraints-cut left s z (sym (h .says)) in
-      record { answer = rw (e, problemAnswer); patternTable = rw (e, Written) tt; expressionTable = rw (e, Written) tt }
+pub record Reading (s o x p y : List ℕ) (m n k at : ℕ) : Type 0 where
+  pub done : Problem
+  pub leads : readConstraints maxConstraints s ≡ joined done (readConstraints (maxConstraints - k) (drop at s))
+  pub patterns : Row (patternTokens done) m at o p
+  pub expressions : Row (expressionTokens done) n at x y
+  pub counted : k ≡ length done
+  pub few : k ≤ maxConstraints
+  pub within : at ≤ length s
 
-  top-step : {n : ℕ} → (length s ≡ 0 → ⊥) → TopDone left s (tops.Content n)
-      → readConstraints left s
-      ≡ after (readPair (take (3 + n - 3) (drop 3 s)))
-      (λ c. after (readConstraints (left - 1) (take (length s - (3 + n)) (drop (3 + n) s))) (λ cs. got (c ∷ cs)))
-  top-step {n} z h = constraints-step left s z (h .fits .1) (sym (h .says)) ∙ rw (add-sub-cancel-left 3 n, rest-all (3 + n) s)
+pub reading-begins : (s o x : List ℕ) → Reading s o x o x 0 0 0 0
+unfolding maxConstraints patternTokens expressionTokens tokens
+reading-begins s o x =
+    record {
+      done = [];
+      leads = after-none (λ cs. cs) (λ cs. refl) (readConstraints 16 s);
+      patterns = row-none o;
+      expressions = row-none x;
+      counted = refl;
+      few = omega arith;
+      within = omega arith;
+    }
 
-  pub problem-first : {n r : ℕ} (p p′ y y′ : List ℕ) → (length s ≡ 0 → ⊥) → TopDone left s (tops.Content n)
-      → PairDone (readPair (take (3 + n - 3) (drop 3 s))) o p x y (pairs.Refused r)
-      → ProblemDone (readConstraints left s) o p′ x y′ (answers.Refused r)
-  unfolding problemAnswer Written pairAnswer
-  problem-first {n} {r} p p′ y y′ z h d = rw (top-step z h) (go (readPair (take (3 + n - 3) (drop 3 s))) (d .answer))
-    where
-      go : (a : Answer Constraint) → pairs.Refused r ≡ pairAnswer a
-          → ProblemDone
-          (after a (λ c. after (readConstraints (left - 1) (take (length s - (3 + n)) (drop (3 + n) s))) (λ cs. got (c ∷ cs)))) o p′ x y′
-          (answers.Refused r)
-      go (refused w) e = record { answer = cc; patternTable = tt; expressionTable = tt }
-      go (got w) e = absurd (let v : _≡_ {A = ℕ} 0 1 = cc in omega arith)
+module _ {s o x p y : List ℕ} {m n k at : ℕ} (r : Reading s o x p y m n k at) where
+  pub reading-ends : length s ≤ at → ProblemDone (readConstraints maxConstraints s) o p x y (answers.Problem m n k)
+  reading-ends h =
+      let none = constraints-none (maxConstraints - k) (drop at s) (omega (arith, length-drop at s)) in
+      problem-got (r .done) (r .leads ∙ rw (none, append-nil (r .done))) (r .patterns) (r .expressions) (r .counted)
 
-  pub problem-listed : {n m k : ℕ} (p p′ y y′ : List ℕ) (inner r : Read) → (length s ≡ 0 → ⊥) → TopDone left s (tops.Content n)
-      → PairDone (readPair (take (3 + n - 3) (drop 3 s))) o p x y (pairs.Read m k)
-      → ProblemDone (readConstraints (left - 1) (take (length s - (3 + n)) (drop (3 + n) s))) (take (length p - m) (drop m p)) p′
-      (take (length y - k) (drop k y)) y′ inner
-      → r ≡ listedOf m k inner
-      → ProblemDone (readConstraints left s) o (putMid m (length p - m) p p′) x (putMid k (length y - k) y y′) r
-  problem-listed {n} {m} {k} p p′ y y′ inner r z h d f j =
-      let t = pair-took (take (3 + n - 3) (drop 3 s)) o p x y m k d in
-      rw (top-step z h, t .reads)
-      (problem-joined o p p′ x y y′ (t .constraint) (readConstraints (left - 1) (take (length s - (3 + n)) (drop (3 + n) s))) inner
-      (t .patternNodes) (t .expressionNodes) (t .patternTable) (t .expressionTable) f j)
+  module _ (some : at < length s) where
+    abbrev rest : Bytes
+    rest = take (length s - at) (drop at s)
 
--- Room for its calls: the content of the first constraint, and what is after it
-module _ (n : ℕ) (s : Bytes) (fits : 3 + n ≤ length s) where
-  pub content-length : length (take (3 + n - 3) (drop 3 s)) ≡ n
-  content-length = part-length 3 (3 + n) s (omega arith) (fits) ∙ add-sub-cancel-left 3 n
+    some-left : length (drop at s) ≡ 0 → ⊥
+    some-left z = omega (arith, length-drop at s)
 
-  part-space : {room : ℕ} → Space (length s) room → Space (length (take (3 + n - 3) (drop 3 s))) room
-  part-space r = record { table = omega (arith, content-length, r .table, fits) }
+    pub reading-cut : {q : ℕ} {p′ y′ : List ℕ} → TopDone (maxConstraints - k) rest (tops.Refused q)
+        → ProblemDone (readConstraints maxConstraints s) o p′ x y′ (answers.Refused q)
+    reading-cut h =
+        problem-refused (r .leads ∙ rw (constraints-cut (maxConstraints - k) (drop at s) some-left (rw (rest-all at s) at h)))
 
-  pub content-spaces : {m k : ℕ} → Spaces (length s) m k → Spaces (length (take (3 + n - 3) (drop 3 s))) m k
-  content-spaces r =
-      record {
-        pattern = part-space (r .pattern);
-        expression = part-space (r .expression);
-        small = omega (arith, content-length, r .small, fits);
-      }
+    -- A constraint with so many bytes of content
+    module _ {size : ℕ} (h : TopDone (maxConstraints - k) rest (tops.Content size)) where
+      pub content-within : at + 3 + size ≤ length s
+      content-within = omega (arith, h .fits .0, ap length (rest-all at s), length-drop at s)
 
-  pub constraints-length : length (take (length s - (3 + n)) (drop (3 + n) s)) ≡ length s - (3 + n)
-  constraints-length = part-length (3 + n) (length s) s (fits) (omega arith)
+      pub bytes-less : length s - (at + 3 + size) < length s - at
+      bytes-less = omega (arith, content-within)
 
-  rest-space : (m : ℕ) (p : List ℕ) → 3 * m ≤ n → Space (length s) (length p)
-      → Space (length (take (length s - (3 + n)) (drop (3 + n) s))) (length (take (length p - m) (drop m p)))
-  rest-space m p h r =
-      let b = part-length m (length p) p (omega (arith, h, r .table, fits)) (omega arith) in
-      record { table = omega (arith, constraints-length, b, h, r .table, fits) }
+      abbrev content : Bytes
+      content = take (at + 3 + size - (at + 3)) (drop (at + 3) s)
 
-  pub constraints-spaces : (m k : ℕ) (p y : List ℕ) → 3 * m ≤ n → 3 * k ≤ n → Spaces (length s) (length p) (length y)
-      → Spaces (length (take (length s - (3 + n)) (drop (3 + n) s))) (length (take (length p - m) (drop m p)))
-      (length (take (length y - k) (drop k y)))
-  constraints-spaces m k p y h g r =
-      record {
-        pattern = rest-space m p h (r .pattern);
-        expression = rest-space k y g (r .expression);
-        small = omega (arith, constraints-length, r .small);
-      }
+      content-length : length content ≡ size
+      content-length = part-length (at + 3) (at + 3 + size) s (omega arith) content-within ∙ add-sub-cancel-left (at + 3) size
+
+      abbrev patternRoom : List ℕ
+      patternRoom = take (length p - m) (drop m p)
+
+      abbrev expressionRoom : List ℕ
+      expressionRoom = take (length y - n) (drop n y)
+
+      -- What `read_pair` requires
+      pub content-spaces : Spaces (length s) (length o) (length x)
+          → Spaces (length content) (length patternRoom) (length expressionRoom)
+      content-spaces spaces =
+          let inside : at + length content ≤ length s = omega (arith, content-length, content-within) in
+          record {
+            pattern = row-space (r .patterns) (r .within) (spaces .pattern) inside;
+            expression = row-space (r .expressions) (r .within) (spaces .expression) inside;
+          }
+
+      next : readConstraints maxConstraints s
+          ≡ joined (r .done) (after (readPair content) (λ c.
+          after (readConstraints (maxConstraints - (k + 1)) (drop (at + 3 + size) s)) (λ cs. got (c ∷ cs))))
+      next =
+          let left : maxConstraints - k - 1 ≡ maxConstraints - (k + 1) = omega arith in
+          let later : at + (3 + size) ≡ at + 3 + size = omega arith in
+          r .leads
+          ∙ rw (
+            constraints-step (maxConstraints - k) (drop at s) some-left (rw (rest-all at s) at h),
+            drop-drop 3 at s,
+            drop-drop (3 + size) at s,
+            left,
+            later,
+            add-sub-cancel-left (at + 3) size,
+          )
+
+      pub reading-refused : {q : ℕ} {u v p′ y′ : List ℕ} → PairDone (readPair content) patternRoom u expressionRoom v (pairs.Refused q)
+          → ProblemDone (readConstraints maxConstraints s) o p′ x y′ (answers.Refused q)
+      reading-refused d = problem-refused (next ∙ rw (pair-not-took d))
+
+      -- One constraint more
+      module _ {a b : ℕ} (u v : List ℕ) (d : PairDone (readPair content) patternRoom u expressionRoom v (pairs.Read a b)) where
+        one-more : PairTook content patternRoom u expressionRoom v a b
+        one-more = pair-took content patternRoom u expressionRoom v a b d
+
+        pub sums-fit : length s < 2 ^ 64 → (m + a < 2 ^ 64) × (n + b < 2 ^ 64)
+        sums-fit h =
+            let inside : 3 * (at + length content) ≤ 3 * length s = omega (arith, content-length, content-within) in (
+              omega (arith, one-more .patternRoom, r .patterns .few),
+              omega (arith, one-more .expressionRoom, r .expressions .few),
+            )
+
+        pub reading-goes : length u ≡ length patternRoom → length v ≡ length expressionRoom
+            → Reading s o x (putMid m (length p - m) p u) (putMid n (length y - n) y v) (m + a) (n + b) (k + 1) (at + 3 + size)
+        reading-goes kept-u kept-v =
+            let c = one-more .constraint in
+            let whole : at + 3 + size ≡ at + (3 + size) = omega arith in
+            record {
+              done = r .done ++ (c ∷ []);
+              leads =
+                  next
+                  ∙ rw (one-more .reads)
+                  (after-twice (λ cs. r .done ++ cs) (λ cs. c ∷ cs) (λ cs. (r .done ++ (c ∷ [])) ++ cs)
+                  (λ cs. sym (append-assoc (r .done) (c ∷ []) cs))
+                  (readConstraints (maxConstraints - (k + 1)) (drop (at + 3 + size) s)));
+              patterns =
+                  rw (patterns-more (r .done) c, whole)
+                  (row-more (r .patterns) (patternRow c) u (one-more .patternNodes)
+                  (omega (arith, content-length, one-more .patternRoom)) (one-more .patternTable) kept-u);
+              expressions =
+                  rw (expressions-more (r .done) c, whole)
+                  (row-more (r .expressions) (expressionRow c) v (one-more .expressionNodes)
+                  (omega (arith, content-length, one-more .expressionRoom)) (one-more .expressionTable) kept-v);
+              counted = ap (λ (j : ℕ). j + 1) (r .counted) ∙ sym (length-append (r .done) (c ∷ []));
+              few = omega (arith, h .fits .1);
+              within = content-within;
+            }
 
 -- The whole input: the returns of `read`
 pub problem-over : (s o x : List ℕ) → 4096 < length s → ProblemDone (readProblem s) o o x x (answers.Refused 1)
@@ -363,9 +354,9 @@ problem-over s o x h =
       expressionTable = rw (lt-ltb 4096 (length s) h) tt;
     }
 
-pub problem-within : (s o p x y : List ℕ) (r : Read) → length s ≤ 4096 → ProblemDone (readConstraints 16 s) o p x y r
+pub problem-within : (s o p x y : List ℕ) (r : Read) → length s ≤ 4096 → ProblemDone (readConstraints maxConstraints s) o p x y r
     → ProblemDone (readProblem s) o p x y r
-unfolding readProblem maxInput maxConstraints
+unfolding readProblem maxInput
 problem-within s o p x y r h d = rw (le-ltb 4096 (length s) h) d
 
 -- What the answer of `read` says, for all bytes: a refusal is document 01's, with its number

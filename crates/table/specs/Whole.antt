@@ -5,7 +5,7 @@
 --   ..Row        the tokens of one term of a constraint
 --   ..Done       the answer and the fronts of the two tables
 use mathlib.Core.Path.{_≡_}
-use Prim.Native.Nat.{ℕ, _+_, _≤_, _<_}
+use Prim.Native.Nat.{ℕ, _+_, _≤_}
 use mathlib.Core.List.{List, []}
 use lib.ListN.{length, take, drop}
 use lib.Dec.{eqb}
@@ -41,11 +41,10 @@ pub record TopDone (left : ℕ) (s : Bytes) (r : Top) : Type 0 where
   pub says : topFrom s r ≡ constraintHead left s
   pub fits : TopFits left (length s) r
 
--- Room in the two tables of a problem, and bytes few enough for 16-bit counts of nodes
+-- Room in the two tables of a problem
 pub record Spaces (bytes patterns expressions : ℕ) : Type 0 where
   pub pattern : Space bytes patterns
   pub expression : Space bytes expressions
-  pub small : bytes < 65536
 
 -- A constraint's two terms, each in its table
 abbrev pub pairedOf : ℕ → ℕ → Term → Pair
@@ -68,15 +67,6 @@ pub record PairDone (a : Answer Constraint) (patterns patterns′ expressions ex
   pub expressionTable : Written expressionRow a expressions expressions′
 
 -- Constraints
-abbrev pub ReadFits : Read → Type 0
-ReadFits (answers.Refused r) = Unit {0}
-ReadFits (answers.Problem patterns expressions count) = (patterns < 65536) × (expressions < 65536) × (count < 65536)
-
-abbrev pub listedOf : ℕ → ℕ → Read → Read
-listedOf pattern expression (answers.Refused r) = answers.Refused r
-listedOf pattern expression (answers.Problem patterns expressions count) =
-    answers.Problem (pattern + patterns) (expression + expressions) (count + 1)
-
 unfoldable pub problemAnswer : Answer Problem → Read
 problemAnswer (refused r) = answers.Refused r
 problemAnswer (got p) = answers.Problem (length (patternTokens p)) (length (expressionTokens p)) (length p)

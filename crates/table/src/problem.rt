@@ -9,9 +9,10 @@ use terms::term::read_expression;
 use terms::term::read_pattern;
 ghost use mathlib.Core.Path.{_≡_};
 ghost use lib.ListN.{length};
-ghost use Prim.Native.Nat.{_≤_, _<_};
+ghost use Prim.Native.Nat.{_≤_};
+ghost use Rattle.meaning.specs.Limits.{maxConstraints};
 ghost use Rattle.meaning.specs.Read.{readPair, readConstraints, readProblem};
-ghost use Rattle.table.specs.Whole.{tableRoom, Spaces, TopDone, pairedOf, PairDone, ReadFits, listedOf, ProblemDone};
+ghost use Rattle.table.specs.Whole.{tableRoom, Spaces, TopDone, pairedOf, PairDone, ProblemDone};
 
 // A constraint's head: the length of its content, or 2, 3, 4, 11.
 enum Top {
@@ -74,48 +75,41 @@ fn read_pair(s: &[u8], patterns: &mut [u64], expressions: &mut [u64]) -> Pair
     }
 }
 
-// One constraint before the others.
-fn listed(pattern: usize, expression: usize, later: Read) -> Read
-    requires { ⌜ (pattern < 65536) × (expression < 65536) × ReadFits later ⌝ }
-    ensures { λ r. ⌜ r ≡ listedOf pattern expression later ⌝ }
-{
-    match later {
-        Read::Refused(r) => Read::Refused(r),
-        Read::Problem(patterns, expressions, count) => Read::Problem(
-            pattern + patterns,
-            expression + expressions,
-            count + 1,
-        ),
-    }
-}
-
-fn read_constraints(s: &[u8], left: usize, patterns: &mut [u64], expressions: &mut [u64]) -> Read
+// The constraints to the end of the bytes, or to the first that is refused, each into the parts of the tables after those before it. A
+// loop, so that the stack does not grow with their number.
+fn read_constraints(s: &[u8], patterns: &mut [u64], expressions: &mut [u64]) -> Read
     requires { ⌜ Spaces (length (now s)) (length (now patterns)) (length (now expressions)) ⌝ }
-    ensures { λ r. ⌜ ProblemDone (readConstraints left (now (s .entry))) (now (patterns .entry)) (now (patterns .exit))
+    ensures { λ r. ⌜ ProblemDone (readConstraints maxConstraints (now (s .entry))) (now (patterns .entry)) (now (patterns .exit))
         (now (expressions .entry)) (now (expressions .exit)) r ⌝ }
 {
-    if s.len() == 0 {
-        return Read::Problem(0, 0, 0);
-    }
-    match constraint_head(s, left) {
-        Top::Refused(r) => Read::Refused(r),
-        Top::Content(n) => {
-            let end = 3 + n;
-            match read_pair(&s[3..end], patterns, expressions) {
-                Pair::Refused(r) => Read::Refused(r),
-                Pair::Read(p, e) => listed(
-                    p,
-                    e,
-                    read_constraints(
-                        &s[end..],
-                        left - 1,
-                        &mut patterns[p..],
-                        &mut expressions[e..],
-                    ),
-                ),
+    // The entries that are used in each table, the constraints that are read, and the bytes that they take.
+    let mut p = 0;
+    let mut e = 0;
+    let mut count = 0;
+    let mut at = 0;
+    while at < s.len() {
+        match constraint_head(&s[at..], MAX_CONSTRAINTS - count) {
+            Top::Refused(r) => {
+                return Read::Refused(r);
+            }
+            Top::Content(n) => {
+                let start = at + 3;
+                let end = start + n;
+                match read_pair(&s[start..end], &mut patterns[p..], &mut expressions[e..]) {
+                    Pair::Refused(r) => {
+                        return Read::Refused(r);
+                    }
+                    Pair::Read(pattern, expression) => {
+                        p += pattern;
+                        e += expression;
+                        count += 1;
+                        at = end;
+                    }
+                }
             }
         }
     }
+    Read::Problem(p, e, count)
 }
 
 // Any bytes: document 01's refusal, or the problem's tokens at the front of the two tables.
@@ -127,5 +121,5 @@ pub fn read(bytes: &[u8], patterns: &mut [u64], expressions: &mut [u64]) -> Read
     if MAX_INPUT < bytes.len() {
         return Read::Refused(1);
     }
-    read_constraints(bytes, MAX_CONSTRAINTS, patterns, expressions)
+    read_constraints(bytes, patterns, expressions)
 }

@@ -13,7 +13,6 @@ use Rattle.meaning.specs.Basics.{Bytes}
 use Rattle.meaning.specs.Read.{Answer, refused, got, after, Context, Kind, symbolKind, variableKind, applicationKind, binderKind}
 use Rattle.meaning.specs.Read.{metavariableKind, functionKind, holeKind, Parts, Head, wordAt, longAt, partsOf, kindOf, headWith, headOf}
 use Rattle.meaning.specs.Read.{Content, leaf, over, many, contentOf, Reader, contextBelow, readExactly, readAll, readContent, readTerm}
-use Rattle.meaning.specs.Read.{constraintHead}
 use Rattle.meaning.proofs.ByteLaws.{got-is, refused-not, by-choice}
 use Rattle.fields.specs.Heads.{readFields}
 use Rattle.fields.specs.declared.node.Due.{Due}
@@ -81,11 +80,11 @@ module _ (read : Reader) (fine : Fine read) where
   fields-room (dues.Exactly n) s f h = exactly-room n s f h
 
 -- A field that is read: its content and what is after it
-pub record FieldAt (s content later : Bytes) : Type 0 where
-  pub size : ℕ
-  pub fits : 3 + size ≤ length s
-  pub inside : content ≡ take size (drop 3 s)
-  pub after : later ≡ drop (3 + size) s
+record FieldAt (s content later : Bytes) : Type 0 where
+  size : ℕ
+  fits : 3 + size ≤ length s
+  inside : content ≡ take size (drop 3 s)
+  after : later ≡ drop (3 + size) s
 
 parts-read : (s : Bytes) (p : Parts) → partsOf s ≡ got p → FieldAt s (p .content) (p .later)
 unfolding partsOf
@@ -172,19 +171,3 @@ term-fine (suc levels) ctx s x e =
     let left : length (a .0 .later) ≡ length s - (3 + q .size) = rw (q .after) (length-drop (3 + q .size) s) in
     let taken : length s - length (a .0 .later) ≡ 3 + q .size = omega (arith, left, q .fits) in
     rw (← w) (record { rest = q .after ∙ rw taken; room = omega (arith, room, short, left, q .fits) })
-
--- A constraint's head
-pub top-read : (left : ℕ) (s : Bytes) (p : Parts) → constraintHead left s ≡ got p → FieldAt s (p .content) (p .later)
-unfolding constraintHead
-top-read left s p e =
-    let q = after-inv (partsOf s) _ e in
-    by-choice (eqb (q .0 .tag) 7) _ (refused 4) (q .2)
-    (λ b x. by-choice (eqb left 0) (refused 11) (got (q .0)) x (λ b2 y. refused-got y)
-    (λ b2 y. let w : q .0 ≡ p = got-is y in rw (← w) (parts-read s (q .0) (q .1))))
-    (λ b x. refused-got x)
-
-pub field-lengths : {s content later : Bytes} → FieldAt s content later → 3 + length content + length later ≤ length s
-field-lengths {s} {content} {later} q =
-    let a : length content ≤ q .size = rw (q .inside) (simp length-take (omega arith)) in
-    let b : length later ≡ length s - (3 + q .size) = rw (q .after) (length-drop (3 + q .size) s) in
-    omega (arith, a, b, q .fits)
