@@ -14,9 +14,6 @@ use Rattle.meaning.specs.Read.{Answer, refused, got, after, Context, Kind, symb
 use Rattle.meaning.specs.Read.{metavariableKind, functionKind, holeKind, Parts, Head, wordAt, longAt, partsOf, kindOf, headWith, headOf}
 use Rattle.meaning.specs.Read.{Content, leaf, over, many, contentOf, Reader, contextBelow, readExactly, readAll, readContent, readTerm}
 use Rattle.meaning.proofs.ByteLaws.{got-is, refused-not, by-choice}
-use Rattle.fields.specs.Heads.{readFields}
-use Rattle.fields.specs.declared.node.Due.{Due}
-use Rattle.fields.specs.declared.node.Due.the-variants as dues
 
 -- What is refused is not got, whatever is to be shown
 pub refused-got : {A C : Type 0} {r : ℕ} {a : A} → refused r ≡ got a → C
@@ -73,11 +70,6 @@ module _ (read : Reader) (fine : Fine read) where
       let y = after-inv (readAll n read (x .0 .1)) _ (x .2) in
       let w : graft (x .0 .0) (y .0) ≡ f = cc in
       rw (← w) (graft-room s (x .0) (y .0) (x .1) (all-room n (x .0 .1) (y .0) (y .1))))
-
-  pub fields-room : (due : Due) (s : Bytes) (f : Forest Named) → readFields due read s ≡ got f → 3 * size f ≤ length s
-  unfolding readFields
-  fields-room dues.All s f h = all-room (length s) s f h
-  fields-room (dues.Exactly n) s f h = exactly-room n s f h
 
 -- A field that is read: its content and what is after it
 record FieldAt (s content later : Bytes) : Type 0 where

@@ -15,14 +15,14 @@ use lib.Seq.{drop-drop}
 use lib.Dec.{eqb}
 use borrow.Author.Tests.{eqb-true, eqb-false, ne-eqb, eq-eqb}
 use Rattle.meaning.specs.Basics.{choose, Bytes}
-use Rattle.meaning.specs.Term.{Forest, nil, cons, graft, one, size, trees, Named, NamedTerm}
+use Rattle.meaning.specs.Term.{Forest, nil, graft, one, trees, Named, NamedTerm}
 use Rattle.meaning.specs.Problem.{forestOf}
 use Rattle.meaning.specs.Scope.{enter}
 use Rattle.meaning.specs.Read.{Answer, refused, got, after, Context, Reader, contextBelow, readExactly, readAll, readTerm}
 use Rattle.tokens.specs.Token.{tokens}
 use Rattle.fields.specs.Heads.{labelOf, fixedOf, dueOf, readFields, openRead, OpenFits, OpenDone}
 use Rattle.sites.specs.Site.{siteScope}
-use Rattle.terms.specs.Reading.{Space, Written, termAnswer, TermDone, fieldsAnswer, FieldsDone, nextOf, FieldsFit, nodeToken, Closed}
+use Rattle.terms.specs.Reading.{Space, Written, termAnswer, TermDone, fieldsAnswer, FieldsDone, nextOf, nodeToken, Closed}
 use Rattle.terms.specs.declared.term.Term.{Term}
 use Rattle.terms.specs.declared.term.Term.the-variants as terms
 use Rattle.fields.specs.declared.node.Node.{Node}
@@ -36,15 +36,10 @@ use Rattle.terms.specs.declared.term.Fields.the-variants as fields
 use Rattle.terms.specs.declared.term.Next.the-variants as nexts
 use Rattle.meaning.proofs.ByteLaws.{by-choice}
 use Rattle.tokens.proofs.TokenParts.{tokens-length}
-use Rattle.terms.proofs.Bounds.{Fine, after-none, after-twice, fields-room}
+use Rattle.terms.proofs.Bounds.{Fine, after-none, after-twice}
 use Rattle.terms.proofs.Rows.{Row, row-more, row-none, row-space, tokens-more}
 use Rattle.sites.proofs.SiteLaws.{names-length}
 use Rattle.slices.proofs.Slices.{rest-all, part-length, head-put}
-
--- Fields
-trees-size : (f : Forest Named) → trees f ≤ size f
-trees-size nil = omega arith
-trees-size (cons l c s) = omega (arith, trees-size s)
 
 -- What is due
 all-bound : (read : Reader) → Fine read → (n m : ℕ) (s : Bytes) → length s ≤ n → length s ≤ m → readAll n read s ≡ readAll m read s
@@ -163,17 +158,6 @@ took-fits read fine sc s before after {k} {m} d =
       nodes = omega (arith, t .bytesAre, t .nodesAre, w .room, n);
     }
 
-pub fields-fit : (read : Reader) → Fine read → (sc : List ℕ) (due : Due) (s before after : List ℕ) (r : Fields)
-    → FieldsDone sc (readFields due read s) before after r → length s < 3 * 65535 → FieldsFit r
-unfolding fieldsAnswer
-fields-fit read fine sc due s before after r d l = go (readFields due read s) refl r (d .answer)
-  where
-    go : (a : Answer (Forest Named)) → readFields due read s ≡ a → (r : Fields) → r ≡ fieldsAnswer sc a → FieldsFit r
-    go (refused x) e r h = rw h tt
-    go (got f) e r h =
-        let w = fields-room read fine due s f e in
-        rw h (omega (arith, w, tokens-length sc f), omega (arith, w, trees-size f))
-
 pub later-part : (read : Reader) → Fine read
     → (sc : List ℕ) (s : Bytes) (before after : List ℕ) {k m : ℕ} (t : Took sc s (read s) before after k m)
     → take (length s - k) (drop k s) ≡ t .later
@@ -201,13 +185,14 @@ trees-all (t ∷ ts) = ap suc (trees-all ts)
 -- What is refused, and what is read to the end
 fields-refused : {sc o p : List ℕ} {a : Answer (Forest Named)} {r : ℕ} → a ≡ refused r → FieldsDone sc a o p (fields.Refused r)
 unfolding fieldsAnswer Written
-fields-refused e = record { answer = rw (e, fieldsAnswer); table = rw (e, Written) tt }
+fields-refused e = record { answer = rw (e, fieldsAnswer); table = rw (e, Written) tt; fits = tt }
 
 fields-got : {sc o p : List ℕ} {a : Answer (Forest Named)} {nodes count bytes : ℕ} (ts : List NamedTerm) → a ≡ got (forestOf ts)
-    → Row (tokens sc (forestOf ts)) nodes bytes o p → count ≡ length ts → FieldsDone sc a o p (fields.Read nodes count)
+    → Row (tokens sc (forestOf ts)) nodes bytes o p → count ≡ length ts → (nodes < 65535) × (count < 65535)
+    → FieldsDone sc a o p (fields.Read nodes count)
 unfolding fieldsAnswer Written
-fields-got ts e row counted =
-    record { answer = rw (e, fieldsAnswer, row .count, counted, trees-all ts); table = rw (e, Written) (row .front) }
+fields-got ts e row counted fits =
+    record { answer = rw (e, fieldsAnswer, row .count, counted, trees-all ts); table = rw (e, Written) (row .front); fits = fits }
 
 pub record Reading (read : Reader) (sc : List ℕ) (due : Due) (s o p : List ℕ) (left : Due) (nodes count at : ℕ) : Type 0 where
   pub done : List NamedTerm
@@ -231,10 +216,12 @@ reading-begins read sc due s o =
 
 module _ {read : Reader} (fine : Fine read) {sc : List ℕ} {due left : Due} {s o p : List ℕ} {nodes count at : ℕ}
     (r : Reading read sc due s o p left nodes count at) where
-  pub reading-ends : nextOf left (length s - at) ≡ nexts.Done → FieldsDone sc (readFields due read s) o p (fields.Read nodes count)
-  reading-ends h =
+  pub reading-ends : length s < 65536 → nextOf left (length s - at) ≡ nexts.Done
+      → FieldsDone sc (readFields due read s) o p (fields.Read nodes count)
+  reading-ends short h =
       let none = next-done read fine (drop at s) left (rw (length-drop at s) h) in
       fields-got (r .done) (r .leads ∙ rw (none, graft-none (r .done))) (r .row) (r .counted)
+      (omega (arith, r .row .few, r .within), omega (arith, r .few, r .within))
 
   pub reading-refused : {q : ℕ} {p′ : List ℕ} → nextOf left (length s - at) ≡ nexts.Refused q
       → FieldsDone sc (readFields due read s) o p′ (fields.Refused q)

@@ -58,19 +58,20 @@ unfoldable pub fieldsAnswer : List ℕ → Answer (Forest Named) → Fields
 fieldsAnswer sc (refused r) = fields.Refused r
 fieldsAnswer sc (got f) = fields.Read (length (tokens sc f)) (trees f)
 
+-- Numbers that a token can hold
+abbrev pub FieldsFit : Fields → Type 0
+FieldsFit (fields.Refused r) = Unit {0}
+FieldsFit (fields.Read nodes count) = (nodes < 65535) × (count < 65535)
+
 pub record FieldsDone (sc : List ℕ) (a : Answer (Forest Named)) (before after : List ℕ) (r : Fields) : Type 0 where
   pub answer : r ≡ fieldsAnswer sc a
   pub table : Written (tokens sc) a before after
+  pub fits : FieldsFit r
 
 -- What is to be done where so many fields are due and so many bytes are left
 abbrev pub nextOf : Due → ℕ → Next
 nextOf dues.All left = choose (eqb left 0) nexts.Done (nexts.Field dues.All)
 nextOf (dues.Exactly n) left = choose (eqb n 0) (choose (eqb left 0) nexts.Done (nexts.Refused 7)) (nexts.Field (dues.Exactly (n - 1)))
-
--- Numbers that a token can hold
-abbrev pub FieldsFit : Fields → Type 0
-FieldsFit (fields.Refused r) = Unit {0}
-FieldsFit (fields.Read nodes count) = (nodes < 65535) × (count < 65535)
 
 -- A node with its inner fields read: the answer, and the buffer
 abbrev pub closeAnswer : ℕ → Fields → Term

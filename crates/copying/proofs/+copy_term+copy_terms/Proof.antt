@@ -98,7 +98,9 @@ module _ (t : ℕ) where
   -- room for its head and fixed part
   has-room : (c : Term copy-term-lts.After-fixed-length)
       → 3 + c .fixed-length .result ≤ length (now (c .before .before .before .before .before .before .args .out))
-  has-room c = inner-room (c .before .before .before .before .before .before .pre .1) (unmarked (c .before .before)) (c .fixed-length .ensures)
+  has-room c =
+      let start = c .before .before .before .before .before .before in
+      inner-room (start .pre .1) (unmarked (c .before .before)) (c .fixed-length .ensures)
 
   copy-term-sub-marked : Term copy-term-lts.Need-sub-marked
   copy-term-sub-marked c = omega (arith, c .before .before .pre .1 .begins)

@@ -8,7 +8,8 @@ use Rattle.meaning.specs.Limits.{metavariableCount}
 use Rattle.meaning.specs.Basics.{Bytes}
 use Rattle.composing.specs.Entries.{entryAt}
 use Rattle.composing.specs.Composing.{EntryWritten}
-use Rattle.composing.proofs.TextLaws.{Writing, entry-written, next-room, next-short, writing-begins, writing-ends, writing-goes, written-inside}
+use Rattle.composing.proofs.TextLaws.{Writing, entry-written, next-room, next-short, writing-begins, writing-ends}
+use Rattle.composing.proofs.TextLaws.{writing-goes, written-inside}
 use Rattle.composing.proofs.text.write_from.Statement.{statement}
 use Rattle.composing.proofs.text.write_from.Tie as tie
 

@@ -23,7 +23,7 @@ use Rattle.terms.specs.declared.term.Term as declared
 use Rattle.terms.specs.declared.term.Term.the-variants as terms
 use Rattle.terms.proofs.Bounds.{Fine, term-fine}
 use Rattle.terms.proofs.Rows.{row-inside, row-same, row-scaled}
-use Rattle.terms.proofs.TermLaws.{Reading, bytes-less, fields-fit, inner-short, inner-space, open-room, reading-begins, reading-cut}
+use Rattle.terms.proofs.TermLaws.{Reading, bytes-less, inner-short, inner-space, open-room, reading-begins, reading-cut}
 use Rattle.terms.proofs.TermLaws.{reading-ends, reading-goes, reading-refused, rest-space, sums-fit, term-closed, term-refused}
 use Rattle.terms.proofs.term.read_fields.Reads as read-fields
 use Rattle.terms.proofs.term.read_fields.Kinds as read-fields-kinds
@@ -183,8 +183,7 @@ module _ (t : ℕ) where
       let f = read .before .before .before .before .before in (
         omega (arith, entry f .pre .1 .good .levels),
         omega (arith, c .before .before .out .given .1, has-room f),
-        fields-fit _ (term-fine _ _) _ _ _ _ _ _ (read .read-fields .ensures)
-            (omega (arith, inner-short (now (entry f .args .s)) (inside f))),
+        read .read-fields .ensures .fits,
       )
 
   read-term-returns : Term read-term-lts.Need-returns
@@ -283,7 +282,8 @@ module _ (t : ℕ) where
   read-fields-returns : Fields read-fields-lts.Need-returns
   read-fields-returns c =
       let next = c .before .before in
-      reading-ends (term-fine _ _) (next .before .loop .inv) (sym (next .next-due .ensures) ∙ c .enum-told .given .1)
+      let start = next .before .before .before .before in
+      reading-ends (term-fine _ _) (next .before .loop .inv) (start .pre .1 .short) (sym (next .next-due .ensures) ∙ c .enum-told .given .1)
 
   read-fields-enum-known-r : Fields read-fields-lts.Need-enum-known-r
   read-fields-enum-known-r c = c .match .keys2
