@@ -1,6 +1,6 @@
 -- A law for each return of the functions of `text`, and for what their calls require.
 use mathlib.Core.Path.{_≡_, refl, ap, ap₂, sym, _∙_, subst}
-use mathlib.Core.List.{List, [], _∷_, _++_, append-assoc, append-nil}
+use mathlib.Core.List.{List, [], _∷_, _++_, append-assoc}
 use Prim.Native.Nat.{ℕ, zero, suc, _+_, _-_, _<_, _≤_}
 use native.Mathlib.Omega.{arith}
 use borrow.Rule.Slice.PartMut.{putMid, same-len-mid}
@@ -18,7 +18,7 @@ use Rattle.copying.specs.Fixed.{Wrote}
 use Rattle.copying.specs.Copied.{Copied, Copies, TermIn, copied}
 use Rattle.copying.specs.Measure.{Measurable, Measured}
 use Rattle.copying.proofs.CopiedMeaning.{copied-whole}
-use Rattle.copying.proofs.WriteLaws.{joined}
+use Rattle.copying.proofs.WriteLaws.{Part, part-begins, part-ends, part-goes, part-long}
 use Rattle.composing.specs.Entries.{Denotes, DenotesAll, Entries, entryAt, fieldsOf}
 use Rattle.composing.specs.Composing.{CopyRoom, CopyWritten, EntryMeasured, EntryRoom, EntryThere, EntryWritten, FieldsWritten, Fits}
 use Rattle.composing.specs.Composing.{TextMeasured, TextRoom, Writable}
@@ -269,13 +269,10 @@ pub record Counting (es : List ℕ) (plan : Plan) (m n : ℕ) : Type 0 where
 
 -- What the loop of `write_from` keeps: the fields from metavariable m up to k are written, n bytes; with those from k on they are all
 -- from m on
-abbrev Written : Entries → ℕ → ℕ → ℕ → Bytes → Bytes → Type 0
-Written says m k n before out = (done : Bytes) × (fieldsOf says m ≡ done ++ fieldsOf says k) × Wrote done before out n
-
 pub record Writing (es : List ℕ) (plan : Plan) (m k n : ℕ) (before out : Bytes) : Type 0 where
   pub within : k ≤ metavariableCount
   pub same : length out ≡ length before
-  pub written : (says : Entries) → DenotesAll es plan says → Written says m k n before out
+  pub written : (says : Entries) → DenotesAll es plan says → Part (fieldsOf says m) (fieldsOf says k) n before out
 
 module _ {es : List ℕ} {plan : Plan} where
   pub counting-begins : Counting es plan 0 0
@@ -325,23 +322,17 @@ module _ {es : List ℕ} {plan : Plan} where
 
   -- The fields one after the other
   pub writing-begins : {m : ℕ} {before : Bytes} → m ≤ metavariableCount → Writing es plan m m 0 before before
-  writing-begins h = record { within = h; same = refl; written = λ says d. ([], refl, (refl, refl)) }
+  writing-begins h = record { within = h; same = refl; written = λ says d. part-begins }
 
   module _ {m k n : ℕ} {before out : Bytes} (w : Writing es plan m k n before out) where
     pub writing-ends : metavariableCount ≤ k → FieldsWritten es plan m before out n
-    writing-ends h = record { wrote = go }
-      where
-        go : (says : Entries) → DenotesAll es plan says → Wrote (fieldsOf says m) before out n
-        go says d =
-            let (done, whole, wrote) = w .written says d in
-            let last : k ≡ metavariableCount = omega (arith, w .within) in
-            rw (whole, last, fields-end says, append-nil done) wrote
+    writing-ends h =
+        let last : k ≡ metavariableCount = omega (arith, w .within) in
+        record { wrote = λ says d. part-ends (w .written says d) (ap (fieldsOf says) last ∙ fields-end says) }
 
     module _ (t : TextRoom es plan m (length before)) where
       left : n + length (fieldsOf (t .says) k) ≡ length (fieldsOf (t .says) m)
-      left =
-          let (done, whole, wrote) = w .written (t .says) (t .denotes) in
-          rw (wrote .0, whole) (sym (length-append done (fieldsOf (t .says) k)))
+      left = part-long (w .written (t .says) (t .denotes))
 
       pub written-inside : n ≤ length out
       written-inside = omega (arith, left, t .fits .inside, w .same)
@@ -368,16 +359,13 @@ module _ {es : List ℕ} {plan : Plan} where
           pub writing-goes : length x ≡ length (take (length out - n) (drop n out))
               → Writing es plan m (k + 1) (n + j) before (putMid n (length out - n) out x)
           writing-goes kept =
-              record { within = omega arith; same = same-len-mid n (length out - n) out x kept ∙ w .same; written = go }
-            where
-              go : (says : Entries) → DenotesAll es plan says → Written says m (k + 1) (n + j) before (putMid n (length out - n) out x)
-              go says d =
-                  let (done, whole, wrote) = w .written says d in
-                  let next = encodeEntry k (says k) in (
-                    done ++ next,
-                    rw (whole, fields-next says k small) (sym (append-assoc done next (fieldsOf says (k + 1)))),
-                    joined done next before out x n j wrote (e .wrote (says k) (d k small)),
-                  )
+              record {
+                within = omega arith;
+                same = same-len-mid n (length out - n) out x kept ∙ w .same;
+                written = λ says d.
+                    part-goes (w .written says d) (encodeEntry k (says k)) (fieldsOf says (k + 1)) (fields-next says k small)
+                    (e .wrote (says k) (d k small));
+              }
 
   -- What the writer of all fields requires
   pub text-room : (before : Bytes) {n : ℕ} → Writable es plan → TextMeasured es plan n → n ≤ length before

@@ -1,11 +1,11 @@
 -- What `copy_term` and `copy_terms` owe each other at each call, and what they leave at each return.
 --   Copying   what the loop of `copy_terms` keeps: the terms from `node` up to `next` are written, n bytes; with those from `next` on
 --             they are all up to `to`
-use mathlib.Core.Path.{_≡_, refl, ap, sym, _∙_}
+use mathlib.Core.Path.{_≡_, refl, ap, _∙_}
 use Prim.Native.Nat.{ℕ, suc, _+_, _-_, _*_, _<_, _≤_}
 use native.Mathlib.Omega.{arith}
 use mathlib.Core.Bool.{true, false}
-use mathlib.Core.List.{List, [], _++_, append-assoc, append-nil}
+use mathlib.Core.List.{List, _++_}
 use borrow.Rule.Slice.PartMut.{putMid, same-len-mid}
 use lib.ListN.{length, take, drop, length-append}
 use Rattle.meaning.specs.Basics.{Bytes}
@@ -17,7 +17,7 @@ use Rattle.bodies.specs.Marked.{marked}
 use Rattle.copying.specs.Fixed.{NodeRoom, NodeWrote, Wrote, aHole, fixedIn, headIn}
 use Rattle.copying.specs.Copied.{Copied, CopiedTerm, CopiedTerms, Copies, CopiesTerm, CopiesTerms, Spans, TermIn, copied, copiedFrom}
 use Rattle.copying.proofs.FixedLaws.{head-length, hole-length}
-use Rattle.copying.proofs.WriteLaws.{headed, joined}
+use Rattle.copying.proofs.WriteLaws.{Part, headed, part-begins, part-ends, part-goes, part-long}
 use Rattle.copying.proofs.CopiedBytes.{copied-none, first-bytes, hole-bytes}
 use Rattle.copying.proofs.SpanLaws.{span-first, span-later, span-none, term-below, term-bytes, term-long, term-size}
 
@@ -103,26 +103,23 @@ first-of {from} {node} mask m (cons l c s) h begins more is-m =
       bytes = rw (later-node from m (span-first h) begins is-m) (first-bytes mask (node - from) l c s);
     }
 
--- Where its loop stands. Of the terms u: the bytes of those before `next`, and those that are left
-module _ (es : List ℕ) (from mask node to next n : ℕ) (before out : Bytes) where
-  pub record Part (u : Forest Named) : Type 0 where
-    pub done : Bytes
-    pub rest : Forest Named
-    pub there : Spans es next to rest
-    pub whole : copiedFrom mask (node - from) u ≡ done ++ copiedFrom mask (next - from) rest
-    pub wrote : Wrote done before out n
+-- Where its loop stands: of the terms u those in `rest` are left
+pub record Left (es : List ℕ) (from mask node to next n : ℕ) (before out : Bytes) (u : Forest Named) : Type 0 where
+  pub rest : Forest Named
+  pub there : Spans es next to rest
+  pub part : Part (copiedFrom mask (node - from) u) (copiedFrom mask (next - from) rest) n before out
 
-  pub record Copying : Type 0 where
-    pub begins : node ≤ next
-    pub same : length out ≡ length before
-    pub written : (u : Forest Named) → Spans es node to u → Part u
+pub record Copying (es : List ℕ) (from mask node to next n : ℕ) (before out : Bytes) : Type 0 where
+  pub begins : node ≤ next
+  pub same : length out ≡ length before
+  pub written : (u : Forest Named) → Spans es node to u → Left es from mask node to next n before out u
 
 pub copying-begins : {es : List ℕ} {from mask node to : ℕ} {before : Bytes} → Copying es from mask node to node 0 before before
 copying-begins =
     record {
       begins = omega arith;
       same = refl;
-      written = λ u there. record { done = []; rest = u; there = there; whole = refl; wrote = (refl, refl) };
+      written = λ u there. record { rest = u; there = there; part = part-begins };
     }
 
 module _ {es : List ℕ} {from mask node to next n : ℕ} {before out : Bytes} (w : Copying es from mask node to next n before out) where
@@ -131,34 +128,34 @@ module _ {es : List ℕ} {from mask node to next n : ℕ} {before out : Bytes} (
     where
       go : (u : Forest Named) → Spans es node to u → Wrote (copiedFrom mask (node - from) u) before out n
       go u there =
-          let p = w .written u there in
-          rw (p .whole, span-none (p .rest) (p .there) h, copied-none mask (next - from), append-nil (p .done)) (p .wrote)
+          let l = w .written u there in
+          part-ends (l .part)
+          (ap (copiedFrom mask (next - from)) (span-none (l .rest) (l .there) h) ∙ copied-none mask (next - from))
 
   module _ (h : CopiesTerms es from mask node to (length before)) where
-    part : Part es from mask node to next n before out (h .terms)
-    part = w .written (h .terms) (h .there)
+    left : Left es from mask node to next n before out (h .terms)
+    left = w .written (h .terms) (h .there)
 
-    part-long : n + length (copiedFrom mask (next - from) (part .rest)) ≡ length (copiedFrom mask (node - from) (h .terms))
-    part-long =
-        omega (arith, part .wrote .0, ap length (part .whole), length-append (part .done) (copiedFrom mask (next - from) (part .rest)))
-
-    pub part-within : n ≤ length out
-    part-within = omega (arith, part-long, h .fits, w .same)
+    pub written-inside : n ≤ length out
+    written-inside = omega (arith, part-long (left .part), h .fits, w .same)
 
     module _ (more : next < to) where
       next-begins : from ≤ next
       next-begins = omega (arith, h .begins, w .begins)
 
-      next-term : First es from mask next to (sizeIn (at es next)) (part .rest)
-      next-term = first-of mask (sizeIn (at es next)) (part .rest) (part .there) next-begins more refl
+      next-term : First es from mask next to (sizeIn (at es next)) (left .rest)
+      next-term = first-of mask (sizeIn (at es next)) (left .rest) (left .there) next-begins more refl
 
-      next-long : length (copiedFrom mask (next - from) (part .rest))
-          ≡ length (copiedFrom mask (next - from) (one (next-term .term)))
-          + length (copiedFrom mask (next + sizeIn (at es next) - from) (next-term .later))
+      next-long : n + length (copiedFrom mask (next - from) (one (next-term .term)))
+          ≤ length (copiedFrom mask (node - from) (h .terms))
       next-long =
-          ap length (next-term .bytes)
-          ∙ length-append (copiedFrom mask (next - from) (one (next-term .term)))
-          (copiedFrom mask (next + sizeIn (at es next) - from) (next-term .later))
+          omega (
+            arith,
+            part-long (left .part),
+            ap length (next-term .bytes),
+            length-append (copiedFrom mask (next - from) (one (next-term .term)))
+                (copiedFrom mask (next + sizeIn (at es next) - from) (next-term .later)),
+          )
 
       pub next-nodes : (1 ≤ sizeIn (at es next)) × (next + sizeIn (at es next) ≤ to)
       next-nodes = (omega (arith, term-size (next-term .there)), omega (arith, next-term .laterThere .ends))
@@ -172,13 +169,13 @@ module _ {es : List ℕ} {from mask node to next n : ℕ} {before out : Bytes} (
             term = next-term .term;
             there = next-term .there;
             begins = next-begins;
-            fits = omega (arith, part-long, next-long, h .fits, w .same, part-length n (length out) out part-within (omega arith));
-            short = omega (arith, part-long, next-long, h .short);
+            fits = omega (arith, next-long, h .fits, w .same, part-length n (length out) out written-inside (omega arith));
+            short = omega (arith, next-long, h .short);
           }
 
       module _ {x : Bytes} {k : ℕ} (one-more : CopiedTerm es from mask next (take (length out - n) (drop n out)) x k) where
         pub next-short : n + k < 65536
-        next-short = omega (arith, one-more .wrote (next-term .term) (next-term .there) .0, part-long, next-long, h .short)
+        next-short = omega (arith, one-more .wrote (next-term .term) (next-term .there) .0, next-long, h .short)
 
         pub copying-goes : {m : ℕ} → m ≡ sizeIn (at es next) → length x ≡ length (take (length out - n) (drop n out))
             → Copying es from mask node to (next + m) (n + k) before (putMid n (length out - n) out x)
@@ -190,18 +187,15 @@ module _ {es : List ℕ} {from mask node to next n : ℕ} {before out : Bytes} (
             }
           where
             go : (u : Forest Named) → Spans es node to u
-                → Part es from mask node to (next + m) (n + k) before (putMid n (length out - n) out x) u
+                → Left es from mask node to (next + m) (n + k) before (putMid n (length out - n) out x) u
             go u there =
-                let p = w .written u there in
-                let f = first-of mask m (p .rest) (p .there) next-begins more is-m in
-                let bytes : Bytes = copiedFrom mask (next - from) (one (f .term)) in
+                let l = w .written u there in
+                let f = first-of mask m (l .rest) (l .there) next-begins more is-m in
                 record {
-                  done = p .done ++ bytes;
                   rest = f .later;
                   there = f .laterThere;
-                  whole = rw (p .whole, f .bytes)
-                      (sym (append-assoc (p .done) bytes (copiedFrom mask (next + m - from) (f .later))));
-                  wrote = joined (p .done) bytes before out x n k (p .wrote) (one-more .wrote (f .term) (f .there));
+                  part = part-goes (l .part) (copiedFrom mask (next - from) (one (f .term)))
+                      (copiedFrom mask (next + m - from) (f .later)) (f .bytes) (one-more .wrote (f .term) (f .there));
                 }
 
 -- `copy`: the copied term's own node has the number 0

@@ -1,6 +1,7 @@
 -- What the writers leave in the buffer, where a part of it is lent on and where not.
 --   headed   bytes before others, which were written first, into the part after them
 --   joined   bytes before others, which were written last, into the part after them
+--   Part     bytes of which some are written, one piece after the other
 use mathlib.Core.Path.{_≡_, refl, ap, sym, _∙_}
 use Prim.Native.Nat.{ℕ, _+_, _-_, _/_, _%_, _<_, _≤_}
 use native.Mathlib.Omega.{arith}
@@ -96,9 +97,34 @@ headed front inner o y o′ a n r is-a h w is-r e = (
   e ∙ rw (back-after a o y h, w .1, rest-all a o, drop-drop n a o, is-r, append-assoc front inner (drop (a + n) o)),
 )
 
-pub joined : (a b o p y : Bytes) (n k : ℕ) → Wrote a o p n → Wrote b (take (length p - n) (drop n p)) y k
+joined : (a b o p y : Bytes) (n k : ℕ) → Wrote a o p n → Wrote b (take (length p - n) (drop n p)) y k
     → Wrote (a ++ b) o (putMid n (length p - n) p y) (n + k)
 joined a b o p y n k v w = (
   rw (length-append a b, ← v .0, ← w .0),
   rw (v .0, w .0) (rows-joined a b o p y (rw (v .0) at (v .1)) (rw (v .0, w .0) at (w .1)) ∙ rw (length-append a b)),
 )
+
+-- Of these bytes all before the rest are written, n of them: what a writer's loop keeps
+pub record Part (bytes rest : Bytes) (n : ℕ) (before out : Bytes) : Type 0 where
+  pub done : Bytes
+  pub whole : bytes ≡ done ++ rest
+  pub wrote : Wrote done before out n
+
+pub part-begins : {bytes before : Bytes} → Part bytes bytes 0 before before
+part-begins = record { done = []; whole = refl; wrote = (refl, refl) }
+
+module _ {bytes rest : Bytes} {n : ℕ} {before out : Bytes} (p : Part bytes rest n before out) where
+  pub part-long : n + length rest ≡ length bytes
+  part-long = omega (arith, p .wrote .0, ap length (p .whole), length-append (p .done) rest)
+
+  pub part-ends : rest ≡ [] → Wrote bytes before out n
+  part-ends e = rw (p .whole, e, append-nil (p .done)) (p .wrote)
+
+  pub part-goes : {x : Bytes} {k : ℕ} (next later : Bytes) → rest ≡ next ++ later
+      → Wrote next (take (length out - n) (drop n out)) x k → Part bytes later (n + k) before (putMid n (length out - n) out x)
+  part-goes {x} {k} next later e w =
+      record {
+        done = p .done ++ next;
+        whole = p .whole ∙ rw e (sym (append-assoc (p .done) next later));
+        wrote = joined (p .done) next before out x n k (p .wrote) w;
+      }

@@ -18,8 +18,8 @@ use Rattle.bodies.specs.Marked.{marked}
 use Rattle.copying.specs.Copied.{CopiesTerm}
 use Rattle.copying.proofs.SpanLaws.{term-inside}
 use Rattle.copying.proofs.CopyLaws.{Copying, copying-begins, copying-ends, copying-goes, hole-room, inner-copies, inner-less}
-use Rattle.copying.proofs.CopyLaws.{inner-room, next-copies, next-less, next-nodes, next-short, node-room, part-within, term-copied}
-use Rattle.copying.proofs.CopyLaws.{term-hole}
+use Rattle.copying.proofs.CopyLaws.{inner-room, next-copies, next-less, next-nodes, next-short, node-room, term-copied, term-hole}
+use Rattle.copying.proofs.CopyLaws.{written-inside}
 use Rattle.copying.proofs.copy_term.Reads as copy-term
 use Rattle.copying.proofs.copy_term.Kinds as copy-term-kinds
 use Rattle.copying.proofs.+copy_term+copy_terms.Lts-copy_term as copy-term-lts
@@ -189,7 +189,7 @@ module _ (t : ℕ) where
 
   -- `copy_terms`: what is written lies in the buffer
   inside : (c : Terms copy-terms-lts.At-loop) → c .loop .n ≤ length (c .loop .out)
-  inside c = part-within (c .loop .inv) (c .before .before .before .pre .1)
+  inside c = written-inside (c .loop .inv) (c .before .before .before .pre .1)
 
   -- there is a next term
   module _ (c : Terms copy-terms-lts.In-loop) where
