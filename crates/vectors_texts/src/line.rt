@@ -3,6 +3,8 @@ use crate::pair::show_pair;
 use crate::written::show_written;
 use checking::Checked;
 use checking::check;
+use held::list::show_list;
+use held::open::show_held;
 use lines::input::Part;
 use lines::input::kind;
 use lines::input::read_part;
@@ -42,11 +44,14 @@ fn show_readings(label: &[u8], problem: &[u8], text: &[u8]) {
 
 fn show_input(kind: u8, label: &[u8], problem: &[u8], text: &[u8]) {
     match kind {
-        // S, C, W, N
+        // S, C, W, N, L, H, R
         83 => show_readings(label, problem, text),
         67 => show_checked(label, problem, text),
         87 => show_written(label, problem, text),
         78 => show_pair(label, problem, text),
+        76 => show_held(true, label, problem, text),
+        72 => show_held(false, label, problem, text),
+        82 => show_list(label, problem, text),
         _ => bad(label),
     }
 }

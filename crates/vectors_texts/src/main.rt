@@ -1,12 +1,15 @@
-// Runs the writer and the checker of solution texts on examples, a line of standard input for each. The file `stdout` is worked out from
-// document 01 by another program. A line is
+// Runs what a host may call on examples, a line of standard input for each. The file `stdout` is worked out from document 01 by another
+// program. A line is
 //     KIND PROBLEM TEXT LABEL
 // where PROBLEM and TEXT are bytes, two upper-case digits for each, and one space stands between the parts. KIND is
 //     S   every solution of the problem, as document 01's program `readings` prints them, below the label; TEXT is empty
 //     C   the text is checked
 //     W   a row is written: TEXT is a place and the length of the buffer (see `written`)
 //     N   two nodes of the problem's expressions are compared: TEXT is their numbers (see `pair`)
-// Any other line is printed as a bad one.
+//     L   an open search is lent to call after call: TEXT is what each call is handed (see `held::open`)
+//     H   the same, where it is handed over and back by value
+//     R   a list of calls, made by one function: TEXT is their allowances (see `held::list`)
+// Any other line is printed as a bad line.
 mod line;
 mod pair;
 mod written;

@@ -15,14 +15,14 @@ use std::ops::Range;
 const MOST_ROWS: usize = 2_000;
 
 /// The places of a problem in order, past the last included, and which of them are solution rows.
-struct Rows {
-    places: Vec<Words>,
+pub(crate) struct Rows {
+    pub(crate) places: Vec<Words>,
     index: HashMap<Words, usize>,
     solving: Vec<usize>,
 }
 
 impl Rows {
-    fn of(read: &Problem) -> Option<Rows> {
+    pub(crate) fn of(read: &Problem) -> Option<Rows> {
         let places: Vec<Words> = read.rows(MOST_ROWS)?.iter().map(words).chain([PAST]).collect();
         let index: HashMap<Words, usize> = places
             .iter()
@@ -39,11 +39,11 @@ impl Rows {
     }
 
     /// How many rows there are: the index of past the last.
-    fn end(&self) -> usize {
+    pub(crate) fn end(&self) -> usize {
         self.places.len() - 1
     }
 
-    fn next_solution(&self, at: usize) -> Option<usize> {
+    pub(crate) fn next_solution(&self, at: usize) -> Option<usize> {
         self.solving.iter().copied().find(|solution| at <= *solution)
     }
 }

@@ -1,15 +1,19 @@
 //! What the vectors' programs and `readings` print, from the second implementation.
 //!
-//! Only the form of the lines is theirs: `crates/vectors/src/main.rt`, `crates/vectors_texts/src/main.rt` and
-//! `crates/listing/src/written.rt` describe it.
+//! Only the form of the lines is theirs: `crates/vectors/src/main.rt`, `crates/vectors_texts/src/main.rt` and the modules that this one
+//! names describe it.
 
+use crate::calls::Rows;
 use crate::hex::{bytes, hex};
-use crate::subject::{named, Words};
+use crate::subject::{named, Words, PAST};
 use second::{Compared, Kind, Problem};
 
 /// The allowance of `readings`, and the most solutions that it prints.
 const ALLOWANCE: u128 = 1_000_000;
 const MOST: usize = 1_000;
+
+/// No example has more solutions than this.
+const LISTED: usize = 2_000;
 
 /// What `readings` prints for a problem.
 pub fn readings(problem: &[u8]) -> String {
@@ -17,7 +21,7 @@ pub fn readings(problem: &[u8]) -> String {
         Err(refusal) => return format!("refused {refusal}\n"),
         Ok(read) => read,
     };
-    let solutions = read.solutions(MOST + 1).expect("no longer list is asked for");
+    let solutions = read.solutions(LISTED).expect("no longer list is asked for");
     let mut lines = String::new();
     // how many rows come before the place
     let mut passed = 0;
@@ -106,9 +110,104 @@ fn text_line(line: &str, says: impl Fn(&[u8], usize, usize) -> Said) -> String {
             Some((a, b)) => format!("{label}: {}\n", pair(says(&problem, a, b))),
             None => bad(label) + "\n",
         },
+        Some(('L' | 'H', problem, calls, label)) if calls.len() % 5 == 0 => format!("{label}\n{}", held(&problem, &calls)),
+        Some(('R', problem, calls, label)) if calls.len() % 4 == 0 && calls.len() <= 4 * CALLS => {
+            format!("{label}\n{}", list(&problem, &calls))
+        }
         Some((_, _, _, label)) => bad(label) + "\n",
         None => bad(line) + "\n",
     }
+}
+
+/// The calls of a list that is made by one function: those that are not asked for have an allowance of 0.
+const CALLS: usize = 32;
+
+/// What a call answers.
+enum Answer {
+    Found(usize),
+    Paused,
+    End,
+    Refused(u8),
+}
+
+/// A call at a row, which pauses as early as it may, and the row that it leaves.
+fn call(rows: &Rows, at: usize, n: usize) -> (Answer, usize) {
+    let end = rows.end();
+    match rows.next_solution(at) {
+        _ if n == 0 => (Answer::Refused(15), at),
+        Some(next) if next - at < n => (Answer::Found(next), next + 1),
+        None if end - at <= n => (Answer::End, end),
+        _ => (Answer::Paused, at + n),
+    }
+}
+
+/// An allowance, of 4 bytes.
+fn allowance(bytes: &[u8]) -> usize {
+    bytes.iter().fold(0, |n, byte| n << 8 | usize::from(*byte))
+}
+
+/// What is printed of a problem by calls on its rows, or its refusal.
+fn on_rows(problem: &[u8], print: impl Fn(&Rows) -> String) -> String {
+    match Problem::read(problem) {
+        Err(refusal) => format!("refused {refusal}\n"),
+        Ok(read) => print(&Rows::of(&read).expect("the examples have few rows")),
+    }
+}
+
+/// Calls on an open search, each of 5 bytes, with what it holds before the first and after each.
+fn held(problem: &[u8], calls: &[u8]) -> String {
+    on_rows(problem, |rows| {
+        let mut at = 0;
+        let mut lines = format!("{}\n", holds(&rows.places[at]));
+        for asked in calls.chunks(5) {
+            let (answer, next) = match asked[0] {
+                0 => call(rows, at, allowance(&asked[1..])),
+                _ => (Answer::Refused(2), at),
+            };
+            at = next;
+            lines += &format!("{}, {}\n", answered(rows, answer), holds(&rows.places[at]));
+        }
+        lines
+    })
+}
+
+fn answered(rows: &Rows, answer: Answer) -> String {
+    match answer {
+        Answer::Found(row) => format!("found {}", masks(&rows.places[row])),
+        Answer::Paused => "paused".to_string(),
+        Answer::End => "end".to_string(),
+        Answer::Refused(refusal) => format!("refused {refusal}"),
+    }
+}
+
+fn holds(place: &Words) -> String {
+    if *place == PAST {
+        return "holds past the last".to_string();
+    }
+    format!("holds {}", masks(place))
+}
+
+/// The masks of a row.
+fn masks(place: &Words) -> String {
+    place[..8].iter().map(u64::to_string).collect::<Vec<_>>().join(" ")
+}
+
+/// A list of calls, each of 4 bytes: how many Founds, whether there is an End, and the rows of the Founds.
+fn list(problem: &[u8], calls: &[u8]) -> String {
+    on_rows(problem, |rows| {
+        let (mut at, mut found, mut ended) = (0, Vec::new(), false);
+        for asked in calls.chunks(4) {
+            let (answer, next) = call(rows, at, allowance(asked));
+            at = next;
+            match answer {
+                Answer::Found(row) => found.push(masks(&rows.places[row]) + "\n"),
+                Answer::End => ended = true,
+                Answer::Paused | Answer::Refused(_) => (),
+            }
+        }
+        let not = if ended { "" } else { "not " };
+        format!("found {}, {not}ended\n{}", found.len(), found.concat())
+    })
 }
 
 fn verdict(problem: &[u8], text: &[u8]) -> String {
