@@ -31,7 +31,8 @@ extern "C" {
 
 /* A place is so many words: 8 masks, one for each function by ascending metavariable number, then 0 for a row or 1 for past the last.
    Node k of a function's face is bit 63 - k of its mask, set where the node is a hole; masks past the last function are 0.
-   A row is a place that names a row. Words of another number, or with another last word, are no such place. */
+   A row is a place that names a row. Fewer words, or another last one of the nine, are no such place; a buffer may have more, and those
+   after the nine are neither read nor changed. */
 #define MATCHER_PLACE_WORDS 9
 
 /* The largest problem, and the largest text that is checked, in bytes. A text that is written has at most the problem's bytes and 4 for
@@ -73,20 +74,20 @@ extern "C" {
 #define MATCHER_NO_ALLOWANCE 15            /* an allowance of 0 */
 #define MATCHER_NO_SUCH_PLACE 16           /* no such place, or no such row */
 #define MATCHER_NOT_A_SOLUTION 17          /* not a solution row */
-#define MATCHER_BUFFER 18                  /* buffer too short; a row buffer that has not the words of a place */
+#define MATCHER_BUFFER 18                  /* buffer too short, of bytes or of the words of a place or row that is to be written */
 #define MATCHER_TEXT_TOO_LONG 19           /* a text over 8,192 bytes */
 #define MATCHER_TEXT_MALFORMED 20          /* a text that is not fields 8, 9, 11 with their contents; depth over 32; metavariable over 31 */
 #define MATCHER_TEXT_ORDER 27              /* a text in which a metavariable's number is not above the one before it */
 
-/* The start of the problem into `place`: its first row, or past the last if there is none. MATCHER_OK, or refused: 1 to 14 or 25; 16 where
-   `words` is not MATCHER_PLACE_WORDS. */
+/* The start of the problem into `place`: its first row, or past the last if there is none. MATCHER_OK, or refused: 1 to 14 or 25; 18 where
+   `words` is below MATCHER_PLACE_WORDS. */
 uint32_t matcher_start(const uint8_t *problem, size_t len, uint64_t *place, size_t words);
 
 /* The first solution row at or after `place`, looking at n rows before it pauses:
    - MATCHER_FOUND: the row in `row`, and the place after it in `place`;
    - MATCHER_PAUSED: at least n rows were passed with no solution row among them, and `place` is the row after them;
    - MATCHER_END: there is none, and `place` is past the last.
-   `row` is written on MATCHER_FOUND only. Refused: 1 to 14 or 25; 15 if n is 0; 16 if `place` is no such place; 18 where `row_words` is not
+   `row` is written on MATCHER_FOUND only. Refused: 1 to 14 or 25; 15 if n is 0; 16 if `place` is no such place; 18 where `row_words` is below
    MATCHER_PLACE_WORDS, whatever the answer would have been. */
 uint32_t matcher_search(const uint8_t *problem, size_t len, uint64_t *place, size_t words, uint64_t *row, size_t row_words, uint32_t n);
 

@@ -5,7 +5,8 @@
 //! [`Problem`](crate::Problem) needs none of this; it is here for programs that keep places and rows in their own way.
 
 /// A place has so many words: a mask for each of 8 functions by ascending number, then 0 for a row or 1 for past the last.
-/// Node k of a function's face, a hole of its body, is bit 63 - k of its mask.
+/// Node k of a function's face, a hole of its body, is bit 63 - k of its mask. A slice may have more: the place stands at its
+/// front, and later words are neither read nor changed.
 pub const PLACE_WORDS: usize = 9;
 
 /// The largest problem that is accepted, in bytes.
@@ -55,8 +56,7 @@ extern "C" {
     fn matcher_check(problem: *const u8, len: usize, text: *const u8, text_len: usize) -> u32;
 }
 
-/// The start of the problem into `place`. [`OK`], or refused: 1 to 14 or 25; 16 where `place` has another length than
-/// [`PLACE_WORDS`].
+/// The start of the problem into `place`. [`OK`], or refused: 1 to 14 or 25; 18 where `place` has fewer than [`PLACE_WORDS`].
 pub fn start(problem: &[u8], place: &mut [u64]) -> u32 {
     // SAFETY: pointers and lengths are those of slices, never null; what is written to is borrowed by nobody else.
     unsafe { matcher_start(problem.as_ptr(), problem.len(), place.as_mut_ptr(), place.len()) }
@@ -64,7 +64,7 @@ pub fn start(problem: &[u8], place: &mut [u64]) -> u32 {
 
 /// The first solution row at or after `place`, looking at `n` rows before it pauses. [`FOUND`]: it is in `row`, and the
 /// place after it in `place`; [`PAUSED`]: `place` is a later row; [`END`]: `place` is past the last. Refused: 1 to 14 or 25; 15 if
-/// `n` is 0; 16 if `place` is no such place; 18 where `row` has another length than [`PLACE_WORDS`].
+/// `n` is 0; 16 if `place` is no such place; 18 where `row` has fewer than [`PLACE_WORDS`], whatever the answer would have been.
 pub fn search(problem: &[u8], place: &mut [u64], row: &mut [u64], n: u32) -> u32 {
     // SAFETY: as in `start`.
     unsafe {

@@ -1,12 +1,12 @@
-//! Places and rows of any words: those that are one are taken, all others are refused (16), and writing gives 17 and 18
-//! where they are due.
+//! Places and rows of any words: those that begin with one are taken, all others are refused (16), and writing gives 17 and 18
+//! where they are due. Buffers of any number of words: a place is put at the front of one that has room for it.
 
 use crate::generate;
 use crate::hex::hex;
 use crate::lists::MOST_ROWS;
 use crate::random::Random;
 use crate::report::{each_seed, same, Tally};
-use crate::subject::{named, words, Subject, PAST, UNTOUCHED};
+use crate::subject::{named, place, with_front, words, Subject, PAST, UNTOUCHED};
 use crate::tree;
 use matcher::raw::{END, FOUND, LARGEST_TEXT, OK, PLACE_WORDS};
 use second::{Problem, Row, Solution};
@@ -24,7 +24,8 @@ pub fn random(subject: &dyn Subject, seeds: Range<u64>) -> Result<Tally, String>
         };
         for _ in 0..PLACES {
             let place = known.some_place(random);
-            known.searched(subject, &place, tally)?;
+            known.started(subject, &place, tally)?;
+            known.searched(subject, &place, random, tally)?;
             known.written(subject, &place, random, tally)?;
         }
         Ok(())
@@ -72,30 +73,59 @@ impl Known<'_> {
             _ => (),
         }
         let mut place = place.to_vec();
-        if random.once_in(16) {
-            place.resize(*random.pick(&[0, 8, 10]), 0);
+        if random.once_in(8) {
+            place.resize(*random.pick(&[0, 8, 10, 12]), random.word());
         }
         place
     }
 
-    /// A search call at the place, with every row allowed.
-    fn searched(&self, subject: &dyn Subject, place: &[u64], tally: &mut Tally) -> Result<(), String> {
-        let (mut at, mut found) = (place.to_vec(), UNTOUCHED);
-        let answer = subject.search(self.problem, &mut at, &mut found, u32::MAX);
-        let what = format!("a search at {place:x?}");
-        let Some(named) = named(&self.read, place) else {
+    /// The start, into a buffer of as many words.
+    fn started(&self, subject: &dyn Subject, buffer: &[u64], tally: &mut Tally) -> Result<(), String> {
+        let mut at = buffer.to_vec();
+        let answer = subject.start(self.problem, &mut at);
+        let what = format!("the start into {} words", buffer.len());
+        if buffer.len() < PLACE_WORDS {
+            tally.count("too few words");
+            return same(self.problem, &what, (answer, &at[..]), (18, buffer));
+        }
+        if buffer.len() > PLACE_WORDS {
+            tally.count("more words");
+        }
+        let first = place(self.rows.first());
+        same(self.problem, &what, (answer, at), (OK, with_front(&first, buffer)))
+    }
+
+    /// A search call at the place, with every row allowed, into a row buffer that may have more words.
+    fn searched(
+        &self,
+        subject: &dyn Subject,
+        from: &[u64],
+        random: &mut Random,
+        tally: &mut Tally,
+    ) -> Result<(), String> {
+        let mut untouched = UNTOUCHED.to_vec();
+        untouched.resize(PLACE_WORDS + random.below(3), random.word());
+        let (mut at, mut row) = (from.to_vec(), untouched.clone());
+        let answer = subject.search(self.problem, &mut at, &mut row, u32::MAX);
+        let what = format!("a search at {from:x?}");
+        let Some(named) = named(&self.read, from) else {
             tally.count("no place");
-            same(self.problem, &what, answer, 16)?;
-            return same(self.problem, &format!("the place of {what}"), &at[..], place);
+            return same(self.problem, &what, (answer, &at[..], row), (16, from, untouched));
         };
         tally.count("place");
-        let from = named.map_or(self.rows.len(), |row| {
-            self.rows.iter().position(|r| *r == row).unwrap_or(self.rows.len())
-        });
-        match self.solutions.iter().find(|s| self.rows[from..].contains(&s.row)) {
-            None => same(self.problem, &what, (answer, at), (END, PAST.to_vec())),
-            Some(solution) => same(self.problem, &what, (answer, found), (FOUND, words(&solution.row))),
-        }
+        let end = self.rows.len();
+        let index = |row: &Row| self.rows.iter().position(|r| r == row).unwrap_or(end);
+        let first = named.as_ref().map_or(end, index);
+        let (expected, next, given) = match self.solutions.iter().find(|s| self.rows[first..].contains(&s.row)) {
+            None => (END, PAST, untouched),
+            Some(solution) => (
+                FOUND,
+                place(self.rows.get(index(&solution.row) + 1)),
+                with_front(&words(&solution.row), &untouched),
+            ),
+        };
+        let expected = (expected, with_front(&next, from), given);
+        same(self.problem, &what, (answer, at, row), expected)
     }
 
     /// Writing at the place, into a buffer that may be too short.

@@ -54,18 +54,24 @@ pub fn words(row: &Row) -> Words {
     words
 }
 
+/// The words of a buffer with a place put at its front.
+pub fn with_front(front: &Words, buffer: &[u64]) -> Vec<u64> {
+    [&front[..], &buffer[PLACE_WORDS..]].concat()
+}
+
 /// The words of a row, or of past the last where there is none.
 pub fn place(row: Option<&Row>) -> Words {
     row.map_or(PAST, words)
 }
 
-/// What the words name in a problem: a row, past the last (no row), or nothing.
-pub fn named(read: &Problem, place: &[u64]) -> Option<Option<Row>> {
+/// What the words name in a problem: a row, past the last (no row), or nothing. Words after those of a place say nothing.
+pub fn named(read: &Problem, words: &[u64]) -> Option<Option<Row>> {
+    let place = words.get(..PLACE_WORDS)?;
     if place == PAST {
         return Some(None);
     }
     let functions = read.functions().len();
-    if place.len() != PLACE_WORDS || place[functions..].iter().any(|word| *word != 0) {
+    if place[functions..].iter().any(|word| *word != 0) {
         return None;
     }
     let nodes = |word: u64| (0..64).filter(|node| word >> (63 - node) & 1 == 1).collect();

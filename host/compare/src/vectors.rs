@@ -110,7 +110,9 @@ fn text_line(line: &str, says: impl Fn(&[u8], usize, usize) -> Said) -> String {
             Some((a, b)) => format!("{label}: {}\n", pair(says(&problem, a, b))),
             None => bad(label) + "\n",
         },
-        Some(('L' | 'H', problem, calls, label)) if calls.len() % 5 == 0 => format!("{label}\n{}", held(&problem, &calls)),
+        Some(('L' | 'H', problem, calls, label)) if calls.len() % 5 == 0 => {
+            format!("{label}\n{}", held(&problem, &calls))
+        }
         Some(('R', problem, calls, label)) if calls.len() % 4 == 0 && calls.len() <= 4 * CALLS => {
             format!("{label}\n{}", list(&problem, &calls))
         }

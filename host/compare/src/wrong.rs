@@ -25,6 +25,12 @@ pub enum Wrong {
     Repeats,
     /// Moves the place of a refused call.
     MovesWhenRefused,
+    /// Refuses a place that has more words after it.
+    TakesJustItsWords,
+    /// Clears the words after a place.
+    ClearsLaterWords,
+    /// Refuses too few words for the start by 16.
+    StartsWithSixteen,
     /// Writes one text, whatever the row.
     WritesOneText,
     /// Writes nothing and makes up a length.
@@ -69,7 +75,7 @@ pub enum Wrong {
 
 impl Wrong {
     /// All of them.
-    pub const ALL: [Wrong; 29] = [
+    pub const ALL: [Wrong; 32] = [
         Wrong::Refuses,
         Wrong::Ends,
         Wrong::EndsAtOnce,
@@ -79,6 +85,9 @@ impl Wrong {
         Wrong::ResumesLate,
         Wrong::Repeats,
         Wrong::MovesWhenRefused,
+        Wrong::TakesJustItsWords,
+        Wrong::ClearsLaterWords,
+        Wrong::StartsWithSixteen,
         Wrong::WritesOneText,
         Wrong::WritesNothing,
         Wrong::WritesTooFar,
@@ -202,9 +211,14 @@ impl Subject for Wrong {
             Wrong::RefusesBothWays if !both_ways(problem).is_empty() => 12,
             Wrong::LooksForFourteen if faces_too_much(problem) => 14,
             Wrong::Ends if answer == OK => {
-                place.copy_from_slice(&PAST);
+                place[..PLACE_WORDS].copy_from_slice(&PAST);
                 OK
             }
+            Wrong::ClearsLaterWords if answer == OK => {
+                place[PLACE_WORDS..].fill(0);
+                OK
+            }
+            Wrong::StartsWithSixteen if answer == 18 => 16,
             Wrong::RefusesOtherwise if answer == 9 => 4,
             Wrong::TakesAnyWidth if answer == 25 => OK,
             _ => answer,
@@ -226,8 +240,8 @@ impl Subject for Wrong {
         match self {
             Wrong::Refuses => 4,
             Wrong::Ends | Wrong::EndsAtOnce if answer == FOUND || answer == PAUSED => {
-                row.copy_from_slice(&UNTOUCHED);
-                place.copy_from_slice(&PAST);
+                row[..PLACE_WORDS].copy_from_slice(&UNTOUCHED);
+                place[..PLACE_WORDS].copy_from_slice(&PAST);
                 END
             }
             Wrong::PausesInPlace if answer == PAUSED => {
@@ -242,9 +256,13 @@ impl Subject for Wrong {
                 place.copy_from_slice(&before);
                 FOUND
             }
-            Wrong::MovesWhenRefused if refuses(answer) && place.len() == PLACE_WORDS => {
-                place.copy_from_slice(&PAST);
+            Wrong::MovesWhenRefused if refuses(answer) && place.len() >= PLACE_WORDS => {
+                place[..PLACE_WORDS].copy_from_slice(&PAST);
                 answer
+            }
+            Wrong::TakesJustItsWords if place.len() > PLACE_WORDS => {
+                place.copy_from_slice(&before);
+                16
             }
             Wrong::RefusesOtherwise if answer == 16 => 15,
             _ => answer,

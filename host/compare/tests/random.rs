@@ -75,6 +75,8 @@ fn places_and_rows_agree() {
     let cases = [
         ("place", 5_000),
         ("no place", 1_000),
+        ("too few words", 500),
+        ("more words", 500),
         ("written", 1_000),
         ("refused 16", 1_000),
         ("refused 17", 1_000),
