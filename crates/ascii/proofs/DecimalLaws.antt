@@ -1,14 +1,13 @@
 -- Numbers in decimal: the digits before the last, and the last.
-use mathlib.Core.Path.{_≡_, refl, sym, ap, _∙_}
+use mathlib.Core.Path.{_≡_, sym, ap, _∙_}
 use native.Mathlib.Decide.{decLt}
 use mathlib.Core.List.{[], _∷_, _++_}
 use Prim.Native.Nat.{ℕ, zero, suc, _+_, _/_, _%_, _^_, _<_, _≤_}
 use native.Mathlib.Omega.{arith}
 use native.Mathlib.Nat.{pow-suc}
-use lib.Dec.{ltb}
 use lib.ListN.{length, length-append}
 use borrow.Author.Tests.{lt-ltb, le-ltb}
-use Rattle.meaning.specs.Basics.{Bytes, choose}
+use Rattle.meaning.specs.Basics.{Bytes}
 use Rattle.meaning.specs.Program.{decimal, decimalWithin}
 use Rattle.meaning.proofs.Lists.{choose-true, choose-false}
 
@@ -24,7 +23,7 @@ enough zero k n h l = absurd (omega arith)
 enough (suc m) zero n h l = absurd (omega arith)
 enough (suc m) (suc k) n h l =
     elim (decLt n 10) [
-      yes few ↦ one-digit m n few ∙ sym (one-digit k n few)
+      | yes few ↦ one-digit m n few ∙ sym (one-digit k n few)
       | no more ↦ digits m n (omega arith) ∙ ap (λ (l : Bytes). l ++ ((48 + n % 10) ∷ [])) (enough m k (n / 10) (omega arith) (omega arith))
           ∙ sym (digits k n (omega arith))
     ]
@@ -49,7 +48,7 @@ few-digits : (k n : ℕ) → n < 10 ^ suc k → length (decimal n) ≤ suc k
 few-digits zero n h = omega (arith, last-length n (omega arith))
 few-digits (suc k) n h =
     elim (decLt n 10) [
-      yes few ↦ omega (arith, last-length n few)
+      | yes few ↦ omega (arith, last-length n few)
       | no more ↦
           let fewer = few-digits k (n / 10) (omega (arith, pow-suc 10 (suc k))) in
           omega (arith, more-length n (omega arith), fewer)

@@ -1,12 +1,12 @@
 -- Bytes put into a buffer: none, one more, and some after others.
 use mathlib.Core.Path.{_≡_, refl, sym, ap, _∙_, subst}
-use mathlib.Core.List.{List, [], _∷_, _++_, append-assoc, append-nil}
-use Prim.Native.Nat.{ℕ, suc, _+_, _*_, _/_, _%_, _<_, _≤_}
+use mathlib.Core.List.{[], _∷_, _++_, append-assoc, append-nil}
+use Prim.Native.Nat.{ℕ, _+_, _*_, _/_, _%_, _<_, _≤_}
 use native.Mathlib.Omega.{arith}
 use native.Mathlib.Numerals.{add-one}
 use lib.ListN.{length, getD, take, set, length-append, length-set}
 use lib.Seq.{take-suc, take-suc-set}
-use Rattle.meaning.specs.Basics.{Bytes, each}
+use Rattle.meaning.specs.Basics.{Bytes}
 use Rattle.meaning.specs.Program.{hexDigit, hexadecimal}
 use Rattle.meaning.proofs.Lists.{each-append}
 use Rattle.ascii.specs.Put.{Put}

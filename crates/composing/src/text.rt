@@ -6,7 +6,6 @@ use copying::copy;
 use copying::copy_length;
 use copying::write_head;
 use metavariables::METAVARIABLES;
-ghost use mathlib.Core.Path.{_≡_};
 ghost use mathlib.Core.List.{[], _∷_};
 ghost use Prim.Native.Nat.{_≤_};
 ghost use lib.ListN.{length};

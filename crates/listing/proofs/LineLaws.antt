@@ -1,7 +1,7 @@
 -- Lines in a buffer, and the law of each return.
 use mathlib.Core.Path.{_≡_, refl, ap, sym, _∙_, subst}
 use mathlib.Core.Bool.{true, false, false≢true}
-use mathlib.Core.List.{[], _∷_, _++_, append-assoc}
+use mathlib.Core.List.{_++_, append-assoc}
 use Prim.Native.Nat.{ℕ, suc, _+_, _-_, _*_, _<_, _≤_}
 use native.Mathlib.Numerals.{add-one}
 use native.Mathlib.Omega.{arith}
@@ -10,11 +10,9 @@ use lib.Seq.{length-take-le}
 use Rattle.meaning.specs.Limits.{maxInput, maxWritten, metavariableCount}
 use Rattle.meaning.specs.Basics.{All, Byte, Bytes, choose}
 use Rattle.meaning.specs.Problem.{Problem}
-use Rattle.meaning.specs.Row.{Row}
-use Rattle.meaning.specs.Read.{Answer, after, got, refused}
+use Rattle.meaning.specs.Read.{Answer, after, got}
 use Rattle.meaning.specs.Readable.{Accepted}
-use Rattle.meaning.specs.Accept.{accept}
-use Rattle.meaning.specs.Search.{end, found, paused, refusedCall, start}
+use Rattle.meaning.specs.Search.{end, found, start}
 use Rattle.meaning.specs.PlaceValue.{PlaceValue, placeValue}
 use Rattle.meaning.specs.Entry.{HostReply, SearchCall, SearchOn, WriteCall, WriteOn, noSolutionRow, noSuchRow, notAccepted, onAccepted, rowText}
 use Rattle.meaning.specs.Entry.{startCall, tooShort, writes}
@@ -29,7 +27,7 @@ use Rattle.places.specs.declared.Place.{Place}
 use Rattle.places.specs.declared.Started.{Started}
 use Rattle.seeking.specs.declared.Answer.{Answer as Kind}
 use Rattle.seeking.specs.declared.Answer.the-variants as answers
-use Rattle.search.specs.Calling.{hostReply, replyWith, rowValue}
+use Rattle.search.specs.Calling.{replyWith, rowValue}
 use Rattle.finding.specs.Finding.{Finds}
 use Rattle.finding.specs.declared.Finding.{Finding}
 use Rattle.ascii.specs.Put.{Put}

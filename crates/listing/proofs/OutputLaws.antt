@@ -2,11 +2,11 @@
 --   Printing   the list of calls behind the lines that are left
 use mathlib.Core.Path.{_≡_, refl, ap, sym, _∙_, subst}
 use mathlib.Core.Bool.{true, false, false≢true}
-use mathlib.Core.List.{List, [], _∷_, _++_, map, append-assoc, List·Memᴰ·head, Memᴰ·append-right}
+use mathlib.Core.List.{List, [], _∷_, _++_, map, append-assoc}
 use Prim.Native.Nat.{ℕ, suc, _≤_}
 use native.Mathlib.Omega.{arith}
 use lib.Seq.{append-snoc}
-use Rattle.meaning.specs.Basics.{All, Byte, Bytes}
+use Rattle.meaning.specs.Basics.{All, Bytes}
 use Rattle.meaning.specs.Problem.{Problem}
 use Rattle.meaning.specs.Row.{Row, SolutionRow}
 use Rattle.meaning.specs.Rows.{rows}
@@ -20,7 +20,7 @@ use Rattle.meaning.specs.Program.{Lines, Output, allowance, countLine, lists, m
 use Rattle.meaning.specs.Program as program
 use Rattle.meaning.proofs.Lists.{never}
 use Rattle.meaning.proofs.ByteLaws.{got-is, refused-not}
-use Rattle.meaning.proofs.PlaceLaws.{from-place, rows-from}
+use Rattle.meaning.proofs.PlaceLaws.{from-place}
 use Rattle.meaning.proofs.OneCall.{search-on}
 use Rattle.meaning.proofs.CallLaws.{on-run}
 use Rattle.places.specs.Places.{valueOf}

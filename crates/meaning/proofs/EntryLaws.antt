@@ -21,7 +21,7 @@ use Rattle.meaning.specs.Textual.{AlphaText}
 use Rattle.meaning.specs.Passing.{passes}
 use Rattle.meaning.specs.Search.{at}
 use Rattle.meaning.specs.PlaceValue.{PlaceValue, placeValue, Names}
-use Rattle.meaning.specs.Entry.{rowText, WriteOn, WriteCall, notAccepted, onAccepted, noSuchRow, noSolutionRow, tooShort, writes}
+use Rattle.meaning.specs.Entry.{rowText, WriteOn, WriteCall, onAccepted, noSuchRow, noSolutionRow, tooShort, writes}
 use Rattle.meaning.specs.Entry.{checkOn, checkCall}
 use Rattle.meaning.proofs.ByteLaws.{by-got, got-is, refused-not}
 use Rattle.meaning.proofs.ChoiceLaws.{rows-are}

@@ -17,7 +17,7 @@ use Rattle.meaning.specs.Candidate.{solves}
 use Rattle.meaning.specs.Solution.{Solution}
 use Rattle.meaning.specs.Read.{Answer, after, got}
 use Rattle.meaning.specs.Readable.{Accepted}
-use Rattle.meaning.specs.Text.{Item, readText, said, textOf}
+use Rattle.meaning.specs.Text.{Item, said}
 use Rattle.meaning.specs.Search.{at}
 use Rattle.meaning.specs.PlaceValue.{Names, PlaceValue}
 use Rattle.meaning.specs.Entry.{WriteOn, rowText}

@@ -12,7 +12,7 @@ use Rattle.meaning.specs.Rows.{rows}
 use Rattle.meaning.specs.Read.{Answer, got, refused}
 use Rattle.meaning.specs.Readable.{Accepted}
 use Rattle.meaning.specs.Accept.{accept}
-use Rattle.meaning.specs.Search.{From, Keeps, Place, Reply, at, end, ends, finds, found, past, paused, pauses, placeOf, refusedCall, start}
+use Rattle.meaning.specs.Search.{From, Keeps, Place, Reply, at, end, ends, finds, found, paused, pauses, placeOf, refusedCall, start}
 use Rattle.meaning.specs.PlaceValue.{Names, PlaceValue, placeValue}
 use Rattle.meaning.specs.Entry.{HostReply, SearchCall, SearchOn, replyValue, rowText, searches}
 use Rattle.meaning.specs.Calls.{HostCall, Run, left}

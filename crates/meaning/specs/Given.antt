@@ -4,7 +4,7 @@
 --   TextsGiven   what the texts of the Founds are, in order
 use mathlib.Core.Path.{_≡_}
 use Prim.Native.Nat.{ℕ, _≤_}
-use mathlib.Core.List.{List, [], _∷_, map}
+use mathlib.Core.List.{List, map}
 use lib.ListN.{length, take}
 use Rattle.meaning.specs.Limits.{maxWritten}
 use Rattle.meaning.specs.Basics.{Bytes, Pairwise, _∈_}

@@ -1,8 +1,8 @@
 -- A list of calls of `matcher_search`, by the numbers and words that a program in C sees, is a list of document 01's calls: the calls that
 -- are refused for their row buffer leave all as it was, and the others are its calls, one for one.
 --   AsCalls   a list of calls in C with document 01's calls that it makes
-use mathlib.Core.Path.{_≡_, refl, ap, ap₂, sym, _∙_, subst}
-use mathlib.Core.Logic.{_⊎_, _↔_, inl, inr, ⊎-elim}
+use mathlib.Core.Path.{_≡_, refl, ap, sym, _∙_, subst}
+use mathlib.Core.Logic.{_↔_, ⊎-elim}
 use mathlib.Core.Bool.{Bool, true, false}
 use mathlib.Core.List.{List, [], _∷_, _++_, map, List·Memᴰ·cases-cons, List·Memᴰ·head, List·Memᴰ·not-nil, List·Memᴰ·tail, Memᴰ·append-right}
 use Prim.Native.Nat.{ℕ, _+_, _<_}
@@ -10,7 +10,6 @@ use native.Mathlib.Nat.{zero-add}
 use native.Mathlib.Omega.{arith}
 use lib.Dec.{eqb}
 use lib.ListN.{length}
-use borrow.Author.Tests.{le-leb}
 use Rattle.meaning.specs.Limits.{maxFunctions}
 use Rattle.meaning.specs.Basics.{All, Byte, Bytes, choose, _∈_}
 use Rattle.meaning.specs.Problem.{Problem}
@@ -19,20 +18,20 @@ use Rattle.meaning.specs.Readable.{Accepted}
 use Rattle.meaning.specs.Row.{Row, SolutionRow}
 use Rattle.meaning.specs.Rows.{rows}
 use Rattle.meaning.specs.Accept.{accept}
-use Rattle.meaning.specs.Search.{From, Keeps, Place, Reply, at, end, ends, finds, found, past, paused, pauses, placeOf, refusedCall, start}
+use Rattle.meaning.specs.Search.{Keeps, Place, Reply, at, end, ends, finds, found, past, paused, pauses, placeOf, refusedCall, start}
 use Rattle.meaning.specs.PlaceValue.{IsPlace, PlaceValue, placeValue}
-use Rattle.meaning.specs.Entry.{HostReply, SearchCall, SearchOn, noAllowance, noSuchPlace, notAccepted, onAccepted, replyValue, searches, startCall}
+use Rattle.meaning.specs.Entry.{HostReply, SearchCall, noAllowance, noSuchPlace, notAccepted, onAccepted, replyValue, searches, startCall}
 use Rattle.meaning.specs.Calls.{HasEnd, HostCall, Run, allowed, foundIn, founds, left, positive}
 use Rattle.meaning.proofs.Lists.{choose-false, choose-true, eqb-other, never}
 use Rattle.meaning.proofs.ProblemReading.{accept-accepted}
 use Rattle.meaning.proofs.CallLaws.{end-here, end-later, which-end}
 use Rattle.meaning.proofs.ChoiceLaws.{rows-are}
 use Rattle.meaning.proofs.PlaceLaws.{from-place, place-long}
-use Rattle.words.specs.Words.{hasPlace, placeOfWords, placed}
+use Rattle.words.specs.Words.{hasPlace, placeOfWords}
 use Rattle.words.proofs.WordLaws.{placed-back}
-use Rattle.exports.specs.Exported.{SearchExport, StartExport, Told, placeAfter, placeInto, replyCode, rowAfter, startAfter, startCode, startInto, withRow}
+use Rattle.exports.specs.Exported.{SearchExport, StartExport, Told, placeAfter, placeInto, replyCode, rowAfter, startAfter, startCode, withRow}
 use Rattle.promises.specs.Lists.{CCall, CEnd, CRun, cAllowed, cFound}
-use Rattle.promises.specs.Numbers.{Refuses, RefusesReply, answer, isRefusal, refusal}
+use Rattle.promises.specs.Numbers.{Refuses, RefusesReply, answer, refusal}
 use Rattle.promises.proofs.RefusalNumbers.{search-numbers, small, start-numbers}
 
 -- Values that a call answers have a mask for each function, so that their words are read back

@@ -1,12 +1,12 @@
 -- Lists of calls of `search` and of `search_open` are document 01's: the same rows found, an End in both or in neither, the same allowances.
 use mathlib.Core.Path.{_≡_, refl, ap, ap₂, sym, _∙_, subst}
-use mathlib.Core.Logic.{_↔_, ⊎-elim}
+use mathlib.Core.Logic.{_↔_}
 use mathlib.Core.List.{List, [], _∷_, _++_, map, map-append}
 use Prim.Native.Nat.{ℕ, _+_}
-use Rattle.meaning.specs.Basics.{Bytes, _∈_}
+use Rattle.meaning.specs.Basics.{Bytes}
 use Rattle.meaning.specs.Search.{end}
 use Rattle.meaning.specs.PlaceValue.{PlaceValue}
-use Rattle.meaning.specs.Entry.{HostReply, SearchCall}
+use Rattle.meaning.specs.Entry.{SearchCall}
 use Rattle.meaning.specs.Calls.{HasEnd, HostCall, Run, allowed, foundIn, founds, positive}
 use Rattle.meaning.proofs.Lists.{map-mem, mem-map, never}
 use Rattle.places.specs.Places.{valueOf}

@@ -1,33 +1,30 @@
 -- The second demand, and the texts of a list of calls, for any way in which a host calls the writer and the checker.
 --   Lawful   the calls are document 01's, and each row can be held
 use mathlib.Core.Path.{_≡_, refl, ap, sym, _∙_, subst}
-use mathlib.Core.Logic.{_↔_}
 use mathlib.Core.Bool.{Bool, true}
 use mathlib.Core.List.{List, [], _∷_, map}
 use Prim.Native.Nat.{ℕ, _≤_}
 use native.Mathlib.Omega.{arith}
 use lib.ListN.{length, length-map, take}
 use Rattle.meaning.specs.Limits.{maxWritten}
-use Rattle.meaning.specs.Basics.{All, Byte, Bytes, Pairwise, _∈_}
+use Rattle.meaning.specs.Basics.{All, Byte, Bytes, Pairwise}
 use Rattle.meaning.specs.Problem.{Problem}
-use Rattle.meaning.specs.Read.{Answer, after, got, refused}
+use Rattle.meaning.specs.Read.{Answer, after, got}
 use Rattle.meaning.specs.Readable.{Accepted}
 use Rattle.meaning.specs.Accept.{accept}
-use Rattle.meaning.specs.Filling.{Filling}
-use Rattle.meaning.specs.Solution.{Solution}
-use Rattle.meaning.specs.Row.{IsRow, Row, SolutionRow}
+use Rattle.meaning.specs.Row.{IsRow, Row}
 use Rattle.meaning.specs.FullList.{Listed}
 use Rattle.meaning.specs.Text.{Item, readText, said, textOf}
 use Rattle.meaning.specs.Search.{at}
 use Rattle.meaning.specs.PlaceValue.{Names, PlaceValue, placeValue}
-use Rattle.meaning.specs.Entry.{WriteCall, WriteOn, checkCall, checkOn, noSolutionRow, noSuchRow, notAccepted, onAccepted, rowText, tooShort}
+use Rattle.meaning.specs.Entry.{WriteCall, WriteOn, checkCall, checkOn, noSolutionRow, noSuchRow, onAccepted, rowText, tooShort}
 use Rattle.meaning.specs.Entry.{writes}
 use Rattle.meaning.specs.Calls.{ThirdDemand, givenRow}
 use Rattle.meaning.specs.Given.{TextsGiven, namedBy}
 use Rattle.meaning.specs.Given as given
 use Rattle.meaning.specs.Passing.{passes}
 use Rattle.meaning.proofs.Lists.{mem-map}
-use Rattle.meaning.proofs.ByteLaws.{by-got, got-is, refused-not}
+use Rattle.meaning.proofs.ByteLaws.{by-got, refused-not}
 use Rattle.meaning.proofs.ChoiceLaws.{rows-are}
 use Rattle.meaning.proofs.ProblemReading.{accept-accepted}
 use Rattle.meaning.proofs.Solutions.{solves-is-right}

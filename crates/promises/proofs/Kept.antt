@@ -2,9 +2,9 @@
 --   open-contract   the contract of `search_open`, as it stands in the source, is what the page takes for it
 use mathlib.Core.Path.{_≡_, refl, ap, ap₂, sym, _∙_, subst}
 use mathlib.Core.Logic.{_↔_}
-use mathlib.Core.Bool.{Bool, false}
+use mathlib.Core.Bool.{false}
 use mathlib.Core.List.{List, [], map}
-use Prim.Native.Nat.{ℕ, zero, suc, _<_}
+use Prim.Native.Nat.{ℕ, _<_}
 use native.Mathlib.Omega.{arith}
 use lib.ListN.{length, take}
 use base.Logic.{SProp, emp}
@@ -36,12 +36,10 @@ use Rattle.places.specs.declared.Start.{Start}
 use Rattle.places.specs.declared.Start.the-variants as starts
 use Rattle.places.specs.declared.Started.{Started}
 use Rattle.places.proofs.Naming.{row-value}
-use Rattle.search.specs.Calling.{Answers, hostReply, replyWith}
+use Rattle.search.specs.Calling.{Answers, replyWith}
 use Rattle.seeking.specs.declared.Answer as code
 use Rattle.seeking.specs.declared.Answer.the-variants as answers
 use Rattle.seeking.specs.declared.Searched.{Searched}
-use Rattle.writing.specs.Writing.{answerOf}
-use Rattle.matcher.specs.declared.OpenSearch.{OpenSearch}
 use Rattle.words.specs.Words.{hasPlace, placeOfWords, placed}
 use Rattle.words.proofs.WordLaws.{placed-back}
 use Rattle.exports.specs.Exported.{SearchExport, StartExport, WriteExport, lengthAfter, placeAfter, replyCode, rowAfter, startAfter, startCode}
@@ -57,10 +55,10 @@ use Rattle.exports.proofs.matcher_start.Met as c-start-met
 use Rattle.exports.proofs.matcher_search.Met as c-search-met
 use Rattle.exports.proofs.matcher_write.Met as c-write-met
 use Rattle.exports.proofs.matcher_check.Met as c-check-met
-use Rattle.promises.specs.Called.{CWriteCalled, Ends, OpenCalled, Unasked}
+use Rattle.promises.specs.Called.{Ends, OpenCalled, Unasked}
 use Rattle.promises.specs.Numbers.{checkAnswer, writeAnswer}
 use Rattle.promises.specs.Lists.{CEnd, CarriedCall, CarriedEnd, cAllowed, cFound, carriedAllowed, carriedFound, keptCalls}
-use Rattle.promises.specs.Promises.{FirstDemand, Owed, SecondDemand, inC, inRattle, startAnswer}
+use Rattle.promises.specs.Promises.{FirstDemand, SecondDemand, inC, inRattle, startAnswer}
 use Rattle.promises.specs.Promises as page
 use Rattle.promises.proofs.RefusalNumbers.{check-numbers, check-read, write-numbers, write-read}
 use Rattle.promises.proofs.CallLists.{allowed-carried, callOf, carried-run, end-carried, founds-carried, kept-run}

@@ -1,13 +1,13 @@
 -- Judging rows one after the other: what each call requires, and a law for each answer.
 use mathlib.Core.Path.{_≡_, refl, ap, sym, _∙_, subst}
-use mathlib.Core.Bool.{Bool, true, false, true≢false, false≢true}
+use mathlib.Core.Bool.{Bool, true, false, true≢false}
 use mathlib.Core.List.{List, [], _∷_, _++_, append-assoc, List·Memᴰ·head, List·Memᴰ·tail, Memᴰ·append-right}
-use Prim.Native.Nat.{ℕ, suc, _+_, _-_, _<_}
+use Prim.Native.Nat.{ℕ, suc, _<_}
 use native.Mathlib.Omega.{arith}
 use lib.ListN.{length, replicate}
 use Rattle.meaning.specs.Limits.{maxFunctions}
 use Rattle.meaning.specs.Basics.{choose, isSome, _∈_}
-use Rattle.meaning.specs.Search.{Place, at, past, placeOf, Reply, found, end, paused, Keeps, finds, ends, pauses}
+use Rattle.meaning.specs.Search.{Place, at, past, placeOf, found, end, paused, Keeps, finds, ends, pauses}
 use Rattle.meaning.proofs.Lists.{never}
 use Rattle.meaning.proofs.PlaceLaws.{mem-split}
 use Rattle.meaning.proofs.OneCall.{one-before}
@@ -15,13 +15,11 @@ use Rattle.rows.specs.Rows.{MaskRow, maskRows, Tables, Steps}
 use Rattle.classes.proofs.Problem.{row-masks, tabled-tables}
 use Rattle.places.specs.Places.{AtRow, AtPast}
 use Rattle.places.specs.declared.Place as code
-use Rattle.fit.specs.Laid.{Laid}
 use Rattle.fit.specs.Ready as fit
 use Rattle.fit.proofs.Readiness.{laid-ready}
 use Rattle.seeking.specs.Seeking.{Judged, Grounded, Seekable, Turned, Passed, Ended, Paused, maskPlace, maskReply, Seeks}
 use Rattle.seeking.specs.declared.Fixed.{Fixed}
 use Rattle.seeking.specs.declared.Turn.{Turn}
-use Rattle.seeking.specs.declared.Answer.{Answer}
 use Rattle.seeking.specs.declared.Answer.the-variants as answers
 use Rattle.seeking.specs.declared.Searched.{Searched}
 

@@ -18,11 +18,11 @@ use Rattle.meaning.specs.Basics.{choose, Bytes}
 use Rattle.meaning.specs.Limits.{maxInput, maxConstraints, maxDepth}
 use Rattle.meaning.specs.Term.{one, NamedTerm}
 use Rattle.meaning.specs.Problem.{Constraint, Problem, forestOf}
-use Rattle.meaning.specs.Read.{Answer, refused, got, after, Parts, inPattern, inExpression, readTerm, readPair, constraintHead}
+use Rattle.meaning.specs.Read.{Answer, refused, got, after, inPattern, inExpression, readTerm, readPair, constraintHead}
 use Rattle.meaning.specs.Read.{readConstraints, readProblem}
 use Rattle.tokens.specs.Token.{tokens, patternTokens, expressionTokens}
 use Rattle.fields.specs.Heads.{PartsDone}
-use Rattle.terms.specs.Reading.{Space, Written, termAnswer, TermDone}
+use Rattle.terms.specs.Reading.{Written, termAnswer, TermDone}
 use Rattle.table.specs.Whole.{Spaces, TopDone, patternRow, expressionRow, pairedOf, pairAnswer, PairDone, problemAnswer}
 use Rattle.table.specs.Whole.{ProblemDone}
 use Rattle.terms.specs.declared.term.Term.{Term}

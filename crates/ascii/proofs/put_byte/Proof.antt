@@ -6,7 +6,6 @@ use lib.ListN.{length, set, length-set}
 use Rattle.ascii.proofs.PutLaws.{two-digits}
 use Rattle.ascii.proofs.put_byte.Statement.{statement}
 use Rattle.ascii.proofs.put_byte.Tie as tie
-use Rattle.ascii.proofs.hex_digit.Reads as hex-digit-reads
 
 hex-digit-requires : tie.Need-hex-digit-requires
 hex-digit-requires c κs = search needs

@@ -1,7 +1,7 @@
 -- `put_bytes`. The loop's invariant: the digits of the first i bytes are put.
 use borrow.Author.Needs.{needs}
 use native.Mathlib.Omega.{arith}
-use Prim.Native.Nat.{ℕ, _+_, _-_, _*_, _≤_, _<_}
+use Prim.Native.Nat.{ℕ, _+_, _-_, _*_, _≤_}
 use mathlib.Core.Path.{_≡_, refl, ap, _∙_}
 use mathlib.Core.List.{[], _∷_}
 use lib.ListN.{length, getD, take}
@@ -10,7 +10,6 @@ use Rattle.ascii.specs.Put.{Put}
 use Rattle.ascii.proofs.PutLaws.{put-none, put-till, bytes-more, hexadecimal-none, hexadecimal-length}
 use Rattle.ascii.proofs.put_bytes.Statement.{statement}
 use Rattle.ascii.proofs.put_bytes.Tie as tie
-use Rattle.ascii.proofs.put_byte.Reads as put-byte-reads
 
 abbrev Inv-loop : tie.InvT-loop
 Inv-loop bytes n at out₀ end₀ i₀ out end i =

@@ -5,11 +5,6 @@ use Rattle.accept.proofs.AcceptanceLaws.{are-bytes}
 use Rattle.finding.proofs.FindingLaws.{nothing-found, text-found, never-refused, other-answer}
 use Rattle.finding.proofs.find.Statement.{statement}
 use Rattle.finding.proofs.find.Tie as tie
-use Rattle.finding.proofs.find.Reads as reads
-use Rattle.finding.proofs.find.Lts as lts
-use Rattle.places.proofs.Place.at.Reads as at-reads
-use Rattle.search.proofs.call.search.Reads as search-reads
-use Rattle.writing.proofs.write.write.Reads as write-reads
 
 search-requires : tie.Need-search-requires
 search-requires c κs = search needs

@@ -1,7 +1,6 @@
 -- `found_line`.
 use borrow.Author.Needs.{needs}
 use mathlib.Core.Path.{refl}
-use native.Mathlib.Omega.{arith}
 use Rattle.listing.proofs.LineLaws.{more-line, next-line}
 use Rattle.listing.proofs.found_line.Statement.{statement}
 use Rattle.listing.proofs.found_line.Tie as tie

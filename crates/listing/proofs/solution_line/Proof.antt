@@ -39,8 +39,17 @@ put-word-requires-2 c κs =
     let colon = bytes .before .before .before .before in
     let count = colon .before .before .before .before .before in
     let start = count .before .before .before .before .before in
-    omega (arith, start .pre .1, count .put-count .ensures .few, count .put-count .kept, colon .put-word .ensures .end, colon .put-word .kept,
-    bytes .put-bytes .ensures .end, bytes .put-bytes .kept, digits-length (start .args .text .now) (start .args .n) (start .pre .0))
+    omega (
+      arith,
+      start .pre .1,
+      count .put-count .ensures .few,
+      count .put-count .kept,
+      colon .put-word .ensures .end,
+      colon .put-word .kept,
+      bytes .put-bytes .ensures .end,
+      bytes .put-bytes .kept,
+      digits-length (start .args .text .now) (start .args .n) (start .pre .0),
+    )
 
 same-length : tie.Need-same-length
 same-length c = search needs

@@ -10,11 +10,6 @@ use borrow.Author.Tests.{not-true}
 use Rattle.listing.proofs.LineLaws.{left, lines-end, stands-fits}
 use Rattle.printing.proofs.print_lines.Statement.{statement}
 use Rattle.printing.proofs.print_lines.Tie as tie
-use Rattle.printing.proofs.print_lines.Reads as reads
-use Rattle.printing.proofs.print_lines.Lts as lts
-use Rattle.lines.proofs.output.print.Reads as print-reads
-use Rattle.listing.proofs.Listing.start.Reads as start-reads
-use Rattle.listing.proofs.next_line.Reads as next-line-reads
 
 abbrev Inv-loop : tie.InvT-loop
 Inv-loop problem out₀ at₀ out at = (length out ≡ length out₀) × (at .over ≡ false → at .count ≤ 1000)
