@@ -4,7 +4,7 @@ use native.Mathlib.Omega.{arith}
 use mathlib.Core.Path.{refl, sym}
 use Rattle.ascii.proofs.PutLaws.{put-none, put-one, put-till}
 use Rattle.ascii.proofs.DecimalLaws.{decimal-last, decimal-more, last-length, more-length}
-use Prim.Native.Nat.{ℕ, _+_, _%_}
+use Prim.Native.Nat.{ℕ, _+_, _%_, _<_}
 use borrow.Fn.Kinds.{In}
 use borrow.Fn.PlainCycle.{Measures, is, falls, and}
 use Rattle.ascii.proofs.put_number.Reads as put-number
