@@ -9,7 +9,7 @@ use mathlib.Core.List.{List, map}
 use Prim.Native.Nat.{ℕ, _<_, _≤_}
 use lib.ListN.{length, take}
 use Rattle.meaning.specs.Limits.{maxWritten}
-use Rattle.meaning.specs.Basics.{All, Byte, Bytes, Distinct, Ordered, Pairwise, _∈_, Byte}
+use Rattle.meaning.specs.Basics.{All, Byte, Bytes, Distinct, Ordered, Pairwise, _∈_}
 use Rattle.meaning.specs.Problem.{Problem}
 use Rattle.meaning.specs.Read.{Answer, got, refused}
 use Rattle.meaning.specs.Accept.{accept}
