@@ -1,7 +1,6 @@
 -- The row of a Found is written, since there is room for any text.
 use mathlib.Core.Path.{_≡_, refl, ap, sym, _∙_, subst}
 use mathlib.Core.Logic.{inl, inr}
-use mathlib.Core.Bool.{true}
 use mathlib.Core.List.{[], _∷_}
 use Prim.Native.Nat.{ℕ, _≤_}
 use native.Mathlib.Omega.{arith}
@@ -11,19 +10,14 @@ use types.Run.{OneOf}
 use Rattle.meaning.specs.Limits.{maxWritten}
 use Rattle.meaning.specs.Basics.{All, Byte, Bytes}
 use Rattle.meaning.specs.Read.{Answer, got}
-use Rattle.meaning.specs.Readable.{Accepted}
-use Rattle.meaning.specs.Candidate.{solves}
 use Rattle.meaning.specs.Search.{found}
 use Rattle.meaning.specs.PlaceValue.{PlaceValue}
-use Rattle.meaning.specs.Entry.{HostReply, SearchCall, SearchOn, WriteCall, notAccepted, onAccepted, rowText}
+use Rattle.meaning.specs.Entry.{HostReply, SearchCall, SearchOn, WriteCall, notAccepted, onAccepted}
 use Rattle.meaning.proofs.Lists.{never}
 use Rattle.meaning.proofs.ByteLaws.{refused-not}
-use Rattle.meaning.proofs.ChoiceLaws.{rows-are}
 use Rattle.meaning.proofs.ProblemReading.{accept-accepted}
-use Rattle.meaning.proofs.Solutions.{solves-is-right}
-use Rattle.meaning.proofs.SecondDemand.{text-within}
-use Rattle.meaning.proofs.OneCall.{found-row}
-use Rattle.meaning.proofs.WriteLaws.{when-room, write-on}
+use Rattle.meaning.proofs.OneCall.{reply-named}
+use Rattle.meaning.proofs.WriteLaws.{when-large, write-on}
 use Rattle.rows.specs.Rows.{MaskRow}
 use Rattle.places.specs.Places.{AtRow, valueOf}
 use Rattle.places.specs.declared.Place.{Place}
@@ -45,11 +39,8 @@ found-written {s} {v} {row} {next} {n} {before} {after} {a} b room c w = go c re
     go : {reply : HostReply} → SearchCall s v n reply → reply ≡ found row next → (k : ℕ) × (a ≡ got k)
     go (notAccepted r e) z = never (cc)
     go (onAccepted p e {reply} on) z =
-        let (r, named, solution) = found-row p v n (subst (λ (y : HostReply). SearchOn p v n y) z on) in
-        let accepted : Accepted p = accept-accepted s p b e .0 in
-        let tested : solves p r ≡ true = solves-is-right p r accepted (rows-are p r .1 (named .isPlace)) .1 solution in
-        let fits : length (rowText p r) ≤ length before = omega (arith, text-within p r accepted tested) in
-        (length (rowText p r), when-room p row before accepted r named solution fits (write-on p e w) .0)
+        let (r, named, solution) = reply-named p (subst (λ (y : HostReply). SearchOn p v n y) z on) .0 in
+        let (k, gives, text) = when-large p row before (accept-accepted s p b e .0) r named solution room (write-on p e w) in (k, gives)
 
 -- An answer with another key than a Found's
 pub other-answer : {a : Kind} → OneOf (0 ∷ 2 ∷ 3 ∷ []) (tagOf the-type a) → a ≡ answers.Found → ⊥

@@ -20,7 +20,7 @@ use Rattle.meaning.specs.Program.{allowance, ascii, decimal, hexadecimal, mostP
 use Rattle.meaning.proofs.Lists.{choose-false, choose-true, never}
 use Rattle.meaning.proofs.ByteLaws.{got-is, refused-not}
 use Rattle.meaning.proofs.ProblemReading.{accept-accepted}
-use Rattle.meaning.proofs.OneCall.{found-row}
+use Rattle.meaning.proofs.OneCall.{reply-named}
 use Rattle.meaning.proofs.WriteLaws.{write-on, written-text}
 use Rattle.places.specs.Places.{Starts, valueOf}
 use Rattle.places.specs.declared.Place.{Place}
@@ -133,7 +133,7 @@ module _ {s : Bytes} (now : Listing) {before text : Bytes} (f : Finding) (finds 
             → NextLine s now after r
         go (notAccepted q z) w = never (cc)
         go (onAccepted p z on) w =
-            let (q, named, solves) = found-row p (valueOf (now .place)) allowance (subst (SearchOn p (valueOf (now .place)) allowance) w on) in
+            let (q, named, solves) = reply-named p (subst (SearchOn p (valueOf (now .place)) allowance) w on) .0 in
             let accepted : Accepted p = accept-accepted s p b z .0 in
             let said : take (f .length) text ≡ rowText p q = written-text p row before accepted q named (write-on p z (finds .text e)) in
             line-is (subst (λ (t : Bytes). Stands (solutionLine (suc (now .count)) t) after (r .length)) said is) (line.solution p z (called answers.Found e) q named few goes)

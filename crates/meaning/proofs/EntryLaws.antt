@@ -20,14 +20,15 @@ use Rattle.meaning.specs.Text.{Item, textOf, readText, said, Passes}
 use Rattle.meaning.specs.Textual.{AlphaText}
 use Rattle.meaning.specs.Passing.{passes}
 use Rattle.meaning.specs.Search.{at}
-use Rattle.meaning.specs.PlaceValue.{PlaceValue, placeValue, Names}
+use Rattle.meaning.specs.PlaceValue.{PlaceValue, Names}
 use Rattle.meaning.specs.Entry.{rowText, WriteOn, WriteCall, onAccepted, noSuchRow, noSolutionRow, tooShort, writes}
 use Rattle.meaning.specs.Entry.{checkOn, checkCall}
+use Rattle.meaning.specs.Given.{namedBy}
 use Rattle.meaning.proofs.ByteLaws.{by-got, got-is, refused-not}
 use Rattle.meaning.proofs.ChoiceLaws.{rows-are}
 use Rattle.meaning.proofs.ProblemReading.{accept-accepted}
 use Rattle.meaning.proofs.Solutions.{solves-is-right}
-use Rattle.meaning.proofs.SecondDemand.{text-read-back, text-passes, Written, solution-written}
+use Rattle.meaning.proofs.SecondDemand.{text-names, text-read-back, text-passes, Written, solution-written}
 use Rattle.meaning.proofs.PassLaws.{passes-is-right}
 use Rattle.meaning.proofs.AlphaTexts.{same-filling}
 
@@ -49,6 +50,7 @@ pub record WrittenText (s : Bytes) (v : PlaceValue) (n : ℕ) (after : Bytes) : 
   pub row : Row
   pub accepted : accept s ≡ got problem
   pub named : Names problem v (at row)
+  pub isSolutionRow : SolutionRow problem row
   pub text : take n after ≡ rowText problem row
   pub yes : checkCall s (take n after) ≡ got true
 
@@ -75,30 +77,41 @@ written-passes s v buffer after n b (onAccepted p e w) = go w refl
           row = r;
           accepted = e;
           named = m;
+          isSolutionRow = h;
           text = front;
           yes = ap (checkCall s) front ∙ row-text-passes s p r b e (m .isPlace) h;
         }
 
--- FOR EVERY TEXT THAT PASSES there is a row whose text, when it is written, names the same filling
-pub record RowOfText (p : Problem) (is : List Item) : Type 0 where
-  pub row : Row
-  pub value : PlaceValue
-  pub named : Names p value (at row)
-  pub isSolutionRow : SolutionRow p row
-  pub sameFilling : said (textOf p row) ≡ said is
+-- A YES rests on a problem that is accepted and a text that can be read
+pub yes-read : (s text : Bytes) → checkCall s text ≡ got true
+    → (p : Problem) × (is : List Item) × (accept s ≡ got p) × (readText text ≡ got is)
+unfolding checkCall checkOn
+yes-read s text y =
+    by-got (accept s) (λ p. checkOn p text) y
+    (λ p e q. by-got (readText text) (λ is. got (passes p is)) q (λ is f z. (p, is, e, f)))
 
-pub passing-written : (s text : Bytes) (p : Problem) (is : List Item)
-    → All Byte s → accept s ≡ got p → readText text ≡ got is → checkCall s text ≡ got true → RowOfText p is
-passing-written s text p is b e r h =
-    let x : Passes p is = check-is-right s text p is e r .0 h in
+-- FOR EVERY TEXT THAT PASSES there is a row whose text names the same filling
+pub record RowOfText (s text : Bytes) : Type 0 where
+  pub problem : Problem
+  pub row : Row
+  pub accepted : accept s ≡ got problem
+  pub isRow : IsRow problem row
+  pub isSolutionRow : SolutionRow problem row
+  pub names : namedBy (rowText problem row) ≡ namedBy text
+
+pub passing-written : (s text : Bytes) → All Byte s → checkCall s text ≡ got true → RowOfText s text
+passing-written s text b y =
+    let (p, is, e, f) = yes-read s text y in
     let a : Accepted p = accept-accepted s p b e .0 in
-    let w : Written p (said is) = solution-written p (said is) a x in
+    let w : Written p (said is) = solution-written p (said is) a (check-is-right s text p is e f .0 y) in
+    let back = text-read-back p (w .row) a (w .isRow) (w .isSolutionRow) in
     record {
+      problem = p;
       row = w .row;
-      value = placeValue (at (w .row));
-      named = record { isPlace = rows-are p (w .row) .0 (w .isRow); isValue = refl };
+      accepted = e;
+      isRow = rows-are p (w .row) .0 (w .isRow);
       isSolutionRow = solves-is-right p (w .row) a (w .isRow) .0 (w .isSolutionRow);
-      sameFilling = w .says;
+      names = text-names (rowText p (w .row)) back ∙ ap got (w .says) ∙ sym (text-names text f);
     }
 
 -- T-07: "Two passing texts of one problem then differ only in bound names exactly when they name the same solution"
@@ -113,29 +126,19 @@ pub record PassingTexts (s text text′ : Bytes) : Type 0 where
   pub solution′ : Solution problem (said items′)
   pub same : (said items ≡ said items′) ↔ AlphaText items items′
 
--- What a yes rests on: a problem that is accepted, and a text that can be read
-yes-read : (s text : Bytes) (p : Problem) → accept s ≡ got p → checkCall s text ≡ got true
-    → (is : List Item) × (readText text ≡ got is) × Solution p (said is)
-unfolding checkCall checkOn
-yes-read s text p a y =
-    by-got (readText text) (λ is. got (passes p is)) (sym (ap (λ (x : Answer Problem). after x (λ q. checkOn q text)) a) ∙ y)
-    (λ is r e. (is, r, passes-is-right p is .0 (got-is e)))
-
 pub passing-texts : (s text text′ : Bytes) → All Byte text → All Byte text′ → checkCall s text ≡ got true → checkCall s text′ ≡ got true
     → PassingTexts s text text′
-unfolding checkCall
 passing-texts s text text′ b c y y′ =
-    by-got (accept s) _ y (λ p a e.
-    let (is, r, x) = yes-read s text p a y in
-    let (js, q, z) = yes-read s text′ p a y′ in
+    let (p, is, a, r) = yes-read s text y in
+    let (q, js, a′, r′) = yes-read s text′ y′ in
     record {
       problem = p;
       accepted = a;
       items = is;
       reads = r;
-      solution = x;
+      solution = check-is-right s text p is a r .0 y;
       items′ = js;
-      reads′ = q;
-      solution′ = z;
-      same = same-filling text text′ is js b c r q;
-    })
+      reads′ = r′;
+      solution′ = check-is-right s text′ p js a r′ .0 y′;
+      same = same-filling text text′ is js b c r r′;
+    }

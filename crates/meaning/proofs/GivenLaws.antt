@@ -4,7 +4,6 @@ use mathlib.Core.Path.{_≡_, refl, ap, ap₂, sym, _∙_, subst, fun-ext}
 use Prim.Native.Nat.{ℕ, _≤_}
 use mathlib.Core.Bool.{true}
 use mathlib.Core.List.{List, [], _∷_, map, List·Memᴰ·head, List·Memᴰ·tail, Memᴰ·append-left}
-use native.Mathlib.Omega.{arith}
 use lib.ListN.{length, take, drop, take-append-drop}
 use Rattle.meaning.specs.Limits.{maxWritten}
 use Rattle.meaning.specs.Basics.{Bytes, Pairwise, _∈_}
@@ -15,9 +14,8 @@ use Rattle.meaning.specs.Rows.{rows}
 use Rattle.meaning.specs.FullList.{IsFullList, Listed}
 use Rattle.meaning.specs.Candidate.{solves}
 use Rattle.meaning.specs.Solution.{Solution}
-use Rattle.meaning.specs.Read.{Answer, after, got}
+use Rattle.meaning.specs.Read.{Answer, got}
 use Rattle.meaning.specs.Readable.{Accepted}
-use Rattle.meaning.specs.Text.{Item, said}
 use Rattle.meaning.specs.Search.{at}
 use Rattle.meaning.specs.PlaceValue.{Names, PlaceValue}
 use Rattle.meaning.specs.Entry.{WriteOn, rowText}
@@ -27,8 +25,8 @@ use Rattle.meaning.proofs.Lists.{map-mem}
 use Rattle.meaning.proofs.ChoiceLaws.{rows-are}
 use Rattle.meaning.proofs.Solutions.{row-solution-unique, solves-is-right}
 use Rattle.meaning.proofs.TextLaws.{text-says}
-use Rattle.meaning.proofs.SecondDemand.{text-read-back, text-within}
-use Rattle.meaning.proofs.WriteLaws.{when-room, written-text}
+use Rattle.meaning.proofs.SecondDemand.{text-names, text-read-back}
+use Rattle.meaning.proofs.WriteLaws.{when-large, written-text}
 
 take-mem : {A : Type 0} {x : A} (n : ℕ) (xs : List A) → x ∈ take n xs → x ∈ xs
 take-mem {A} {x} n xs m = subst (λ (l : List A). x ∈ l) (take-append-drop n xs) (Memᴰ·append-left (drop n xs) m)
@@ -50,16 +48,14 @@ module _ (p : Problem) (accepted : Accepted p) (r : Row) (σ : Filling) (isRow :
 
   -- its text names the solution
   pub text-named : namedBy (rowText p r) ≡ got σ
-  unfolding namedBy
   text-named =
-      ap (λ (x : Answer (List Item)). after x (λ is. got (said is))) (text-read-back p r accepted in-rows tested)
+      text-names (rowText p r) (text-read-back p r accepted in-rows tested)
       ∙ ap got (text-says p r accepted tested ∙ sym (fun-ext (row-solution-unique p r σ accepted solution bodies)))
 
   row-written : (before after : Bytes) (a : Answer ℕ) → maxWritten ≤ length before → WriteOn p (givenRow (r, σ)) before a after
       → (n : ℕ) × (a ≡ got n)
   row-written before after a room w =
-      let fits : length (rowText p r) ≤ length before = omega (arith, text-within p r accepted tested) in
-      (length (rowText p r), when-room p (givenRow (r, σ)) before accepted r named solved fits w .0)
+      let (n, gives, text) = when-large p (givenRow (r, σ)) before accepted r named solved room w in (n, gives)
 
   text-of : (text : Bytes) → TextOf p (givenRow (r, σ)) text → namedBy text ≡ got σ
   text-of text t =

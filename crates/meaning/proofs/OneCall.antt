@@ -1,11 +1,13 @@
 -- One search call: it always has a reply that it may give, and is free only in how far a pause goes.
---   Alike   two replies that differ at most in how far a pause goes
+--   Alike        two replies that differ at most in how far a pause goes
+--   NamedReply   the row and the place in a reply are ones of the problem
 use mathlib.Core.Path.{_≡_, refl, ap, sym, _∙_, subst}
 use mathlib.Core.Logic.{_⊎_, inl, inr, _↔_}
 use Prim.Native.Nat.{ℕ, zero, suc, _<_}
-use mathlib.Core.List.{List, [], _∷_, _++_, append-nil, List·Memᴰ·head, Memᴰ·append-left, Memᴰ·append-right}
+use mathlib.Core.List.{List, [], _∷_, _++_, append-assoc, append-nil, List·Memᴰ·head, Memᴰ·append-left, Memᴰ·append-right}
 use native.Mathlib.Omega.{arith}
 use lib.ListN.{length, length-append}
+use lib.Seq.{append-snoc}
 use Rattle.meaning.specs.Basics.{All, Distinct, _∈_, Bytes, Byte}
 use Rattle.meaning.specs.Problem.{Problem}
 use Rattle.meaning.specs.Row.{Row, SolutionRow}
@@ -19,9 +21,9 @@ use Rattle.meaning.specs.Entry.{HostReply, replyValue, SearchOn, SearchC
 use Rattle.meaning.proofs.Lists.{never, all-mem, mem-all}
 use Rattle.meaning.proofs.ByteLaws.{got-is, refused-not}
 use Rattle.meaning.proofs.ProblemReading.{accept-accepted}
-use Rattle.meaning.proofs.ChoiceLaws.{rows-are, rows-once}
+use Rattle.meaning.proofs.ChoiceLaws.{rows-once}
 use Rattle.meaning.proofs.Solutions.{solution-row-told}
-use Rattle.meaning.proofs.PlaceLaws.{value-names-one, named-place, rows-from}
+use Rattle.meaning.proofs.PlaceLaws.{from-place, value-names-one, named-place, rows-from}
 
 pub data Alike {R P : Type 0} : Reply R P → Reply R P → Type 0 where
   same : {x y : Reply R P} → x ≡ y → Alike x y
@@ -125,7 +127,7 @@ value-alike : {x y : Reply Row (Place Row)} → Alike x y → Alike (replyValue 
 value-alike (same e) = same (ap replyValue e)
 value-alike bothPause = bothPause
 
-pub some-kept : (p : Problem) → Accepted p → (before from : List Row) → rows p ≡ before ++ from → (n : ℕ)
+some-kept : (p : Problem) → Accepted p → (before from : List Row) → rows p ≡ before ++ from → (n : ℕ)
     → (reply : Reply Row (Place Row)) × Keeps (SolutionRow p) n from reply
 some-kept p a before from e n =
     some-keeps (SolutionRow p) n from
@@ -177,32 +179,57 @@ module _ (p : Problem) (v : PlaceValue) (n : ℕ) where
       let (reply, keeps, is) = when-placed place from a h m g c in
       subst (Alike _) (sym is) (value-alike (alike (SolutionRow p) refl k keeps))
 
--- The row of a Found
-pub found-row : (p : Problem) (v : PlaceValue) (n : ℕ) {row next : PlaceValue} → SearchOn p v n (found row next)
-    → (r : Row) × Names p row (at r) × SolutionRow p r
-found-row p v n {row} {next} c = go c refl
-  where
-    in-rows : {from : List Row} {reply : Reply Row (Place Row)} (before : List Row) → rows p ≡ before ++ from → Keeps (SolutionRow p) n from reply
-        → replyValue reply ≡ found row next → (r : Row) × Names p row (at r) × SolutionRow p r
-    in-rows before w (finds skipped r later a h l) e =
-        let m : r ∈ rows p =
-        subst (λ (rs : List Row). r ∈ rs) (sym w) (Memᴰ·append-right before (Memᴰ·append-right skipped (List·Memᴰ·head refl))) in
-        let value : row ≡ placeValue (at r) = cc in
-        (r, record { isPlace = rows-are p r .0 m; isValue = value }, h)
-    in-rows before w (ends from a l) e = never (cc)
-    in-rows before w (pauses passed r later a l) e = never (cc)
+-- What a reply names: the row of a Found is a solution row, and what a call leaves is a place
+abbrev pub NamedReply : Problem → HostReply → Type 0
+NamedReply p (found row next) = ((r : Row) × Names p row (at r) × SolutionRow p r) × ((place : Place Row) × Names p next place)
+NamedReply p (end next) = (place : Place Row) × Names p next place
+NamedReply p (paused next) = (place : Place Row) × Names p next place
+NamedReply p (refusedCall r) = Unit {0}
 
-    go : {x : HostReply} → SearchOn p v n x → x ≡ found row next → (r : Row) × Names p row (at r) × SolutionRow p r
-    go (noAllowance z) e = never (cc)
-    go (noSuchPlace l none) e = never (cc)
-    go (searches l place m from f k) e = in-rows (f .before) (f .whole) k e
+module _ (p : Problem) where
+  begin-at : (before passed later : List Row) → rows p ≡ before ++ (passed ++ later) → Names p (placeValue (placeOf later)) (placeOf later)
+  begin-at before passed later w =
+      let from : From (rows p) (placeOf later) later =
+      record { before = before ++ passed; whole = w ∙ sym (append-assoc before passed later); begins = refl } in
+      record { isPlace = from-place p (placeOf later) later from; isValue = refl }
+
+  kept-named : {n : ℕ} {from : List Row} {reply : Reply Row (Place Row)} (before : List Row) → rows p ≡ before ++ from
+      → Keeps (SolutionRow p) n from reply → NamedReply p (replyValue reply)
+  kept-named before w (finds skipped r later a h l) = (
+    (r, begin-at before skipped (r ∷ later) w, h),
+    (
+      placeOf later,
+      begin-at before (skipped ++ (r ∷ [])) later (w ∙ ap (λ (rs : List Row). before ++ rs) (sym (append-snoc skipped r later))),
+    ),
+  )
+  kept-named before w (ends from a l) = (past, record { isPlace = tt; isValue = refl })
+  kept-named before w (pauses passed r later a l) = (at r, begin-at before passed (r ∷ later) w)
+
+  pub reply-named : {v : PlaceValue} {n : ℕ} {reply : HostReply} → SearchOn p v n reply → NamedReply p reply
+  reply-named (noAllowance z) = tt
+  reply-named (noSuchPlace l none) = tt
+  reply-named (searches l place m from f k) = kept-named (f .before) (f .whole) k
+
+  -- a call with an allowance, at one of the problem's places, is not refused
+  pub not-refused : {v : PlaceValue} {n r : ℕ} (place : Place Row) → Names p v place → 0 < n → SearchOn p v n (refusedCall r) → ⊥
+  not-refused {v} {n} {r} place named l c = go c refl
+    where
+      kept : {from : List Row} {reply : Reply Row (Place Row)} → Keeps (SolutionRow p) n from reply → replyValue reply ≡ refusedCall r → ⊥
+      kept (finds skipped q later a h m) z = never (cc)
+      kept (ends from a m) z = never (cc)
+      kept (pauses passed q later a m) z = never (cc)
+
+      go : {reply : HostReply} → SearchOn p v n reply → reply ≡ refusedCall r → ⊥
+      go (noAllowance z) e = omega arith
+      go (noSuchPlace h none) e = none place named
+      go (searches h q m from f k) e = kept k e
 
 -- A call on any bytes
 pub search-on : {s : Bytes} {v : PlaceValue} {n : ℕ} {x : HostReply} (p : Problem) → accept s ≡ got p → SearchCall s v n x → SearchOn p v n x
 search-on p e (notAccepted q f) = absurd (refused-not (sym f ∙ e))
 search-on {v = v} {n} {x} p e (onAccepted q f c) = subst (λ (y : Problem). SearchOn y v n x) (got-is (sym f ∙ e)) c
 
-when-refused : {s : Bytes} {v : PlaceValue} {n : ℕ} {x : HostReply} (r : ℕ) → accept s ≡ refused r → SearchCall s v n x → x ≡ refusedCall r
+pub when-refused : {s : Bytes} {v : PlaceValue} {n : ℕ} {x : HostReply} (r : ℕ) → accept s ≡ refused r → SearchCall s v n x → x ≡ refusedCall r
 when-refused r e (notAccepted q f) = let z : q ≡ r = cc in ap refusedCall z
 when-refused r e (onAccepted p f c) = absurd (refused-not (sym e ∙ f))
 

@@ -188,6 +188,9 @@ value-names-one p v (at r) past a n m = absurd (row-not-past r (sym (n .isValue)
 value-names-one p v past (at s) a n m = absurd (row-not-past s (sym (m .isValue) ∙ n .isValue))
 value-names-one p v past past a n m = refl
 
+pub value-names-row : (p : Problem) (v : PlaceValue) (r s : Row) → Accepted p → Names p v (at r) → Names p v (at s) → r ≡ s
+value-names-row p v r s a n m = let z : _≡_ {A = Place Row} (at r) (at s) = value-names-one p v (at r) (at s) a n m in cc
+
 -- ... and which, if any, can be told
 pub named-row : (p : Problem) (v : PlaceValue) → ((r : Row) × Names p v (at r)) ⊎ ((r : Row) → Names p v (at r) → ⊥)
 named-row p v = go (find-row v (rows p))

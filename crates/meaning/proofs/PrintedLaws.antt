@@ -14,7 +14,7 @@ use Rattle.meaning.specs.FullList.{IsFullList, Listed}
 use Rattle.meaning.specs.Read.{got}
 use Rattle.meaning.specs.Readable.{Accepted}
 use Rattle.meaning.specs.Accept.{accept}
-use Rattle.meaning.specs.Search.{Place, at, end}
+use Rattle.meaning.specs.Search.{at, end}
 use Rattle.meaning.specs.PlaceValue.{Names, PlaceValue}
 use Rattle.meaning.specs.Entry.{HostReply, rowText}
 use Rattle.meaning.specs.Calls.{HasEnd, HostCall, ThirdDemandOf, foundIn, founds, givenRow}
@@ -22,7 +22,7 @@ use Rattle.meaning.specs.Program.{Lines, Output, countLine, ended, lists
 use Rattle.meaning.proofs.Lists.{map-mem, mem-all, never}
 use Rattle.meaning.proofs.ByteLaws.{got-is, refused-not}
 use Rattle.meaning.proofs.ProblemReading.{accept-accepted}
-use Rattle.meaning.proofs.PlaceLaws.{value-names-one}
+use Rattle.meaning.proofs.PlaceLaws.{value-names-row}
 use Rattle.meaning.proofs.CallLaws.{third-demand}
 
 abbrev pub numbered : Problem → ℕ → List Listed → List Bytes
@@ -67,10 +67,7 @@ module _ (p : Problem) (accepted : Accepted p) where
     stops : Stops (k + count) (k + length xs) last
 
   same-row : (row : PlaceValue) (r : Row) (x : Listed) → Names p row (at r) → row ≡ givenRow x → IsRow p (x .0) → r ≡ x .0
-  same-row row r x m e i =
-      let z : _≡_ {A = Place Row} (at r) (at (x .0)) =
-      value-names-one p row (at r) (at (x .0)) accepted m (record { isPlace = i; isValue = e }) in
-      cc
+  same-row row r x m e i = value-names-row p row r (x .0) accepted m (record { isPlace = i; isValue = e })
 
   -- the first is printed, and the others after it
   one-more : (k : ℕ) (r : Row) (x : Listed) (xs : List Listed) (lines : List Bytes) → r ≡ x .0 → From (suc k) xs lines

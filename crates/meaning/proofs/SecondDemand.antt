@@ -1,13 +1,13 @@
 -- The second demand, as far as it concerns definitions: every written text is read back and passes, and every solution has a row whose
 -- text names it. That a text passes exactly when the filling that it names is a solution is the definition `Passes`.
-use mathlib.Core.Path.{_≡_, sym, _∙_, subst, fun-ext}
+use mathlib.Core.Path.{_≡_, ap, sym, _∙_, subst, fun-ext}
 use Prim.Native.Nat.{ℕ, suc, _≤_}
 use mathlib.Core.Bool.{Bool, true, false}
 use mathlib.Core.List.{List, [], _∷_}
 use native.Mathlib.Omega.{arith}
 use lib.ListN.{length}
 use Rattle.meaning.specs.Limits.{maxInput, maxText, maxWritten, metavariableCount}
-use Rattle.meaning.specs.Basics.{choose, keep, upTo, _∈_}
+use Rattle.meaning.specs.Basics.{Bytes, choose, keep, upTo, _∈_}
 use Rattle.meaning.specs.Problem.{Problem, metavariables}
 use Rattle.meaning.specs.Filling.{Filling}
 use Rattle.meaning.specs.Solution.{Solution}
@@ -15,10 +15,11 @@ use Rattle.meaning.specs.Row.{Row}
 use Rattle.meaning.specs.Rows.{rows}
 use Rattle.meaning.specs.Candidate.{candidate, solves}
 use Rattle.meaning.specs.Encoded.{encodeText}
-use Rattle.meaning.specs.Text.{textOf, readText, said, Passes}
+use Rattle.meaning.specs.Text.{Item, textOf, readText, said, Passes}
 use Rattle.meaning.specs.Field.{encodeProblem}
-use Rattle.meaning.specs.Read.{got}
+use Rattle.meaning.specs.Read.{Answer, after, got}
 use Rattle.meaning.specs.Readable.{Accepted}
+use Rattle.meaning.specs.Given.{namedBy}
 use Rattle.meaning.proofs.ChoiceLaws.{rows-are}
 use Rattle.meaning.proofs.Proper.{accepted-proper}
 use Rattle.meaning.proofs.Solutions.{row-solution-unique, solution-complete, solves-is-right, candidate-solution, OnlyRow}
@@ -52,6 +53,11 @@ text-within p r a e =
 pub text-fits : (p : Problem) (r : Row) → Accepted p → solves p r ≡ true → length (encodeText (textOf p r)) ≤ maxText
 unfolding maxText maxWritten
 text-fits p r a e = omega (arith, text-within p r a e)
+
+-- What a text names that can be read
+pub text-names : (text : Bytes) {is : List Item} → readText text ≡ got is → namedBy text ≡ got (said is)
+unfolding namedBy
+text-names text e = ap (λ (x : Answer (List Item)). after x (λ js. got (said js))) e
 
 -- EVERY WRITTEN TEXT READS BACK
 pub text-read-back : (p : Problem) (r : Row) → Accepted p → r ∈ rows p → solves p r ≡ true

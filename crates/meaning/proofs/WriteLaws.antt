@@ -7,23 +7,22 @@ use native.Mathlib.Decide.{decLt}
 use native.Mathlib.Omega.{arith}
 use lib.ListN.{length, take, drop}
 use lib.Seq.{take-at}
+use Rattle.meaning.specs.Limits.{maxWritten}
 use Rattle.meaning.specs.Basics.{All, Bytes, Byte}
 use Rattle.meaning.specs.Problem.{Problem}
 use Rattle.meaning.specs.Row.{Row, SolutionRow}
 use Rattle.meaning.specs.Read.{Answer, refused, got}
 use Rattle.meaning.specs.Readable.{Accepted}
 use Rattle.meaning.specs.Accept.{accept}
-use Rattle.meaning.specs.Search.{Place, at}
+use Rattle.meaning.specs.Search.{at}
 use Rattle.meaning.specs.PlaceValue.{PlaceValue, Names}
 use Rattle.meaning.specs.Entry.{rowText, WriteOn, WriteCall, notAccepted, onAccepted, noSuchRow, noSolutionRow, tooShort, writes}
 use Rattle.meaning.proofs.ByteLaws.{got-is, refused-not}
 use Rattle.meaning.proofs.ChoiceLaws.{rows-are}
 use Rattle.meaning.proofs.ProblemReading.{accept-accepted}
-use Rattle.meaning.proofs.Solutions.{solution-row-told}
-use Rattle.meaning.proofs.PlaceLaws.{value-names-one, named-row}
-
-at-injective : {r q : Row} → _≡_ {A = Place Row} (at r) (at q) → r ≡ q
-at-injective e = cc
+use Rattle.meaning.proofs.Solutions.{solution-row-told, solves-is-right}
+use Rattle.meaning.proofs.SecondDemand.{text-within}
+use Rattle.meaning.proofs.PlaceLaws.{value-names-row, named-row}
 
 -- A call on an accepted problem: its answer and the buffer after it, by what it is given
 module _ (p : Problem) (v : PlaceValue) (buffer : Bytes) where
@@ -36,7 +35,7 @@ module _ (p : Problem) (v : PlaceValue) (buffer : Bytes) where
 
   module _ (accepted : Accepted p) (r : Row) (named : Names p v (at r)) where
     same-row : {k : Row} → Names p v (at k) → k ≡ r
-    same-row {k} m = at-injective (value-names-one p v (at k) (at r) accepted m named)
+    same-row {k} m = value-names-row p v k r accepted m named
 
     when-other : {a : Answer ℕ} {after : Bytes} → (SolutionRow p r → ⊥) → WriteOn p v buffer a after → (a ≡ refused 17) × (after ≡ buffer)
     when-other none (noSuchRow h) = absurd (h r named)
@@ -62,6 +61,14 @@ module _ (p : Problem) (v : PlaceValue) (buffer : Bytes) where
         ap (λ (y : Row). got (length (rowText p y))) (same-row m),
         ap (λ (y : Row). rowText p y ++ drop (length (rowText p y)) buffer) (same-row m),
       )
+
+      -- ... as it is in a buffer with room for any text
+      pub when-large : {a : Answer ℕ} {after : Bytes} → maxWritten ≤ length buffer → WriteOn p v buffer a after
+          → (n : ℕ) × (a ≡ got n) × (take n after ≡ rowText p r)
+      when-large large w =
+          let within = text-within p r accepted (solves-is-right p r accepted (rows-are p r .1 (named .isPlace)) .1 solution) in
+          let (gives, holds) = when-room (omega arith) w in
+          (length (rowText p r), gives, ap (take (length (rowText p r))) holds ∙ take-at (rowText p r) _ (length (rowText p r)) refl)
 
     -- what is written is the text of the row
     pub written-text : {n : ℕ} {after : Bytes} → WriteOn p v buffer (got n) after → take n after ≡ rowText p r

@@ -4,28 +4,28 @@
 use mathlib.Core.Path.{_≡_, refl, ap, sym, _∙_, subst}
 use mathlib.Core.Logic.{_↔_, ⊎-elim}
 use mathlib.Core.Bool.{Bool, true, false}
-use mathlib.Core.List.{List, [], _∷_, _++_, map, List·Memᴰ·cases-cons, List·Memᴰ·head, List·Memᴰ·not-nil, List·Memᴰ·tail, Memᴰ·append-right}
+use mathlib.Core.List.{List, [], _∷_, _++_, map, List·Memᴰ·cases-cons, List·Memᴰ·head, List·Memᴰ·not-nil, List·Memᴰ·tail}
 use Prim.Native.Nat.{ℕ, _+_, _<_}
 use native.Mathlib.Nat.{zero-add}
 use native.Mathlib.Omega.{arith}
 use lib.Dec.{eqb}
 use lib.ListN.{length}
 use Rattle.meaning.specs.Limits.{maxFunctions}
-use Rattle.meaning.specs.Basics.{All, Byte, Bytes, choose, _∈_}
+use Rattle.meaning.specs.Basics.{All, Byte, Bytes, choose}
 use Rattle.meaning.specs.Problem.{Problem}
 use Rattle.meaning.specs.Read.{Answer, after, got, refused}
 use Rattle.meaning.specs.Readable.{Accepted}
-use Rattle.meaning.specs.Row.{Row, SolutionRow}
+use Rattle.meaning.specs.Row.{Row}
 use Rattle.meaning.specs.Rows.{rows}
 use Rattle.meaning.specs.Accept.{accept}
-use Rattle.meaning.specs.Search.{Keeps, Place, Reply, at, end, ends, finds, found, past, paused, pauses, placeOf, refusedCall, start}
-use Rattle.meaning.specs.PlaceValue.{IsPlace, PlaceValue, placeValue}
-use Rattle.meaning.specs.Entry.{HostReply, SearchCall, noAllowance, noSuchPlace, notAccepted, onAccepted, replyValue, searches, startCall}
+use Rattle.meaning.specs.Search.{Place, at, end, found, paused, refusedCall, start}
+use Rattle.meaning.specs.PlaceValue.{IsPlace, Names, PlaceValue, placeValue}
+use Rattle.meaning.specs.Entry.{HostReply, SearchCall, notAccepted, onAccepted, startCall}
 use Rattle.meaning.specs.Calls.{HasEnd, HostCall, Run, allowed, foundIn, founds, left, positive}
 use Rattle.meaning.proofs.Lists.{choose-false, choose-true, eqb-other, never}
 use Rattle.meaning.proofs.ProblemReading.{accept-accepted}
-use Rattle.meaning.proofs.CallLaws.{end-here, end-later, which-end}
-use Rattle.meaning.proofs.ChoiceLaws.{rows-are}
+use Rattle.meaning.proofs.CallLaws.{end-here, end-later, no-end, which-end}
+use Rattle.meaning.proofs.OneCall.{NamedReply, reply-named}
 use Rattle.meaning.proofs.PlaceLaws.{from-place, place-long}
 use Rattle.words.specs.Words.{hasPlace, placeOfWords}
 use Rattle.words.proofs.WordLaws.{placed-back}
@@ -44,31 +44,18 @@ LongReply (end next) = Long next
 LongReply (paused next) = Long next
 LongReply (refusedCall r) = Unit {0}
 
-module _ (p : Problem) (accepted : Accepted p) where
-  row-in : (before from : List Row) → rows p ≡ before ++ from → (r : Row) → r ∈ from → Long (placeValue (at r))
-  row-in before from e r m =
-      place-long p (at r) accepted
-      (rows-are p r .0 (subst (λ (rs : List Row). r ∈ rs) (sym e) (Memᴰ·append-right before m)))
+named-long : (p : Problem) {v : PlaceValue} (place : Place Row) → Accepted p → Names p v place → Long v
+named-long p place a m = ap (λ (v : PlaceValue). length (v .masks)) (m .isValue) ∙ place-long p place a (m .isPlace)
 
-  next-in : (before from later : List Row) → rows p ≡ before ++ from → ((r : Row) → r ∈ later → r ∈ from) → Long (placeValue (placeOf later))
-  next-in before from [] e h = place-long p past accepted tt
-  next-in before from (r ∷ later) e h = row-in before from e r (h r (List·Memᴰ·head refl))
+reply-long : (p : Problem) (reply : HostReply) → Accepted p → NamedReply p reply → LongReply reply
+reply-long p (found row next) a ((r, m, h), (place, k)) = (named-long p (at r) a m, named-long p place a k)
+reply-long p (end next) a (place, k) = named-long p place a k
+reply-long p (paused next) a (place, k) = named-long p place a k
+reply-long p (refusedCall r) a h = tt
 
-  kept-long : {n : ℕ} {from : List Row} {reply : Reply Row (Place Row)} (before : List Row) → rows p ≡ before ++ from
-      → Keeps (SolutionRow p) n from reply → LongReply (replyValue reply)
-  kept-long before e (finds skipped r later a h l) = (
-    row-in before _ e r (Memᴰ·append-right skipped (List·Memᴰ·head refl)),
-    next-in before _ later e (λ x m. Memᴰ·append-right skipped (List·Memᴰ·tail m)),
-  )
-  kept-long before e (ends from a l) = place-long p past accepted tt
-  kept-long before e (pauses passed r later a l) = row-in before _ e r (Memᴰ·append-right passed (List·Memᴰ·head refl))
-
-reply-long : (s : Bytes) (v : PlaceValue) (n : ℕ) (reply : HostReply) → All Byte s → SearchCall s v n reply → LongReply reply
-reply-long s v n reply b (notAccepted r e) = tt
-reply-long s v n reply b (onAccepted p e (noAllowance z)) = tt
-reply-long s v n reply b (onAccepted p e (noSuchPlace z none)) = tt
-reply-long s v n reply b (onAccepted p e (searches z place names from f keeps)) =
-    kept-long p (accept-accepted s p b e .0) (f .before) (f .whole) keeps
+call-long : (s : Bytes) (v : PlaceValue) (n : ℕ) (reply : HostReply) → All Byte s → SearchCall s v n reply → LongReply reply
+call-long s v n reply b (notAccepted r e) = tt
+call-long s v n reply b (onAccepted p e c) = reply-long p reply (accept-accepted s p b e .0) (reply-named p c)
 
 -- One call more at the front
 pub record AsCalls (s : Bytes) (place : List ℕ) (cs : List CCall) : Type 0 where
@@ -84,7 +71,7 @@ no-calls s place =
       calls = [];
       run = tt;
       founds-are = refl;
-      ends-are = (λ x. absurd (List·Memᴰ·not-nil (x .1)), λ h. absurd (List·Memᴰ·not-nil (h .isIn)));
+      ends-are = (λ x. absurd (List·Memᴰ·not-nil (x .1)), λ h. absurd (no-end h));
       allowances-are = refl;
     }
 
@@ -193,7 +180,7 @@ module _ (s : Bytes) (place : List ℕ) (c : CCall) (cs : List CCall) where
       go true long a moved gives =
           one-call (x .reply) long (x .call)
           (seen-as (x .reply) (search-numbers s (placeOfWords place) (c .allowance) (x .reply) true (x .call))
-          (reply-long s (placeOfWords place) (c .allowance) (x .reply) b (x .call)) a moved gives)
+          (call-long s (placeOfWords place) (c .allowance) (x .reply) b (x .call)) a moved gives)
           rest
       go false short a moved gives =
           let below = short-refused (x .reply) (search-numbers s (placeOfWords place) (c .allowance) (x .reply) false (x .call)) in

@@ -1,6 +1,6 @@
--- Lists of calls of `search` and of `search_open` are document 01's: the same rows found, an End in both or in neither, the same allowances.
+-- Lists of calls of `search`, and of `search_open` and `search_owned`, are document 01's: the same rows found, an End in both or in neither, the same allowances.
 use mathlib.Core.Path.{_≡_, refl, ap, ap₂, sym, _∙_, subst}
-use mathlib.Core.Logic.{_↔_}
+use mathlib.Core.Logic.{_↔_, inl, inr}
 use mathlib.Core.List.{List, [], _∷_, _++_, map, map-append}
 use Prim.Native.Nat.{ℕ, _+_}
 use Rattle.meaning.specs.Basics.{Bytes}
@@ -14,8 +14,10 @@ use Rattle.places.specs.declared.Place.{Place}
 use Rattle.search.specs.Calling.{Answers, hostReply, replyWith}
 use Rattle.seeking.specs.declared.Answer.{Answer}
 use Rattle.seeking.specs.declared.Answer.the-variants as answers
+use Rattle.matcher.specs.Opened.{searchedBy}
 use Rattle.matcher.specs.declared.OpenSearch.{OpenSearch}
-use Rattle.promises.specs.Lists.{CarriedCall, CarriedEnd, CarriedRun, KeptCall, KeptRun, carriedAllowed, carriedFound, keptCalls, rowFound}
+use Rattle.promises.specs.Lists.{CarriedCall, CarriedEnd, CarriedRun, KeptCall, KeptCalled, KeptRun, carriedAllowed}
+use Rattle.promises.specs.Lists.{carriedFound, keptCalls, rowFound}
 
 abbrev pub callOf : CarriedCall → HostCall
 callOf c = record { allowance = c .allowance; reply = hostReply (c .gave) }
@@ -27,11 +29,17 @@ carried-run s place (c ∷ cs) r =
     let h : Answers s place (c .allowance) (c .gave) = r .0 .1 in
     (h .call, subst (λ (v : PlaceValue). Run (SearchCall s) v (map callOf cs)) (h .leaves) (carried-run s (c .gave .place) cs (r .1)))
 
+kept-call : {s : Bytes} {kept : OpenSearch} {c : KeptCall} → KeptCalled s kept c
+    → Answers s (kept .place) (c .allowance) (searchedBy (c .leaves .place) (c .reply))
+kept-call (inl lent) = lent
+kept-call (inr handed) = handed .1
+
 pub kept-run : (s : Bytes) (kept : OpenSearch) (cs : List KeptCall) → KeptRun s kept cs
     → Run (SearchCall s) (valueOf (kept .place)) (map callOf (keptCalls cs))
 kept-run s kept [] r = tt
 kept-run s kept (c ∷ cs) r =
-    (r .0 .call, subst (λ (v : PlaceValue). Run (SearchCall s) v (map callOf (keptCalls cs))) (r .0 .leaves) (kept-run s (c .leaves) cs (r .1)))
+    let h : Answers s (kept .place) (c .allowance) (searchedBy (c .leaves .place) (c .reply)) = kept-call (r .0) in
+    (h .call, subst (λ (v : PlaceValue). Run (SearchCall s) v (map callOf (keptCalls cs))) (h .leaves) (kept-run s (c .leaves) cs (r .1)))
 
 -- The rows of the Founds
 found-row : (a : Answer) (row : List ℕ) (v : PlaceValue) → foundIn (replyWith a row v) ≡ map valueOf (rowFound a row)

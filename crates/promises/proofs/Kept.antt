@@ -2,7 +2,7 @@
 --   open-contract   the contract of `search_open`, as it stands in the source, is what the page takes for it
 use mathlib.Core.Path.{_≡_, refl, ap, ap₂, sym, _∙_, subst}
 use mathlib.Core.Logic.{_↔_}
-use mathlib.Core.Bool.{false}
+use mathlib.Core.Bool.{Bool, false}
 use mathlib.Core.List.{List, [], map}
 use Prim.Native.Nat.{ℕ, _<_}
 use native.Mathlib.Omega.{arith}
@@ -22,7 +22,7 @@ use Rattle.meaning.specs.Basics.{All, Byte, Bytes}
 use Rattle.meaning.specs.Problem.{Problem}
 use Rattle.meaning.specs.Read.{Answer, after, got, refused}
 use Rattle.meaning.specs.Accept.{accept}
-use Rattle.meaning.specs.Search.{at, end, found, paused, refusedCall, start}
+use Rattle.meaning.specs.Search.{at, end, found, past, paused, refusedCall, start}
 use Rattle.meaning.specs.PlaceValue.{PlaceValue, masksOf, placeValue}
 use Rattle.meaning.specs.Entry.{HostReply, SearchCall, WriteCall, checkCall, startCall}
 use Rattle.meaning.specs.Calls.{Run, ThirdDemand, givenRow, left}
@@ -30,7 +30,7 @@ use Rattle.meaning.proofs.Lists.{never}
 use Rattle.meaning.proofs.CallLaws as calls
 use Rattle.meaning.proofs.PlaceLaws.{place-long}
 use Rattle.meaning.proofs.WriteLaws.{refused-leaves}
-use Rattle.places.specs.Places.{Starts, valueOf}
+use Rattle.places.specs.Places.{AtPast, AtRow, Starts, valueOf}
 use Rattle.places.specs.declared.Place.{Place}
 use Rattle.places.specs.declared.Start.{Start}
 use Rattle.places.specs.declared.Start.the-variants as starts
@@ -46,9 +46,12 @@ use Rattle.exports.specs.Exported.{SearchExport, StartExport, WriteExport, leng
 use Rattle.exports.specs.Exported.{startInto, withRow, writeCode}
 use Rattle.matcher.proofs.search_open as open-search
 use Rattle.places.proofs.Place.start.Met as start-met
+use Rattle.places.proofs.Place.at.Met as row-at-met
+use Rattle.places.proofs.Place.past_last.Met as past-last-met
 use Rattle.search.proofs.call.search.Met as search-met
 use Rattle.writing.proofs.write.write.Met as write-met
 use Rattle.checking.proofs.check.Met as check-met
+use Rattle.matcher.proofs.OpenSearch.at.Met as opened-met
 use Rattle.matcher.proofs.search_owned.Met as owned-met
 use Rattle.matcher.proofs.search_open.Met as open-met
 use Rattle.exports.proofs.matcher_start.Met as c-start-met
@@ -72,6 +75,14 @@ pub open-contract : {M : Type 1} (𝓤 : URA M) (H : Heap 𝓤) (A : Atoms 𝓤)
     × (open-search.clauses 𝓤 H A mem run spans handed .ensures tt r last
     ≡ fact 𝓤 (OpenCalled (now (handed .0)) (now (handed .1 .0)) (handed .1 .1 .0) r (now (last .0))))
 open-contract 𝓤 H A mem run spans handed r last = (refl, refl)
+
+-- Places that are made
+at-row : {row : List ℕ} {r : Place} → AtRow row r → r ≡ record { masks = row; past = false }
+at-row h = ap₂ (λ (masks : List ℕ) (past : Bool). record { masks = masks; past = past }) (h .masks) (h .here)
+
+at-past : {r : Place} → AtPast r → valueOf r ≡ placeValue past
+unfolding placeValue
+at-past h = ap₂ (λ (masks : List ℕ) (past : Bool). record { masks = masks; isPast = past }) (h .masks) (h .past)
 
 -- The start
 started : (a : Answer PlaceValue) (r : Started) → Starts a r → startAnswer (r .answer) (valueOf (r .place)) ≡ a
@@ -113,6 +124,9 @@ text-stays s v out out′ before (refused n) h w = (refused-leaves s v out out�
 
 unasked : Unasked
 unasked = record {
+  rowsAt = λ spans handed. tt;
+  pastLast = λ spans handed. tt;
+  opens = λ spans handed. tt;
   starts = λ spans handed. tt;
   searches = λ spans handed. tt;
   writes = λ spans handed. tt;
@@ -126,6 +140,9 @@ unasked = record {
 
 ending : Ends
 ending = record {
+  rowsAt = row-at-met.met;
+  pastLast = past-last-met.met;
+  opens = opened-met.met;
   starts = start-met.met;
   searches = search-met.met;
   writes = write-met.met;
@@ -142,6 +159,9 @@ ending = record {
 pub first-demand : FirstDemand
 first-demand = record {
   anything = unasked;
+  rowsAt = λ row r c. at-row c;
+  pastLast = λ r c. at-past c;
+  opens = λ place r c. c;
   starts = λ s r c. started (startCall s) r (c .1);
   searches = λ s place n r c. c .1 .call;
   owned = λ s kept n r c. c .1 .call;

@@ -20,6 +20,8 @@ use Rattle.matcher.specs.declared.OpenSearch.{OpenSearch}
 use Rattle.matcher.specs.declared.Moved.{Moved}
 use Rattle.matcher.specs.declared.Reply.{Reply}
 use Rattle.places.proofs.Place.start.Reads as start
+use Rattle.places.proofs.Place.at.Reads as row-at
+use Rattle.places.proofs.Place.past_last.Reads as past-last
 use Rattle.search.proofs.call.search.Reads as search
 use Rattle.writing.proofs.write.write.Reads as write
 use Rattle.checking.proofs.check.Reads as check
@@ -30,9 +32,12 @@ use Rattle.exports.proofs.matcher_search.Reads as c-search
 use Rattle.exports.proofs.matcher_write.Reads as c-write
 use Rattle.exports.proofs.matcher_check.Reads as c-check
 use Rattle.places.proofs.Place.start.Statement as start-code
+use Rattle.places.proofs.Place.at.Statement as row-at-code
+use Rattle.places.proofs.Place.past_last.Statement as past-last-code
 use Rattle.search.proofs.call.search.Statement as search-code
 use Rattle.writing.proofs.write.write.Statement as write-code
 use Rattle.checking.proofs.check.Statement as check-code
+use Rattle.matcher.proofs.OpenSearch.at.Statement as opened-code
 use Rattle.matcher.proofs.search_owned.Statement as owned-code
 use Rattle.matcher.proofs.search_open.Statement as open-code
 use Rattle.exports.proofs.matcher_start.Statement as c-start-code
@@ -49,7 +54,16 @@ pub record Lent (references : ℕ) : Type 0 where
 abbrev pub lent : {n : ℕ} {A : Type 0} → Lent n → ℕ → A → RefT A
 lent l k x = record { ptr = l .pointer k; name = l .name k; now = x }
 
--- In Rattle
+-- In Rattle: places and open searches are made, and handed to the calls
+abbrev pub RowAtCalled : List ℕ → Place → Type 0
+RowAtCalled row r = row-at.Learnt tt (row, tt) r (row, tt)
+
+abbrev pub PastLastCalled : Place → Type 0
+PastLastCalled r = past-last.Learnt tt tt r tt
+
+abbrev pub OpenedCalled : Place → OpenSearch → Type 0
+OpenedCalled place r = opened.Learnt tt (place, tt) r (place, tt)
+
 abbrev pub StartCalled : Bytes → Started → Type 0
 StartCalled s r = (l : Lent 1) × start.Learnt (l .spans) (lent l 0 s, tt) r (lent l 0 s, tt)
 
@@ -64,9 +78,6 @@ WriteCalled s row out r out′ =
 abbrev pub CheckCalled : Bytes → Bytes → Checked → Type 0
 CheckCalled s text r =
     (l : Lent 2) × check.Learnt (l .spans) (lent l 0 s, (lent l 1 text, tt)) r (lent l 0 s, (lent l 1 text, tt))
-
-abbrev pub OpenedCalled : Place → OpenSearch → Type 0
-OpenedCalled place r = opened.Learnt tt (place, tt) r (place, tt)
 
 abbrev pub OwnedCalled : OpenSearch → Bytes → ℕ → Moved → Type 0
 OwnedCalled kept s n r = (l : Lent 1) × owned.Learnt (l .spans) (kept, (lent l 0 s, (n, tt))) r (kept, (lent l 0 s, (n, tt)))
@@ -98,6 +109,9 @@ CCheckCalled s text r =
 
 -- Whatever they are handed
 pub record Unasked : Type 0 where
+  pub rowsAt : (spans : Lfts 0) (handed : _) → row-at.Asked spans handed
+  pub pastLast : (spans : Lfts 0) (handed : _) → past-last.Asked spans handed
+  pub opens : (spans : Lfts 0) (handed : _) → opened.Asked spans handed
   pub starts : (spans : Lfts 1) (handed : _) → start.Asked spans handed
   pub searches : (spans : Lfts 1) (handed : _) → search.Asked spans handed
   pub writes : (spans : Lfts 2) (handed : _) → write.Asked spans handed
@@ -109,6 +123,9 @@ pub record Unasked : Type 0 where
   pub checksInC : (spans : Lfts 2) (handed : _) → c-check.Asked spans handed
 
 pub record Ends : Type 2 where
+  pub rowsAt : {M : Type 1} → row-at-code.statement M
+  pub pastLast : {M : Type 1} → past-last-code.statement M
+  pub opens : {M : Type 1} → opened-code.statement M
   pub starts : {M : Type 1} → start-code.statement M
   pub searches : {M : Type 1} → search-code.statement M
   pub writes : {M : Type 1} → write-code.statement M

@@ -1,13 +1,14 @@
 -- Lists of calls, "whether the caller carries it or the open search keeps it", in Rattle and in C. Each is known by what the host sees: what
 -- it handed in, what came back, and what its buffers hold.
 --   Carried..   `search`, each call with the place that the one before it left
---   Kept..      `search_open`, on one open search
+--   Kept..      `search_open` and `search_owned`, on one open search that is lent or handed over and back
 --   C..         `matcher_search`, on one buffer for the place
 --   ..Run       each call begins where the one before it left off
 --   ..Found     the rows of the Founds, in the order of the calls, as they are handed to the writer
 --   ..End       one of the calls answered End
 --   ..Allowed   how many of the calls have an allowance above 0
 use mathlib.Core.Path.{_≡_}
+use mathlib.Core.Logic.{_⊎_}
 use mathlib.Core.Bool.{false}
 use mathlib.Core.List.{List, [], _∷_, _++_, map}
 use Prim.Native.Nat.{ℕ, _+_}
@@ -23,7 +24,7 @@ use Rattle.matcher.specs.Opened.{searchedBy}
 use Rattle.matcher.specs.declared.OpenSearch.{OpenSearch}
 use Rattle.matcher.specs.declared.Reply.{Reply}
 use Rattle.words.specs.Words.{hasPlace}
-use Rattle.promises.specs.Called.{CSearchCalled, OpenCalled, SearchCalled}
+use Rattle.promises.specs.Called.{CSearchCalled, OpenCalled, OwnedCalled, SearchCalled}
 
 -- The caller carries the place
 pub record CarriedCall : Type 0 where
@@ -58,9 +59,14 @@ pub record KeptCall : Type 0 where
   -- the open search as the call leaves it
   pub leaves : OpenSearch
 
+abbrev pub KeptCalled : Bytes → OpenSearch → KeptCall → Type 0
+KeptCalled s kept c =
+    OpenCalled kept s (c .allowance) (c .reply) (c .leaves)
+    ⊎ OwnedCalled kept s (c .allowance) (record { search = c .leaves; reply = c .reply })
+
 abbrev pub KeptRun : Bytes → OpenSearch → List KeptCall → Type 0
 KeptRun s kept [] = Unit {0}
-KeptRun s kept (c ∷ cs) = OpenCalled kept s (c .allowance) (c .reply) (c .leaves) × KeptRun s (c .leaves) cs
+KeptRun s kept (c ∷ cs) = KeptCalled s kept c × KeptRun s (c .leaves) cs
 
 -- The same calls as if the place were handed in and handed back
 abbrev pub keptCalls : List KeptCall → List CarriedCall

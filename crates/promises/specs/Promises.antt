@@ -4,7 +4,7 @@
 --   Owed        what is owed for a list of calls
 use mathlib.Core.Path.{_≡_}
 use mathlib.Core.Logic.{_↔_}
-use mathlib.Core.Bool.{Bool, true}
+use mathlib.Core.Bool.{Bool, true, false}
 use mathlib.Core.List.{List, map}
 use Prim.Native.Nat.{ℕ, _<_, _≤_}
 use lib.ListN.{length, take}
@@ -19,8 +19,8 @@ use Rattle.meaning.specs.Row.{AreRows, HasBodies, IsRow, Row}
 use Rattle.meaning.specs.FullList.{EarlierListed, Listed}
 use Rattle.meaning.specs.Text.{Item, readText, said}
 use Rattle.meaning.specs.Textual.{AlphaText}
-use Rattle.meaning.specs.Search.{at}
-use Rattle.meaning.specs.PlaceValue.{Names, PlaceValue}
+use Rattle.meaning.specs.Search.{at, past}
+use Rattle.meaning.specs.PlaceValue.{Names, PlaceValue, placeValue}
 use Rattle.meaning.specs.Entry.{SearchCall, WriteCall, checkCall, startCall}
 use Rattle.meaning.specs.Calls.{givenRow}
 use Rattle.meaning.specs.Given.{namedBy}
@@ -44,7 +44,7 @@ use Rattle.matcher.specs.declared.Reply.{Reply}
 use Rattle.words.specs.Words.{placeOfWords}
 use Rattle.exports.specs.Exported.{CheckExport, SearchExport, StartExport, WriteExport}
 use Rattle.promises.specs.Called.{CCheckCalled, CSearchCalled, CStartCalled, CWriteCalled, CheckCalled, Ends, OpenCalled, OwnedCalled}
-use Rattle.promises.specs.Called.{OpenedCalled, SearchCalled, StartCalled, Unasked, WriteCalled}
+use Rattle.promises.specs.Called.{OpenedCalled, PastLastCalled, RowAtCalled, SearchCalled, StartCalled, Unasked, WriteCalled}
 use Rattle.promises.specs.Numbers.{checkAnswer, writeAnswer}
 use Rattle.promises.specs.Lists.{CCall, CEnd, CRun, CarriedCall, CarriedEnd, CarriedRun, KeptCall, KeptRun, cAllowed, cFound}
 use Rattle.promises.specs.Lists.{carriedAllowed, carriedFound, keptCalls}
@@ -58,6 +58,9 @@ pub record FirstDemand : Type 2 where
   -- "Every entry point takes any bytes, place, row and allowance"
   pub anything : Unasked
   -- "and gives the answer or the refusal that document 01 fixes"
+  pub rowsAt : (row : List ℕ) (r : Place) → RowAtCalled row r → r ≡ record { masks = row; past = false }
+  pub pastLast : (r : Place) → PastLastCalled r → valueOf r ≡ placeValue past
+  pub opens : (place : Place) (r : OpenSearch) → OpenedCalled place r → r .place ≡ place
   pub starts : (s : Bytes) (r : Started) → StartCalled s r → startAnswer (r .answer) (valueOf (r .place)) ≡ startCall s
   pub searches : (s : Bytes) (place : Place) (n : ℕ) (r : Searched) → SearchCalled s place n r → SearchCall s (valueOf place) n (hostReply r)
   pub owned : (s : Bytes) (kept : OpenSearch) (n : ℕ) (r : Moved) → OwnedCalled kept s n r
