@@ -43,8 +43,8 @@ use Rattle.matcher.specs.declared.OpenSearch.{OpenSearch}
 use Rattle.matcher.specs.declared.Reply.{Reply}
 use Rattle.words.specs.Words.{placeOfWords}
 use Rattle.exports.specs.Exported.{CheckExport, SearchExport, StartExport, WriteExport}
-use Rattle.promises.specs.Called.{CCheckCalled, CSearchCalled, CStartCalled, CWriteCalled, CheckCalled, Ends, OpenCalled, OwnedCalled}
-use Rattle.promises.specs.Called.{OpenedCalled, PastLastCalled, RowAtCalled, SearchCalled, StartCalled, Unasked, WriteCalled}
+use Rattle.promises.specs.Called.{CCheckCalled, CSearchCalled, CStartCalled, CWriteCalled, CheckCalled, Ends, OpenCalled, OpenContract}
+use Rattle.promises.specs.Called.{OpenedCalled, OwnedCalled, PastLastCalled, RowAtCalled, SearchCalled, StartCalled, Unasked, WriteCalled}
 use Rattle.promises.specs.Numbers.{checkAnswer, writeAnswer}
 use Rattle.promises.specs.Lists.{CCall, CEnd, CRun, CarriedCall, CarriedEnd, CarriedRun, KeptCall, KeptRun, cAllowed, cFound}
 use Rattle.promises.specs.Lists.{carriedAllowed, carriedFound, keptCalls}
@@ -57,6 +57,7 @@ startAnswer starts.Begins v = got v
 pub record FirstDemand : Type 2 where
   -- "Every entry point takes any bytes, place, row and allowance"
   pub anything : Unasked
+  pub anythingOpen : OpenContract
   -- "and gives the answer or the refusal that document 01 fixes"
   pub rowsAt : (row : List ℕ) (r : Place) → RowAtCalled row r → r ≡ record { masks = row; past = false }
   pub pastLast : (r : Place) → PastLastCalled r → valueOf r ≡ placeValue past
