@@ -7,7 +7,7 @@ use native.Mathlib.Omega.{arith}
 use lib.ListN.{length}
 use denote.Enum.Declared.{tagOf}
 use types.Run.{OneOf}
-use Rattle.meaning.specs.Limits.{maxWritten}
+use Rattle.meaning.specs.Limits.{largestWritten}
 use Rattle.meaning.specs.Basics.{All, Byte, Bytes}
 use Rattle.meaning.specs.Read.{Answer, got}
 use Rattle.meaning.specs.Search.{found}
@@ -32,7 +32,7 @@ use Rattle.writing.specs.declared.write.Written.the-variants as written
 use Rattle.finding.specs.Finding.{Finds}
 
 -- Of any calls
-found-written : {s : Bytes} {v row next : PlaceValue} {n : ℕ} {before after : Bytes} {a : Answer ℕ} → All Byte s → maxWritten ≤ length before
+found-written : {s : Bytes} {v row next : PlaceValue} {n : ℕ} {before after : Bytes} {a : Answer ℕ} → All Byte s → largestWritten ≤ length before
     → SearchCall s v n (found row next) → WriteCall s row before a after → (k : ℕ) × (a ≡ got k)
 found-written {s} {v} {row} {next} {n} {before} {after} {a} b room c w = go c refl
   where
@@ -71,7 +71,7 @@ module _ {s : Bytes} {place : Place} {n : ℕ} {searched : Searched} (call : Ans
       nothing = λ none. absurd (none e);
     }
 
-    pub never-refused : {P : Type 0} (answer : Written) {k : ℕ} → answer ≡ written.Refused k → All Byte s → maxWritten ≤ length before
+    pub never-refused : {P : Type 0} (answer : Written) {k : ℕ} → answer ≡ written.Refused k → All Byte s → largestWritten ≤ length before
         → Writes s row before after answer → P
     never-refused answer q b room w =
         let reply : hostReply searched ≡ found (rowValue (searched .row)) (valueOf (searched .place)) =

@@ -7,7 +7,7 @@ use writing::write::Written;
 use writing::write::write;
 ghost use Prim.Native.Nat.{_≤_};
 ghost use lib.ListN.{length};
-ghost use Rattle.meaning.specs.Limits.{maxWritten};
+ghost use Rattle.meaning.specs.Limits.{largestWritten};
 ghost use Rattle.finding.specs.Finding.{Finds};
 
 // What the search answered, and how long the text is: 0 where nothing is found.
@@ -17,7 +17,7 @@ pub struct Finding {
 }
 
 pub fn find(problem: &[u8], place: Place, n: u32, text: &mut [u8]) -> Finding
-    requires { ⌜ maxWritten ≤ length (now text) ⌝ }
+    requires { ⌜ largestWritten ≤ length (now text) ⌝ }
     ensures { λ r. ⌜ Finds (now (problem .entry)) place n (now (text .entry)) (now (text .exit)) r ⌝ }
 {
     let searched = search(problem, place, n);

@@ -12,7 +12,7 @@ use borrow.Rule.Slice.PartMut.{putMid, same-len-mid}
 use lib.ListN.{length, take, drop, length-append, length-drop, length-set, take-append-drop}
 use lib.Seq.{drop-drop, length-take-le, take-at}
 use borrow.Author.Tests.{eq-eqb, ne-eqb}
-use Rattle.meaning.specs.Limits.{maxText, metavariableCount}
+use Rattle.meaning.specs.Limits.{largestText, metavariableCount}
 use Rattle.meaning.specs.Basics.{All, Bytes, Byte}
 use Rattle.meaning.specs.Read.{Answer, Parts, after, got, partsOf, refused}
 use Rattle.meaning.specs.Text.{Item, numbers, readItem, readItems, rises}
@@ -86,7 +86,7 @@ pub record Reading (text table : List ℕ) (used at : ℕ) (s : Said) (o : Order
 
 pub reading-begins : (text table : List ℕ) (s : Said) → SaidBy [] [] s → TextSpace text table
     → Reading text table 0 0 s (record { rising = true; next = 0 })
-unfolding maxText
+unfolding largestText
 reading-begins text table s h l =
     record {
       items = [];

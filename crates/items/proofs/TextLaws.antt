@@ -6,7 +6,7 @@ use mathlib.Core.List.{List}
 use Prim.Native.Nat.{ℕ, _<_, _≤_}
 use lib.ListN.{length}
 use borrow.Author.Tests.{le-ltb, lt-ltb, not-true, not-false}
-use Rattle.meaning.specs.Limits.{maxText}
+use Rattle.meaning.specs.Limits.{largestText}
 use Rattle.meaning.specs.Read.{Answer, after, got, refused}
 use Rattle.meaning.specs.Text.{Item, inOrder, numbers, orTwenty, readItems, readText, rises}
 use Rattle.items.specs.Texts.{FieldsDone, FieldsRead, RefusedText, TextDone}
@@ -16,7 +16,7 @@ use Rattle.items.specs.declared.Answer.the-variants as answers
 
 module _ (text table : List ℕ) where
   pub text-over : (r : TextRead) → 8192 < length text → RefusedText 19 r → TextDone (readText text) table r
-  unfolding readText maxText TextDone
+  unfolding readText largestText TextDone
   text-over r h d = rw (lt-ltb 8192 (length text) h, TextDone) d
 
   module _ (short : length text ≤ 8192) (found : Fields) (done : FieldsDone (readItems (length text) text) table found) where
@@ -24,7 +24,7 @@ module _ (text table : List ℕ) where
     Answered a r = TextDone (after (orTwenty a) inOrder) table r
 
     within-limit : (r : TextRead) → Answered (readItems (length text) text) r → TextDone (readText text) table r
-    unfolding readText maxText
+    unfolding readText largestText
     within-limit r d = rw (le-ltb 8192 (length text) short) d
 
     pub text-malformed : (r : TextRead) → not (found .readable) ≡ true → RefusedText 20 r → TextDone (readText text) table r

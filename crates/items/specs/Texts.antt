@@ -9,7 +9,7 @@ use Prim.Native.Nat.{ℕ, _≤_}
 use mathlib.Core.Bool.{false, true}
 use mathlib.Core.List.{List}
 use lib.ListN.{length, take}
-use Rattle.meaning.specs.Limits.{maxText}
+use Rattle.meaning.specs.Limits.{largestText}
 use Rattle.meaning.specs.Basics.{Bytes}
 use Rattle.meaning.specs.Text.{Item, numbers, rises}
 use Rattle.meaning.specs.Read.{Answer, refused, got}
@@ -23,7 +23,7 @@ abbrev pub textRoom : ℕ
 textRoom = 2731
 
 pub record TextSpace (text : Bytes) (table : List ℕ) : Type 0 where
-  pub short : length text ≤ maxText
+  pub short : length text ≤ largestText
   pub room : textRoom ≤ length table
 
 pub record FieldsRead (is : List Item) (table : List ℕ) (r : Fields) : Type 0 where

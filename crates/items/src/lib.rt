@@ -20,7 +20,7 @@ ghost use Rattle.items.specs.Noted.{Noting, notedOf};
 ghost use Rattle.items.specs.Order.{followedBy};
 ghost use Rattle.items.specs.Texts.{textRoom, TextSpace, FieldsDone, RefusedText, TextDone};
 
-pub const MAX_TEXT: usize = 8192;
+pub const LARGEST_TEXT: usize = 8192;
 
 // The entries of a table with room for the terms of every text: a node takes three bytes or more.
 pub const TEXT_ROOM: usize = 2731;
@@ -213,7 +213,7 @@ pub fn read_text(text: &[u8], table: &mut [u64]) -> TextRead
     requires { ⌜ textRoom ≤ length (now table) ⌝ }
     ensures { λ r. ⌜ TextDone (readText (now (text .entry))) (now (table .exit)) r ⌝ }
 {
-    if MAX_TEXT < text.len() {
+    if LARGEST_TEXT < text.len() {
         return refused(19);
     }
     let found = read_fields(text, table);

@@ -7,7 +7,7 @@ use native.Mathlib.Numerals.{add-one}
 use native.Mathlib.Omega.{arith}
 use lib.ListN.{length, length-take, take}
 use lib.Seq.{length-take-le}
-use Rattle.meaning.specs.Limits.{maxInput, maxWritten, metavariableCount}
+use Rattle.meaning.specs.Limits.{largestProblem, largestWritten, metavariableCount}
 use Rattle.meaning.specs.Basics.{All, Byte, Bytes, choose}
 use Rattle.meaning.specs.Problem.{Problem}
 use Rattle.meaning.specs.Read.{Answer, after, got}
@@ -53,8 +53,8 @@ pub digits-length : (text : Bytes) (n : ℕ) → n ≤ length text → length (h
 digits-length text n h = hexadecimal-length (take n text) ∙ ap (λ (k : ℕ). 2 * k) (length-take-le n text h)
 
 -- How much room there is for a text
-pub text-room : maxWritten ≡ 4224
-unfolding maxWritten maxInput metavariableCount
+pub text-room : largestWritten ≡ 4224
+unfolding largestWritten largestProblem metavariableCount
 text-room = refl
 
 -- The start

@@ -19,7 +19,7 @@ const ALLOWANCE: u32 = 1000000;
 const MOST: u32 = 1000;
 
 // Room for every text: the bytes of an input and 4 for each metavariable.
-const TEXT_ROOM: usize = 4224;
+const LARGEST_WRITTEN: usize = 4224;
 
 // Room for every line: a word, ten digits, a colon, two digits for each byte of a text, and a line feed.
 pub const ROOM: usize = 8469;
@@ -118,7 +118,7 @@ pub fn next_line(problem: &[u8], at: Listing, out: &mut [u8]) -> Line
     requires { ⌜ lineRoom ≤ length (now out) ⌝ }
     ensures { λ r. ⌜ NextLine (now (problem .entry)) at (now (out .exit)) r ⌝ }
 {
-    let mut text = [0u8; TEXT_ROOM];
+    let mut text = [0u8; LARGEST_WRITTEN];
     let place = at.place;
     let found = find(problem, place, ALLOWANCE, &mut text);
     let searched = found.searched;

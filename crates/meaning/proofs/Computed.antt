@@ -3,8 +3,8 @@
 --   texts     the texts of a problem's solution rows, as bytes
 --   reads     reading of a text
 use mathlib.Core.List.{List, map}
-use Rattle.meaning.specs.Limits.{maxInput, maxConstraints, maxDepth, firstWide, metavariableCount, maxFunctions}
-use Rattle.meaning.specs.Limits.{maxFaceNodes, maxText}
+use Rattle.meaning.specs.Limits.{largestProblem, maxConstraints, maxDepth, firstWide, metavariableCount, maxFunctions}
+use Rattle.meaning.specs.Limits.{maxFaceNodes, largestText}
 use Rattle.meaning.specs.Problem.{Problem, bothWays, placesOf, functions, metavariables}
 use Rattle.meaning.specs.Face.{faces}
 use Rattle.meaning.specs.Row.{Row, rowBody}
@@ -19,7 +19,7 @@ use Rattle.meaning.specs.Text.{Item, entryOf, textOf, readNumbered, read
 use Rattle.meaning.specs.Encoded.{encodeText}
 
 unfoldable pub accepts : Bytes → Answer Problem
-unfolding maxInput maxConstraints maxDepth firstWide metavariableCount maxFunctions maxFaceNodes word field metavariableIn functionIn holeIn kindOf partsOf headOf contentOf readExactly readAll contextBelow readTerm readPair constraintHead readConstraints readProblem placesOf functions bothWays faces overlarge checkProblem accept
+unfolding largestProblem maxConstraints maxDepth firstWide metavariableCount maxFunctions maxFaceNodes word field metavariableIn functionIn holeIn kindOf partsOf headOf contentOf readExactly readAll contextBelow readTerm readPair constraintHead readConstraints readProblem placesOf functions bothWays faces overlarge checkProblem accept
 accepts s = accept s
 
 unfoldable pub texts : Problem → List Bytes
@@ -27,5 +27,5 @@ unfolding firstWide metavariableCount placesOf functions bothWays faces metavari
 texts p = map (λ (r : Row). encodeText (textOf p r)) (solutionRows p)
 
 unfoldable pub reads : Bytes → Answer (List Item)
-unfolding maxText maxDepth firstWide metavariableCount word field metavariableIn functionIn holeIn kindOf partsOf headOf contentOf readExactly readAll contextBelow readTerm readNumbered readOpen readItem readItems readText
+unfolding largestText maxDepth firstWide metavariableCount word field metavariableIn functionIn holeIn kindOf partsOf headOf contentOf readExactly readAll contextBelow readTerm readNumbered readOpen readItem readItems readText
 reads s = readText s

@@ -5,7 +5,7 @@ use Prim.Native.Nat.{ℕ, _≤_}
 use mathlib.Core.Bool.{true}
 use mathlib.Core.List.{List, [], _∷_, map, List·Memᴰ·head, List·Memᴰ·tail, Memᴰ·append-left}
 use lib.ListN.{length, take, drop, take-append-drop}
-use Rattle.meaning.specs.Limits.{maxWritten}
+use Rattle.meaning.specs.Limits.{largestWritten}
 use Rattle.meaning.specs.Basics.{Bytes, Pairwise, _∈_}
 use Rattle.meaning.specs.Problem.{Problem}
 use Rattle.meaning.specs.Filling.{Filling}
@@ -52,7 +52,7 @@ module _ (p : Problem) (accepted : Accepted p) (r : Row) (σ : Filling) (isRow :
       text-names (rowText p r) (text-read-back p r accepted in-rows tested)
       ∙ ap got (text-says p r accepted tested ∙ sym (fun-ext (row-solution-unique p r σ accepted solution bodies)))
 
-  row-written : (before after : Bytes) (a : Answer ℕ) → maxWritten ≤ length before → WriteOn p (givenRow (r, σ)) before a after
+  row-written : (before after : Bytes) (a : Answer ℕ) → largestWritten ≤ length before → WriteOn p (givenRow (r, σ)) before a after
       → (n : ℕ) × (a ≡ got n)
   row-written before after a room w =
       let (n, gives, text) = when-large p (givenRow (r, σ)) before accepted r named solved room w in (n, gives)
@@ -67,7 +67,7 @@ module _ (p : Problem) (accepted : Accepted p) (full : List Listed) (isFull : Is
     abbrev is : IsRow p (x .0) × Solution p (x .1) × HasBodies p (x .0) (x .1)
     is = isFull .members (x .0) (x .1) .0 m
 
-    listed-written : (before after : Bytes) (a : Answer ℕ) → maxWritten ≤ length before → WriteOn p (givenRow x) before a after
+    listed-written : (before after : Bytes) (a : Answer ℕ) → largestWritten ≤ length before → WriteOn p (givenRow x) before a after
         → (n : ℕ) × (a ≡ got n)
     listed-written = row-written p accepted (x .0) (x .1) (is .0) (is .1) (is .2)
 

@@ -9,7 +9,7 @@ use native.Mathlib.Omega.{arith}
 use lib.ListN.{length, length-append}
 use lib.Dec.{eqb, ltb}
 use borrow.Author.Tests.{ltb-false, le-ltb, eqb-true, ne-eqb}
-use Rattle.meaning.specs.Limits.{maxInput, maxConstraints, maxDepth, maxFunctions}
+use Rattle.meaning.specs.Limits.{largestProblem, maxConstraints, maxDepth, maxFunctions}
 use Rattle.meaning.specs.Basics.{All, Bytes, Byte}
 use Rattle.meaning.specs.Term.{one}
 use Rattle.meaning.specs.Problem.{Constraint, Problem, functions}
@@ -121,11 +121,11 @@ constraints-complete (suc left) (c ∷ p) r h =
     )
 
 -- The whole input
-problem-faithful : (s : Bytes) (p : Problem) → All Byte s → readProblem s ≡ got p → (length s ≤ maxInput) × Constrained maxConstraints s p
+problem-faithful : (s : Bytes) (p : Problem) → All Byte s → readProblem s ≡ got p → (length s ≤ largestProblem) × Constrained maxConstraints s p
 unfolding readProblem
 problem-faithful s p b e =
-    let w = unless-got (ltb maxInput (length s)) 1 _ e in
-    (ltb-false maxInput (length s) (w .0), constraints-faithful maxConstraints s p b (w .1))
+    let w = unless-got (ltb largestProblem (length s)) 1 _ e in
+    (ltb-false largestProblem (length s) (w .0), constraints-faithful maxConstraints s p b (w .1))
 
 -- The encoding consists of bytes
 constraint-bytes : (c : Constraint) → ReadableConstraint c → length (encodeConstraint c) < 65536 → All Byte (encodeConstraint c)
@@ -171,11 +171,11 @@ read-within s p b e =
 -- Every problem within the limits is read back from its encoding, which consists of bytes
 pub read-encode : (p : Problem) → WithinLimits p → readProblem (encodeProblem p) ≡ got p
 unfolding readProblem
-read-encode p w = rw (le-ltb maxInput (length (encodeProblem p)) (w .input))
+read-encode p w = rw (le-ltb largestProblem (length (encodeProblem p)) (w .input))
     (constraints-complete maxConstraints p (w .constraints) (w .count))
 
 pub problem-bytes : (p : Problem) → WithinLimits p → All (λ b. b < 256) (encodeProblem p)
-unfolding maxInput
+unfolding largestProblem
 problem-bytes p w = constraints-bytes p (w .constraints) (omega (arith, w .input))
 
 -- What is accepted is accepted as it was read, and every accepted problem from its encoding

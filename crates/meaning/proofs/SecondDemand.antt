@@ -6,7 +6,7 @@ use mathlib.Core.Bool.{Bool, true, false}
 use mathlib.Core.List.{List, [], _∷_}
 use native.Mathlib.Omega.{arith}
 use lib.ListN.{length}
-use Rattle.meaning.specs.Limits.{maxInput, maxText, maxWritten, metavariableCount}
+use Rattle.meaning.specs.Limits.{largestProblem, largestText, largestWritten, metavariableCount}
 use Rattle.meaning.specs.Basics.{Bytes, choose, keep, upTo, _∈_}
 use Rattle.meaning.specs.Problem.{Problem, metavariables}
 use Rattle.meaning.specs.Filling.{Filling}
@@ -42,16 +42,16 @@ few-metavariables p =
     subst (λ (n : ℕ). length (metavariables p) ≤ n) (length-upTo metavariableCount) (keep-length _ (upTo metavariableCount))
 
 -- A written text is never longer than the largest, and so never over the limit of a text
-pub text-within : (p : Problem) (r : Row) → Accepted p → solves p r ≡ true → length (encodeText (textOf p r)) ≤ maxWritten
-unfolding maxWritten maxInput metavariableCount
+pub text-within : (p : Problem) (r : Row) → Accepted p → solves p r ≡ true → length (encodeText (textOf p r)) ≤ largestWritten
+unfolding largestWritten largestProblem metavariableCount
 text-within p r a e =
     let l = text-length p r a e in
     let i : length (encodeProblem p) ≤ 4096 = a .within .input in
     let m : length (metavariables p) ≤ 32 = few-metavariables p in
     omega arith
 
-pub text-fits : (p : Problem) (r : Row) → Accepted p → solves p r ≡ true → length (encodeText (textOf p r)) ≤ maxText
-unfolding maxText maxWritten
+pub text-fits : (p : Problem) (r : Row) → Accepted p → solves p r ≡ true → length (encodeText (textOf p r)) ≤ largestText
+unfolding largestText largestWritten
 text-fits p r a e = omega (arith, text-within p r a e)
 
 -- What a text names that can be read

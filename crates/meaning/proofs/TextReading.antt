@@ -8,7 +8,7 @@ use native.Mathlib.Omega.{arith}
 use lib.ListN.{length, drop, getD, length-append}
 use lib.Dec.{eqb, ltb}
 use borrow.Author.Tests.{ltb-true, lt-ltb, le-ltb, eqb-true}
-use Rattle.meaning.specs.Limits.{maxDepth, maxText, metavariableCount}
+use Rattle.meaning.specs.Limits.{maxDepth, largestText, metavariableCount}
 use Rattle.meaning.specs.Basics.{All, Bytes, Byte}
 use Rattle.meaning.specs.Term.{one, NamedTerm}
 use Rattle.meaning.specs.Filling.{Entry, absent, leftOpen, value, body}
@@ -181,20 +181,20 @@ twenty-got (got x) e = e
 reading : (s : Bytes) (is : List Item) → readText s ≡ got is → (readItems (length s) s ≡ got is) × (rises (numbers is) ≡ true)
 unfolding readText
 reading s is e =
-    by-got (orTwenty (readItems (length s) s)) _ (unless-got (ltb maxText (length s)) 19 _ e .1) (λ js read e.
+    by-got (orTwenty (readItems (length s) s)) _ (unless-got (ltb largestText (length s)) 19 _ e .1) (λ js read e.
     let ordered = when-got (rises (numbers js)) 27 _ e in
     subst (λ (ks : List Item). (readItems (length s) s ≡ got ks) × (rises (numbers ks) ≡ true)) (got-is (ordered .1))
     (twenty-got (readItems (length s) s) read, ordered .0))
 
 -- The main theorems. Every text of readable items that is not too long and whose numbers rise is read back from its encoding, which
 -- consists of bytes
-pub read-text : (is : List Item) → All ReadableItem is → rises (numbers is) ≡ true → length (encodeText is) ≤ maxText
+pub read-text : (is : List Item) → All ReadableItem is → rises (numbers is) ≡ true → length (encodeText is) ≤ largestText
     → readText (encodeText is) ≡ got is
 unfolding readText
-read-text is r o h = rw (le-ltb maxText (length (encodeText is)) h, items-complete (length (encodeText is)) is r (omega arith), o)
+read-text is r o h = rw (le-ltb largestText (length (encodeText is)) h, items-complete (length (encodeText is)) is r (omega arith), o)
 
-pub text-bytes : (is : List Item) → All ReadableItem is → length (encodeText is) ≤ maxText → All (λ b. b < 256) (encodeText is)
-unfolding maxText
+pub text-bytes : (is : List Item) → All ReadableItem is → length (encodeText is) ≤ largestText → All (λ b. b < 256) (encodeText is)
+unfolding largestText
 text-bytes is r h = items-bytes is r (omega arith)
 
 -- The items read from a text encode to exactly its bytes, and are readable

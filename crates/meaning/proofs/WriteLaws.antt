@@ -7,7 +7,7 @@ use native.Mathlib.Decide.{decLt}
 use native.Mathlib.Omega.{arith}
 use lib.ListN.{length, take, drop}
 use lib.Seq.{take-at}
-use Rattle.meaning.specs.Limits.{maxWritten}
+use Rattle.meaning.specs.Limits.{largestWritten}
 use Rattle.meaning.specs.Basics.{All, Bytes, Byte}
 use Rattle.meaning.specs.Problem.{Problem}
 use Rattle.meaning.specs.Row.{Row, SolutionRow}
@@ -63,7 +63,7 @@ module _ (p : Problem) (v : PlaceValue) (buffer : Bytes) where
       )
 
       -- ... as it is in a buffer with room for any text
-      pub when-large : {a : Answer ℕ} {after : Bytes} → maxWritten ≤ length buffer → WriteOn p v buffer a after
+      pub when-large : {a : Answer ℕ} {after : Bytes} → largestWritten ≤ length buffer → WriteOn p v buffer a after
           → (n : ℕ) × (a ≡ got n) × (take n after ≡ rowText p r)
       when-large large w =
           let within = text-within p r accepted (solves-is-right p r accepted (rows-are p r .1 (named .isPlace)) .1 solution) in

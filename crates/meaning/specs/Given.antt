@@ -6,7 +6,7 @@ use mathlib.Core.Path.{_≡_}
 use Prim.Native.Nat.{ℕ, _≤_}
 use mathlib.Core.List.{List, map}
 use lib.ListN.{length, take}
-use Rattle.meaning.specs.Limits.{maxWritten}
+use Rattle.meaning.specs.Limits.{largestWritten}
 use Rattle.meaning.specs.Basics.{Bytes, Pairwise, _∈_}
 use Rattle.meaning.specs.Problem.{Problem}
 use Rattle.meaning.specs.Read.{Answer, after, got}
@@ -30,7 +30,7 @@ pub record TextOf (p : Problem) (v : PlaceValue) (text : Bytes) : Type 0 where
 -- Of a list of calls with these rows found, on a problem with this full list
 pub record TextsGiven (p : Problem) (given : List PlaceValue) (full : List Listed) : Type 0 where
   -- with room for any text the row of a Found is written
-  pub written : (v : PlaceValue) → v ∈ given → (before after : Bytes) (a : Answer ℕ) → maxWritten ≤ length before
+  pub written : (v : PlaceValue) → v ∈ given → (before after : Bytes) (a : Answer ℕ) → largestWritten ≤ length before
       → WriteOn p v before a after → (n : ℕ) × (a ≡ got n)
   -- the text of the k-th Found names filling k of the full list
   pub names : (texts : List Bytes) → Pairwise (TextOf p) given texts

@@ -2,8 +2,8 @@
 use Prim.Native.Nat.{ℕ}
 
 -- "of at most 4,096 bytes" (refusal 1)
-unfoldable pub maxInput : ℕ
-maxInput = 4096
+unfoldable pub largestProblem : ℕ
+largestProblem = 4096
 
 -- "A problem is 0 to 16 constraints" (refusal 11)
 unfoldable pub maxConstraints : ℕ
@@ -30,9 +30,9 @@ unfoldable pub maxFaceNodes : ℕ
 maxFaceNodes = 64
 
 -- "text over 8,192 bytes" (refusal 19)
-unfoldable pub maxText : ℕ
-maxText = 8192
+unfoldable pub largestText : ℕ
+largestText = 8192
 
 -- "A text is at most the input's length + 4 × the number of metavariables": so a buffer of so many bytes has room for every text
-unfoldable pub maxWritten : ℕ
-maxWritten = 4224
+unfoldable pub largestWritten : ℕ
+largestWritten = 4224

@@ -8,7 +8,7 @@ use Prim.Native.Nat.{ℕ, zero, suc, _+_, _-_, _*_}
 use mathlib.Core.List.{[], _∷_}
 use lib.ListN.{length, take, drop, getD}
 use lib.Dec.{eqb, ltb}
-use Rattle.meaning.specs.Limits.{firstWide, maxConstraints, maxDepth, maxInput, metavariableCount}
+use Rattle.meaning.specs.Limits.{firstWide, maxConstraints, maxDepth, largestProblem, metavariableCount}
 use Rattle.meaning.specs.Basics.{Bytes, choose}
 use Rattle.meaning.specs.Term.{Forest, Named, NamedTerm, application, binder, function, graft, hole, metavariable, nil, own, slot}
 use Rattle.meaning.specs.Term.{symbol, trees, variable}
@@ -190,4 +190,4 @@ readConstraints (suc left) s =
 
 -- "1 over 4,096 bytes"; "A problem is 0 to 16 constraints that fill the input"
 unfoldable pub readProblem : Bytes → Answer Problem
-readProblem s = choose (ltb maxInput (length s)) (refused 1) (readConstraints maxConstraints s)
+readProblem s = choose (ltb largestProblem (length s)) (refused 1) (readConstraints maxConstraints s)

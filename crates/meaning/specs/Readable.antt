@@ -7,7 +7,7 @@
 use mathlib.Core.Path.{_≡_}
 use Prim.Native.Nat.{ℕ, zero, suc, _<_, _≤_}
 use lib.ListN.{length}
-use Rattle.meaning.specs.Limits.{maxConstraints, maxDepth, maxInput, metavariableCount}
+use Rattle.meaning.specs.Limits.{maxConstraints, maxDepth, largestProblem, metavariableCount}
 use Rattle.meaning.specs.Basics.{All}
 use Rattle.meaning.specs.Term.{Forest, Named, NamedTerm, application, binder, cons, function, hole, metavariable, nil, one, own, slot}
 use Rattle.meaning.specs.Term.{symbol, trees, variable}
@@ -65,7 +65,7 @@ ReadableConstraint c = Readable maxDepth inPattern (one (c .pattern)) × Readabl
 pub record WithinLimits (p : Problem) : Type 0 where
   pub constraints : All ReadableConstraint p
   pub count : length p ≤ maxConstraints
-  pub input : length (encodeProblem p) ≤ maxInput
+  pub input : length (encodeProblem p) ≤ largestProblem
 
 pub record Accepted (p : Problem) : Type 0 where
   pub within : WithinLimits p

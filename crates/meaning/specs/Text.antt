@@ -10,7 +10,7 @@ use mathlib.Core.List.{List, [], _∷_, map}
 use mathlib.Core.Option.{Option, none, some}
 use lib.ListN.{length, drop, getD}
 use lib.Dec.{eqb, ltb}
-use Rattle.meaning.specs.Limits.{maxDepth, maxText, metavariableCount}
+use Rattle.meaning.specs.Limits.{maxDepth, largestText, metavariableCount}
 use Rattle.meaning.specs.Basics.{Bytes, choose, orNone}
 use Rattle.meaning.specs.Term.{NamedTerm, Term, hole, nil, nodeAt, slot}
 use Rattle.meaning.specs.Scope.{namelessTerm}
@@ -103,7 +103,7 @@ inOrder is = choose (rises (numbers is)) (got is) (refused 27)
 -- "19 text over 8,192 bytes; 20 not fields 8, 9, 11 with contents as above, depth over 32 (its term has depth 1), or metavariable over 31";
 -- T-07, of 27: "checked after 20 over the whole text"
 unfoldable pub readText : Bytes → Answer (List Item)
-readText s = choose (ltb maxText (length s)) (refused 19) (after (orTwenty (readItems (length s) s)) inOrder)
+readText s = choose (ltb largestText (length s)) (refused 19) (after (orTwenty (readItems (length s) s)) inOrder)
 
 -- What an item's term means
 abbrev pub meant : Entry NamedTerm → Entry Term

@@ -29,7 +29,7 @@ use Rattle.meaning.proofs.OneCall.{NamedReply, reply-named}
 use Rattle.meaning.proofs.PlaceLaws.{from-place, place-long}
 use Rattle.words.specs.Words.{hasPlace, placeOfWords}
 use Rattle.words.proofs.WordLaws.{placed-back}
-use Rattle.exports.specs.Exported.{SearchExport, StartExport, Told, placeAfter, placeInto, replyCode, rowAfter, startAfter, startCode, withRow}
+use Rattle.tivagyesz.specs.Exported.{SearchExport, StartExport, Told, placeAfter, placeInto, replyCode, rowAfter, startAfter, startCode, withRow}
 use Rattle.promises.specs.Lists.{CCall, CEnd, CRun, cAllowed, cFound}
 use Rattle.promises.specs.Numbers.{Refuses, RefusesReply, answer, refusal}
 use Rattle.promises.proofs.RefusalNumbers.{search-numbers, small, start-numbers}

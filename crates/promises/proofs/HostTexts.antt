@@ -5,7 +5,7 @@ use mathlib.Core.Bool.{Bool, true}
 use mathlib.Core.List.{List, [], _∷_, map}
 use Prim.Native.Nat.{ℕ, _≤_}
 use lib.ListN.{length, length-map, take}
-use Rattle.meaning.specs.Limits.{maxWritten}
+use Rattle.meaning.specs.Limits.{largestWritten}
 use Rattle.meaning.specs.Basics.{All, Byte, Bytes, Pairwise}
 use Rattle.meaning.specs.Problem.{Problem}
 use Rattle.meaning.specs.Read.{Answer, got}
@@ -68,7 +68,7 @@ module _ (host : Interface) (lawful : Lawful host) where
   }
     where
       row-of : (s text : Bytes) → All Byte s → host .Checking s text (got true)
-          → (row : host .Held) × ((out out′ : Bytes) (a : Answer ℕ) → maxWritten ≤ length out → host .Writing s row out a out′
+          → (row : host .Held) × ((out out′ : Bytes) (a : Answer ℕ) → largestWritten ≤ length out → host .Writing s row out a out′
           → (n : ℕ) × (a ≡ got n) × (namedBy (take n out′) ≡ namedBy text))
       row-of s text b c =
           let x : RowOfText s text = passing-written s text b (sym (lawful .checks s text (got true) c)) in

@@ -30,8 +30,8 @@ use Rattle.seeking.specs.declared.Answer.the-variants as answers
 use Rattle.seeking.specs.declared.Searched.{Searched}
 use Rattle.words.specs.Words.{hasPlace, placeOfWords, placed}
 use Rattle.words.proofs.WordLaws.{placed-back}
-use Rattle.exports.specs.Exported.{SearchExport, StartExport, WriteExport, lengthAfter, placeAfter, replyCode, rowAfter, startAfter, startCode}
-use Rattle.exports.specs.Exported.{startInto, withRow, writeCode}
+use Rattle.tivagyesz.specs.Exported.{SearchExport, StartExport, WriteExport, lengthAfter, placeAfter, replyCode, rowAfter, startAfter, startCode}
+use Rattle.tivagyesz.specs.Exported.{startInto, withRow, writeCode}
 use Rattle.places.proofs.Place.start.Met as start-met
 use Rattle.places.proofs.Place.at.Met as row-at-met
 use Rattle.places.proofs.Place.past_last.Met as past-last-met
@@ -41,10 +41,10 @@ use Rattle.checking.proofs.check.Met as check-met
 use Rattle.matcher.proofs.OpenSearch.at.Met as opened-met
 use Rattle.matcher.proofs.search_owned.Met as owned-met
 use Rattle.matcher.proofs.search_open.Met as open-met
-use Rattle.exports.proofs.matcher_start.Met as c-start-met
-use Rattle.exports.proofs.matcher_search.Met as c-search-met
-use Rattle.exports.proofs.matcher_write.Met as c-write-met
-use Rattle.exports.proofs.matcher_check.Met as c-check-met
+use Rattle.tivagyesz.proofs.matcher_start.Met as c-start-met
+use Rattle.tivagyesz.proofs.matcher_search.Met as c-search-met
+use Rattle.tivagyesz.proofs.matcher_write.Met as c-write-met
+use Rattle.tivagyesz.proofs.matcher_check.Met as c-check-met
 use Rattle.promises.specs.Called.{Ends, OpenContract, Unasked}
 use Rattle.promises.specs.Numbers.{checkAnswer, writeAnswer}
 use Rattle.promises.specs.Lists.{CEnd, CarriedCall, CarriedEnd, cAllowed, cFound, carriedAllowed, carriedFound, keptCalls}

@@ -12,7 +12,7 @@ use lib.Dec.{eqb, ltb}
 use native.Mathlib.Omega.{arith}
 use borrow.Author.Tests.{ltb-true}
 use Rattle.meaning.proofs.Lists.{T-true, and-T, choose-false, eqb-eq, eqb-other, or-cases, true-T}
-use Rattle.meaning.specs.Limits.{firstWide, maxConstraints, maxDepth, maxFunctions, maxInput, maxText, metavariableCount}
+use Rattle.meaning.specs.Limits.{firstWide, maxConstraints, maxDepth, maxFunctions, largestProblem, largestText, metavariableCount}
 use Rattle.meaning.specs.Basics.{Bytes, choose}
 use Rattle.meaning.specs.Problem.{Problem, functions}
 use Rattle.meaning.specs.Read.{Answer, after, got, refused, Context, inPattern, inArgument, inExpression, inBody, Kind, symbolKind}
@@ -28,7 +28,7 @@ use Rattle.meaning.specs.PlaceValue.{PlaceValue}
 use Rattle.meaning.specs.Entry.{HostReply, replyValue, startCall, SearchCall, notAccepted, onAccepted, noAllowance, noSuchPlace, searches}
 use Rattle.meaning.specs.Entry.{WriteCall, checkCall, checkOn, noSuchRow, noSolutionRow, tooShort, writes}
 use Rattle.words.specs.Words.{hasPlace}
-use Rattle.exports.specs.Exported.{checkCode, lengthAfter, placeInto, startInto, withRow, writeCode}
+use Rattle.tivagyesz.specs.Exported.{checkCode, lengthAfter, placeInto, startInto, withRow, writeCode}
 use Rattle.promises.specs.Numbers.{isRefusal, Refuses, answer, refusal, RefusesReply, checkAnswer, writeAnswer}
 
 -- A refusal comes from the first part or from the second
@@ -158,7 +158,7 @@ constraints (suc left) s =
 
 problem : (s : Bytes) → Refuses (readProblem s)
 unfolding readProblem
-problem s = either (ltb maxInput (length s)) _ _ (refusal 1 refl) (constraints maxConstraints s)
+problem s = either (ltb largestProblem (length s)) _ _ (refusal 1 refl) (constraints maxConstraints s)
 
 checked : (p : Problem) → Refuses (checkProblem p)
 unfolding checkProblem
@@ -179,7 +179,7 @@ or-twenty (got x) = answer x
 text : (t : Bytes) → Refuses (readText t)
 unfolding readText
 text t =
-    either (ltb maxText (length t)) _ _ (refusal 19 refl)
+    either (ltb largestText (length t)) _ _ (refusal 19 refl)
     (then (orTwenty (readItems (length t) t)) inOrder (or-twenty (readItems (length t) t)) (λ is.
     either (rises (numbers is)) _ _ (answer is) (refusal 27 refl)))
 
@@ -258,7 +258,7 @@ check-read (got true) h = refl
 check-read (got false) h = refl
 check-read (refused r) (refusal q e) =
     let below = small q e in
-    choose-false _ _ (eqb-other q 256 (λ z. omega arith)) ∙ choose-false _ _ (eqb-other q 257 (λ z. omega arith))
+    choose-false _ _ (eqb-other q 259 (λ z. omega arith)) ∙ choose-false _ _ (eqb-other q 260 (λ z. omega arith))
 
 pub write-read : (a : Answer ℕ) (before : ℕ) → Refuses a → writeAnswer (writeCode a) (lengthAfter before a) ≡ a
 write-read (got n) before h = refl

@@ -1,4 +1,4 @@
--- The functions that a host calls, in Rattle (`matcher`) and in C (`exports`). A call is known here by what the function's contract, as it
+-- The functions that a host calls, in Rattle (`matcher`) and in C (`tivagyesz`). A call is known here by what the function's contract, as it
 -- stands in the source, tells of it; that a call is told of means that it has returned.
 --   Lent        where what is lent lies, and for how long: nothing that a contract says depends on it
 --   ..Called    what is handed in, what comes back, and what each buffer holds before and after
@@ -39,10 +39,10 @@ use Rattle.checking.proofs.check.Reads as check
 use Rattle.matcher.proofs.OpenSearch.at.Reads as opened
 use Rattle.matcher.proofs.search_owned.Reads as owned
 use Rattle.matcher.proofs.search_open as open-search
-use Rattle.exports.proofs.matcher_start.Reads as c-start
-use Rattle.exports.proofs.matcher_search.Reads as c-search
-use Rattle.exports.proofs.matcher_write.Reads as c-write
-use Rattle.exports.proofs.matcher_check.Reads as c-check
+use Rattle.tivagyesz.proofs.matcher_start.Reads as c-start
+use Rattle.tivagyesz.proofs.matcher_search.Reads as c-search
+use Rattle.tivagyesz.proofs.matcher_write.Reads as c-write
+use Rattle.tivagyesz.proofs.matcher_check.Reads as c-check
 use Rattle.places.proofs.Place.start.Statement as start-code
 use Rattle.places.proofs.Place.at.Statement as row-at-code
 use Rattle.places.proofs.Place.past_last.Statement as past-last-code
@@ -52,10 +52,10 @@ use Rattle.checking.proofs.check.Statement as check-code
 use Rattle.matcher.proofs.OpenSearch.at.Statement as opened-code
 use Rattle.matcher.proofs.search_owned.Statement as owned-code
 use Rattle.matcher.proofs.search_open.Statement as open-code
-use Rattle.exports.proofs.matcher_start.Statement as c-start-code
-use Rattle.exports.proofs.matcher_search.Statement as c-search-code
-use Rattle.exports.proofs.matcher_write.Statement as c-write-code
-use Rattle.exports.proofs.matcher_check.Statement as c-check-code
+use Rattle.tivagyesz.proofs.matcher_start.Statement as c-start-code
+use Rattle.tivagyesz.proofs.matcher_search.Statement as c-search-code
+use Rattle.tivagyesz.proofs.matcher_write.Statement as c-write-code
+use Rattle.tivagyesz.proofs.matcher_check.Statement as c-check-code
 
 pub record Lent (references : ℕ) : Type 0 where
   pub spans : Lfts references

@@ -2,7 +2,7 @@
 -- number is a refusal.
 --   isRefusal      the numbers that refusals have: 1 to 20 but for 12, 25 or 27; T-09: "Refusal 12 is withdrawn and its number stays unused"
 --   writeAnswer    what `matcher_write` says: 0 with the length that was written, or a refusal
---   checkAnswer    what `matcher_check` says: 256 is yes and 257 no, or a refusal
+--   checkAnswer    what `matcher_check` says: 259 is yes and 260 no, or a refusal
 --   Refuses        a refusal has such a number
 --   RefusesReply   the same of a search call's reply
 use mathlib.Core.Path.{_≡_}
@@ -22,7 +22,7 @@ writeAnswer zero written = got written
 writeAnswer (suc r) written = refused (suc r)
 
 abbrev pub checkAnswer : ℕ → Answer Bool
-checkAnswer r = choose (eqb r 256) (got true) (choose (eqb r 257) (got false) (refused r))
+checkAnswer r = choose (eqb r 259) (got true) (choose (eqb r 260) (got false) (refused r))
 
 pub data Refuses {A : Type 0} : Answer A → Type 0 where
   answer : (a : A) → Refuses (got a)

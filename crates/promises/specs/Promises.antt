@@ -8,7 +8,7 @@ use mathlib.Core.Bool.{Bool, true, false}
 use mathlib.Core.List.{List, map}
 use Prim.Native.Nat.{ℕ, _<_, _≤_}
 use lib.ListN.{length, take}
-use Rattle.meaning.specs.Limits.{maxWritten}
+use Rattle.meaning.specs.Limits.{largestWritten}
 use Rattle.meaning.specs.Basics.{All, Byte, Bytes, Distinct, Ordered, Pairwise, _∈_}
 use Rattle.meaning.specs.Problem.{Problem}
 use Rattle.meaning.specs.Read.{Answer, got, refused}
@@ -42,7 +42,7 @@ use Rattle.matcher.specs.declared.Moved.{Moved}
 use Rattle.matcher.specs.declared.OpenSearch.{OpenSearch}
 use Rattle.matcher.specs.declared.Reply.{Reply}
 use Rattle.words.specs.Words.{placeOfWords}
-use Rattle.exports.specs.Exported.{CheckExport, SearchExport, StartExport, WriteExport}
+use Rattle.tivagyesz.specs.Exported.{CheckExport, SearchExport, StartExport, WriteExport}
 use Rattle.promises.specs.Called.{CCheckCalled, CSearchCalled, CStartCalled, CWriteCalled, CheckCalled, Ends, OpenCalled, OpenContract}
 use Rattle.promises.specs.Called.{OpenedCalled, OwnedCalled, PastLastCalled, RowAtCalled, SearchCalled, StartCalled, Unasked, WriteCalled}
 use Rattle.promises.specs.Numbers.{checkAnswer, writeAnswer}
@@ -140,7 +140,7 @@ pub record SecondDemand (host : Interface) : Type 0 where
       → host .Writing s row out (got n) out′ → host .Checking s (take n out′) a → a ≡ got true
   -- "every filling that passes has a row whose text names it"
   pub hasRow : (s text : Bytes) → All Byte s → host .Checking s text (got true)
-      → (row : host .Held) × ((out out′ : Bytes) (a : Answer ℕ) → maxWritten ≤ length out → host .Writing s row out a out′
+      → (row : host .Held) × ((out out′ : Bytes) (a : Answer ℕ) → largestWritten ≤ length out → host .Writing s row out a out′
       → (n : ℕ) × (a ≡ got n) × (namedBy (take n out′) ≡ namedBy text))
   -- T-07: "Two passing texts of one problem then differ only in bound names exactly when they name the same solution"
   pub onlyNames : (s text text′ : Bytes) (is is′ : List Item) → All Byte text → All Byte text′ → host .Checking s text (got true)
@@ -165,7 +165,7 @@ pub record Owed (host : Interface) (s : Bytes) (given : List (host .Held)) (ende
   -- and so are the texts that a host holds of them: that of the k-th Found names filling k
   pub texts : (ts : List Bytes) → Pairwise (TextOf host s) given ts
       → map namedBy ts ≡ map (λ (x : Listed). got (x .1)) (take (length given) full)
-  pub written : (row : host .Held) → row ∈ given → (out out′ : Bytes) (a : Answer ℕ) → maxWritten ≤ length out
+  pub written : (row : host .Held) → row ∈ given → (out out′ : Bytes) (a : Answer ℕ) → largestWritten ≤ length out
       → host .Writing s row out a out′ → (n : ℕ) × (a ≡ got n)
   -- "End only when all were given"
   pub all : ended → map (host .value) given ≡ map givenRow full

@@ -15,7 +15,7 @@ use lib.Seq.{drop-drop}
 use lib.Dec.{eqb}
 use borrow.Author.Tests.{ne-eqb, eq-eqb, eqb-true, eqb-false, lt-ltb, le-ltb}
 use Rattle.meaning.specs.Basics.{choose, Bytes}
-use Rattle.meaning.specs.Limits.{maxInput, maxConstraints, maxDepth}
+use Rattle.meaning.specs.Limits.{largestProblem, maxConstraints, maxDepth}
 use Rattle.meaning.specs.Term.{one, NamedTerm}
 use Rattle.meaning.specs.Problem.{Constraint, Problem, forestOf}
 use Rattle.meaning.specs.Read.{Answer, refused, got, after, inPattern, inExpression, readTerm, readPair, constraintHead}
@@ -346,7 +346,7 @@ module _ {s o x p y : List ℕ} {m n k at : ℕ} (r : Reading s o x p y m n k at
 
 -- The whole input: the returns of `read`
 pub problem-over : (s o x : List ℕ) → 4096 < length s → ProblemDone (readProblem s) o o x x (answers.Refused 1)
-unfolding readProblem maxInput problemAnswer Written
+unfolding readProblem largestProblem problemAnswer Written
 problem-over s o x h =
     record {
       answer = rw (lt-ltb 4096 (length s) h);
@@ -356,7 +356,7 @@ problem-over s o x h =
 
 pub problem-within : (s o p x y : List ℕ) (r : Read) → length s ≤ 4096 → ProblemDone (readConstraints maxConstraints s) o p x y r
     → ProblemDone (readProblem s) o p x y r
-unfolding readProblem maxInput
+unfolding readProblem largestProblem
 problem-within s o p x y r h d = rw (le-ltb 4096 (length s) h) d
 
 -- What the answer of `read` says, for all bytes: a refusal is document 01's, with its number

@@ -1,6 +1,6 @@
 // Document 01's limits on a problem, and the room that they call for.
 
-pub const MAX_INPUT: usize = 4096;
+pub const LARGEST_PROBLEM: usize = 4096;
 
 pub const MAX_CONSTRAINTS: usize = 16;
 

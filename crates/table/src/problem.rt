@@ -1,7 +1,7 @@
 // Reads a problem: 1, then constraints to the end with 2, 3, 4, 11 and 7. Its patterns go into one table and its expressions into another.
 use crate::answer::Read;
 use crate::limit::MAX_CONSTRAINTS;
-use crate::limit::MAX_INPUT;
+use crate::limit::LARGEST_PROBLEM;
 use fields::field::Parts;
 use fields::field::parts_of;
 use terms::term::Term;
@@ -118,7 +118,7 @@ pub fn read(bytes: &[u8], patterns: &mut [u64], expressions: &mut [u64]) -> Read
     ensures { λ r. ⌜ ProblemDone (readProblem (now (bytes .entry))) (now (patterns .entry)) (now (patterns .exit))
         (now (expressions .entry)) (now (expressions .exit)) r ⌝ }
 {
-    if MAX_INPUT < bytes.len() {
+    if LARGEST_PROBLEM < bytes.len() {
         return Read::Refused(1);
     }
     read_constraints(bytes, patterns, expressions)

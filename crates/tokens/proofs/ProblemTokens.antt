@@ -6,7 +6,7 @@ use mathlib.Core.List.{List, [], _∷_, _++_}
 use Prim.Native.Nat.{ℕ, zero, suc, _+_, _*_, _<_, _≤_}
 use native.Mathlib.Omega.{arith}
 use lib.ListN.{length, length-append}
-use Rattle.meaning.specs.Limits.{maxInput, maxDepth}
+use Rattle.meaning.specs.Limits.{largestProblem, maxDepth}
 use Rattle.meaning.specs.Basics.{All}
 use Rattle.meaning.specs.Term.{Forest, nil, cons, one, size, Named}
 use Rattle.meaning.specs.Scope.{enter}
@@ -44,7 +44,7 @@ problem-bytes (c ∷ p) =
     omega arith
 
 pub nodes-few : (p : Problem) → WithinLimits p → size (namedPatterns p) + size (namedExpressions p) < 1366
-unfolding maxInput
+unfolding largestProblem
 nodes-few p w = omega (arith, problem-bytes p, w .input)
 
 -- One token

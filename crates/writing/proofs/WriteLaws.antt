@@ -8,7 +8,7 @@ use native.Mathlib.Omega.{arith}
 use lib.ListN.{length, take, drop}
 use lib.Seq.{length-take-le}
 use borrow.Author.Tests.{not-false, not-true}
-use Rattle.meaning.specs.Limits.{maxText}
+use Rattle.meaning.specs.Limits.{largestText}
 use Rattle.meaning.specs.Basics.{Bytes, _∈_}
 use Rattle.meaning.specs.Problem.{Problem}
 use Rattle.meaning.specs.Row.{Row, SolutionRow}
@@ -132,7 +132,7 @@ module _ (s : Bytes) (ps es fs ds : List ℕ) (a : Standing) (firsts : Firsts) (
 
       -- What `write_text` requires
       pub row-writable : Writable es′ planOf
-      unfolding maxText
+      unfolding largestText
       row-writable = record {
         table = subst Table (sym (ready .laid .expressions)) (expression-table p (ready .laid .accepted .within));
         planned =

@@ -19,7 +19,7 @@ use crate::{body, check, spelling, text};
 use std::collections::BTreeSet;
 
 const MAX_FUNCTIONS: usize = 8;
-const MAX_FACE: usize = 64;
+const MAX_FACE_NODES: usize = 64;
 
 /// A solution row with its solution's text.
 #[derive(Debug, Clone, PartialEq, Eq)]
@@ -64,7 +64,7 @@ impl Problem {
             constraints,
         };
         let mut function_faces = problem.function_faces().into_iter().flatten();
-        if function_faces.any(|face| face.spelled.size() > MAX_FACE) {
+        if function_faces.any(|face| face.spelled.size() > MAX_FACE_NODES) {
             return Err(FACE_TOO_LARGE);
         }
         Ok(problem)

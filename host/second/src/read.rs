@@ -8,7 +8,7 @@
 use crate::refusal::*;
 use crate::term::{Meta, Name, Term};
 
-const MAX_INPUT: usize = 4096;
+const LARGEST_PROBLEM: usize = 4096;
 const MAX_DEPTH: usize = 32;
 const MAX_CONSTRAINTS: usize = 16;
 
@@ -51,7 +51,7 @@ pub struct Constraint {
 
 /// Reads all constraints of a problem: refusals 1 to 11 and 25.
 pub fn constraints(mut input: &[u8]) -> Result<Vec<Constraint>, u8> {
-    if input.len() > MAX_INPUT {
+    if input.len() > LARGEST_PROBLEM {
         return Err(INPUT_TOO_LONG);
     }
     let mut constraints = Vec::new();

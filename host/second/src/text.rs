@@ -10,7 +10,7 @@ use crate::read::{self, tag, Part};
 use crate::refusal::*;
 use crate::term::{Meta, Term};
 
-const MAX_TEXT: usize = 8192;
+const LARGEST_TEXT: usize = 8192;
 
 /// A field of a solution text.
 #[derive(Debug, Clone, PartialEq, Eq)]
@@ -35,7 +35,7 @@ impl Field {
 /// Reads a text; refusals 19, 20 and 27. T-07 has 27 "checked after 20 over the
 /// whole text", so the numbers are compared when all fields are there.
 pub fn read(mut text: &[u8]) -> Result<Vec<Field>, u8> {
-    if text.len() > MAX_TEXT {
+    if text.len() > LARGEST_TEXT {
         return Err(TEXT_TOO_LONG);
     }
     let mut fields = Vec::new();

@@ -3,7 +3,7 @@ use mathlib.Core.Path.{refl}
 use Prim.Native.Nat.{_≤_}
 use lib.ListN.{length}
 use borrow.Author.Needs.{needs}
-use Rattle.meaning.specs.Limits.{maxText}
+use Rattle.meaning.specs.Limits.{largestText}
 use Rattle.items.proofs.TextLaws.{text-falls, text-got, text-over, text-malformed}
 use Rattle.items.proofs.read_text.Statement.{statement}
 use Rattle.items.proofs.read_text.Tie as tie
@@ -19,7 +19,7 @@ returns : tie.Need-returns
 returns c = text-over _ _ _ (c .before .if1 .taken) (c .refused .ensures)
 
 read-fields-requires : tie.Need-read-fields-requires
-unfolding maxText
+unfolding largestText
 read-fields-requires c κs = record { short = c .before .if1 .left; room = c .before .before .before .before .pre }
 
 refused-requires-2 : tie.Need-refused-requires-2

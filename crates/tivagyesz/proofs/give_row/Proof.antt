@@ -1,9 +1,9 @@
 -- `give_row` meets its contract.
 use Rattle.places.specs.Places.{valueOf}
-use Rattle.exports.proofs.ExportLaws.{row-given, no-row-given}
+use Rattle.tivagyesz.proofs.ExportLaws.{row-given, no-row-given}
 use borrow.Author.Needs.{needs}
-use Rattle.exports.proofs.give_row.Statement.{statement}
-use Rattle.exports.proofs.give_row.Tie as tie
+use Rattle.tivagyesz.proofs.give_row.Statement.{statement}
+use Rattle.tivagyesz.proofs.give_row.Tie as tie
 
 returns : tie.Need-returns
 returns c = no-row-given _ (valueOf (c .before .before .args .row)) _ (c .if1 .taken)

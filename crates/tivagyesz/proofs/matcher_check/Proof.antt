@@ -1,9 +1,9 @@
 -- `matcher_check` meets its contract.
 use mathlib.Core.Path.{_∙_, ap}
-use Rattle.exports.specs.Exported.{checkCode}
+use Rattle.tivagyesz.specs.Exported.{checkCode}
 use borrow.Author.Needs.{needs}
-use Rattle.exports.proofs.matcher_check.Statement.{statement}
-use Rattle.exports.proofs.matcher_check.Tie as tie
+use Rattle.tivagyesz.proofs.matcher_check.Statement.{statement}
+use Rattle.tivagyesz.proofs.matcher_check.Tie as tie
 
 check-requires : tie.Need-check-requires
 check-requires c κs = search needs

@@ -1,9 +1,9 @@
 -- `matcher_search` meets its contract: a refusal changes nothing, and any other answer moves the place.
 use native.Mathlib.Omega.{arith}
-use Rattle.exports.proofs.ExportLaws.{search-refused, place-long, row-long, search-answered}
+use Rattle.tivagyesz.proofs.ExportLaws.{search-refused, place-long, row-long, search-answered}
 use borrow.Author.Needs.{needs}
-use Rattle.exports.proofs.matcher_search.Statement.{statement}
-use Rattle.exports.proofs.matcher_search.Tie as tie
+use Rattle.tivagyesz.proofs.matcher_search.Statement.{statement}
+use Rattle.tivagyesz.proofs.matcher_search.Tie as tie
 
 place-of-requires : tie.Need-place-of-requires
 place-of-requires c κs = search needs

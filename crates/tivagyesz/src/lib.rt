@@ -21,8 +21,8 @@ ghost use lib.ListN.{length};
 ghost use Rattle.places.specs.Places.{valueOf};
 ghost use Rattle.writing.specs.Writing.{answerOf};
 ghost use Rattle.words.specs.Words.{placeWords};
-ghost use Rattle.exports.specs.Exported.{placeInto, Told, rowGiven, lengthAfter, writeCode};
-ghost use Rattle.exports.specs.Exported.{StartExport, SearchExport, WriteExport, CheckExport};
+ghost use Rattle.tivagyesz.specs.Exported.{placeInto, Told, rowGiven, lengthAfter, writeCode};
+ghost use Rattle.tivagyesz.specs.Exported.{StartExport, SearchExport, WriteExport, CheckExport};
 
 // The start, where the words have room for a place.
 fn give_start(words: &mut [u64], first: Place) -> u32
@@ -91,13 +91,13 @@ fn write_code(answer: Written) -> u32
 }
 
 // The length of the text into `written`, if there is a text.
-fn give_length(answer: Written, written: &mut u64)
+fn give_length(answer: Written, written: &mut usize)
     ensures { λ _. ⌜ now (written .exit) ≡ lengthAfter (now (written .entry)) (answerOf answer) ⌝ }
 {
     let Written::Wrote(n) = answer else {
         return;
     };
-    *written = n as u64;
+    *written = n;
 }
 
 // The text of a row at the front of `out`, and its length into `written`.
@@ -106,7 +106,7 @@ pub extern "C" fn matcher_write(
     problem: &[u8],
     row: &[u64],
     out: &mut [u8],
-    written: &mut u64,
+    written: &mut usize,
 ) -> u32
     ensures { λ r. ⌜ WriteExport (now (problem .entry)) (now (row .entry)) (now (out .entry)) (now (written .entry))
         (now (out .exit)) (now (written .exit)) r ⌝ }

@@ -1,9 +1,9 @@
 -- `search_code` meets its contract: a law for each answer.
 use native.Mathlib.Omega.{arith}
-use Rattle.exports.proofs.ExportLaws.{coded-refused, coded-found, coded-paused, coded-end}
+use Rattle.tivagyesz.proofs.ExportLaws.{coded-refused, coded-found, coded-paused, coded-end}
 use borrow.Author.Needs.{needs}
-use Rattle.exports.proofs.codes.search_code.Statement.{statement}
-use Rattle.exports.proofs.codes.search_code.Tie as tie
+use Rattle.tivagyesz.proofs.codes.search_code.Statement.{statement}
+use Rattle.tivagyesz.proofs.codes.search_code.Tie as tie
 
 enum-known-answer : tie.Need-enum-known-answer
 enum-known-answer c = search needs

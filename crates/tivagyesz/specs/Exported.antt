@@ -104,8 +104,8 @@ pub record WriteExport (s : Bytes) (row : List ℕ) (out : Bytes) (written : ℕ
   pub length : written′ ≡ lengthAfter written answer
 
 abbrev pub checkCode : Answer Bool → ℕ
-checkCode (got true) = 256
-checkCode (got false) = 257
+checkCode (got true) = 259
+checkCode (got false) = 260
 checkCode (refused n) = n
 
 -- `matcher_check`

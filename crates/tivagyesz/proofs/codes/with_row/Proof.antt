@@ -1,7 +1,7 @@
 -- `with_row` meets its contract.
-use Rattle.exports.proofs.ExportLaws.{with-row, without-row}
-use Rattle.exports.proofs.codes.with_row.Statement.{statement}
-use Rattle.exports.proofs.codes.with_row.Tie as tie
+use Rattle.tivagyesz.proofs.ExportLaws.{with-row, without-row}
+use Rattle.tivagyesz.proofs.codes.with_row.Statement.{statement}
+use Rattle.tivagyesz.proofs.codes.with_row.Tie as tie
 
 returns : tie.Need-returns
 returns c = without-row _ _ (c .if1 .taken)

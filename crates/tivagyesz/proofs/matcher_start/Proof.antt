@@ -1,8 +1,8 @@
 -- `matcher_start` meets its contract: the start is refused, or given.
-use Rattle.exports.proofs.ExportLaws.{start-refused, start-begins}
+use Rattle.tivagyesz.proofs.ExportLaws.{start-refused, start-begins}
 use borrow.Author.Needs.{needs}
-use Rattle.exports.proofs.matcher_start.Statement.{statement}
-use Rattle.exports.proofs.matcher_start.Tie as tie
+use Rattle.tivagyesz.proofs.matcher_start.Statement.{statement}
+use Rattle.tivagyesz.proofs.matcher_start.Tie as tie
 
 start-requires : tie.Need-start-requires
 start-requires c κs = search needs

@@ -1,8 +1,8 @@
 -- `give_start` meets its contract.
-use Rattle.exports.proofs.ExportLaws.{given, not-given}
+use Rattle.tivagyesz.proofs.ExportLaws.{given, not-given}
 use borrow.Author.Needs.{needs}
-use Rattle.exports.proofs.give_start.Statement.{statement}
-use Rattle.exports.proofs.give_start.Tie as tie
+use Rattle.tivagyesz.proofs.give_start.Statement.{statement}
+use Rattle.tivagyesz.proofs.give_start.Tie as tie
 
 returns : tie.Need-returns
 returns c = not-given _ _ (c .if1 .taken)

@@ -27,8 +27,8 @@ use Rattle.seeking.specs.declared.Searched.{Searched}
 use Rattle.writing.specs.Writing.{answerOf, Writes}
 use Rattle.writing.specs.declared.write.Written.{Written}
 use Rattle.words.specs.Words.{hasPlace, placeOfWords, placeWords, placed}
-use Rattle.exports.specs.Exported.{placeInto, startCode, startAfter, Told, StartExport, withRow, replyCode, placeAfter, rowAfter}
-use Rattle.exports.specs.Exported.{rowGiven, Coded, SearchExport, writeCode, lengthAfter, WriteExport}
+use Rattle.tivagyesz.specs.Exported.{placeInto, startCode, startAfter, Told, StartExport, withRow, replyCode, placeAfter, rowAfter}
+use Rattle.tivagyesz.specs.Exported.{rowGiven, Coded, SearchExport, writeCode, lengthAfter, WriteExport}
 use Rattle.words.proofs.WordLaws.{named-long}
 
 -- The start

@@ -1,4 +1,5 @@
-// The number of each answer: a refusal is document 01's number, and an answer that is none is above every refusal.
+// The number of each answer: a refusal is document 01's number, an answer that is none is above every refusal, and no two answers share
+// one. `include/matcher.h` has the same names.
 use checking::Checked;
 use seeking::Answer;
 use words::PLACE_WORDS;
@@ -6,7 +7,7 @@ ghost use mathlib.Core.Path.{_≡_};
 ghost use Rattle.meaning.specs.Basics.{choose};
 ghost use Rattle.checking.specs.Checking.{answerOf};
 ghost use Rattle.words.specs.Words.{hasPlace};
-ghost use Rattle.exports.specs.Exported.{Coded, checkCode};
+ghost use Rattle.tivagyesz.specs.Exported.{Coded, checkCode};
 
 pub const FOUND: u32 = 256;
 
@@ -14,9 +15,9 @@ const PAUSED: u32 = 257;
 
 const END: u32 = 258;
 
-const YES: u32 = 256;
+const YES: u32 = 259;
 
-const NO: u32 = 257;
+const NO: u32 = 260;
 
 pub const TOO_SHORT: u32 = 18;
 

@@ -1,8 +1,8 @@
 -- `matcher_write` meets its contract.
-use Rattle.exports.proofs.ExportLaws.{written}
+use Rattle.tivagyesz.proofs.ExportLaws.{written}
 use borrow.Author.Needs.{needs}
-use Rattle.exports.proofs.matcher_write.Statement.{statement}
-use Rattle.exports.proofs.matcher_write.Tie as tie
+use Rattle.tivagyesz.proofs.matcher_write.Statement.{statement}
+use Rattle.tivagyesz.proofs.matcher_write.Tie as tie
 
 place-of-requires : tie.Need-place-of-requires
 place-of-requires c κs = search needs
