@@ -13,7 +13,7 @@ const CLASS: u64 = 0xFFFF_F000_0000_0000;
 const MOST: u64 = 1000000;
 
 // How many rows there are from `row` on, counted as far as MOST. The first of all is lent for the stepping.
-fn count_from(ds: &[u64], first: [u64; rows::FUNCTIONS], row: [u64; rows::FUNCTIONS]) -> u64
+fn count_from(ds: &[u64], first: [u64; rows::MAX_FUNCTIONS], row: [u64; rows::MAX_FUNCTIONS]) -> u64
     requires { ⌜ Tables (now ds) ⌝ ∗ ⌜ row ∈ maskRows (now ds) ⌝ ∗ ⌜ placeOf (maskRows (now ds)) ≡ at first ⌝ }
 {
     let mut reached = row;

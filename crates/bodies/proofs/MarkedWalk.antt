@@ -23,7 +23,7 @@ use Rattle.meaning.proofs.Lockstep.{agrees-eq, agrees-self}
 use Rattle.masks.proofs.Cases.{same-truth}
 use Rattle.tokens.specs.Key.{levelFrom}
 use Rattle.tokens.proofs.Codes.{Viewed, code, Coded, code-injective, seenLabel, viewFrom}
-use Rattle.lockstep.specs.Walk.{faceCode, expressionNode}
+use Rattle.lockstep.specs.Walk.{expressionNode}
 use Rattle.lockstep.proofs.WalkTrees.{SeenStop, seenMeet, seenWalk}
 use Rattle.bodies.proofs.MarkLaws.{punch-left}
 

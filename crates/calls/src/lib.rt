@@ -24,12 +24,12 @@ pub struct Ran {
 }
 
 // The row as number k of the rows in the buffer.
-fn put_row(rows: &mut [u64], k: usize, row: [u64; Place::FUNCTIONS])
+fn put_row(rows: &mut [u64], k: usize, row: [u64; Place::MAX_FUNCTIONS])
     requires { ⌜ 8 * k + 8 ≤ length (now rows) ⌝ }
     ensures { λ _. ⌜ Put k row (now (rows .entry)) (now (rows .exit)) ⌝ }
 {
     let mut j = 0;
-    while j < Place::FUNCTIONS {
+    while j < Place::MAX_FUNCTIONS {
         rows[8 * k + j] = row[j];
         j += 1;
     }

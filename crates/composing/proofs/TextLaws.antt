@@ -15,12 +15,12 @@ use Rattle.meaning.specs.Encoded.{encodeEntry}
 use Rattle.meaning.proofs.ByteLaws.{field-length}
 use Rattle.slices.proofs.Slices.{rest-all, rows-joined}
 use Rattle.copying.specs.Fixed.{Wrote}
-use Rattle.copying.specs.Copied.{Copied, Copies, TermIn, copied}
+use Rattle.copying.specs.Copied.{Copied, Copyable, TermIn, copied}
 use Rattle.copying.specs.Measure.{Measurable, Measured}
 use Rattle.copying.proofs.CopiedMeaning.{copied-whole}
 use Rattle.copying.proofs.WriteLaws.{Part, part-begins, part-ends, part-goes, part-long}
 use Rattle.composing.specs.Entries.{Denotes, DenotesAll, Entries, entryAt, fieldsOf}
-use Rattle.composing.specs.Composing.{CopyRoom, CopyWritten, EntryMeasured, EntryRoom, EntryThere, EntryWritten, FieldsWritten, Fits}
+use Rattle.composing.specs.Composing.{CopyRoom, CopyWritten, EntryMeasured, EntryRoom, EntryThere, EntryWritten, FieldsWritten, BytesFit}
 use Rattle.composing.specs.Composing.{TextMeasured, TextRoom, Writable}
 use Rattle.composing.specs.declared.entry.Plan.{Plan}
 use Rattle.composing.specs.declared.entry.Entry.{Entry}
@@ -89,14 +89,14 @@ module _ {es : List ℕ} {m : ℕ} {entry : Entry} where
       let (t, there, d) = subst (λ (x : Entry). Denotes es x (h .says)) q (h .denotes) in
       let same : encodeEntry m (h .says) ≡ field 8 (m ∷ copied 0 t) =
       ap (encodeEntry m) d ∙ ap (λ (bs : Bytes). field 8 (m ∷ bs)) (sym (copied-whole t)) in
-      record { term = t; there = there; fits = subst (λ (bs : Bytes). Fits bs room) same (h .fits) }
+      record { term = t; there = there; fits = subst (λ (bs : Bytes). BytesFit bs room) same (h .fits) }
 
   pub body-room : {node mask room : ℕ} → entry ≡ entries.Body node mask → EntryRoom es m entry room → CopyRoom es node mask m 9 room
   body-room {node} {mask} {room} q h =
       let (t, b, there, d, same) = subst (λ (x : Entry). Denotes es x (h .says)) q (h .denotes) in
       let bytes : encodeEntry m (h .says) ≡ field 9 (m ∷ copied mask t) =
       ap (encodeEntry m) d ∙ ap (λ (bs : Bytes). field 9 (m ∷ bs)) (sym same) in
-      record { term = t; there = there; fits = subst (λ (bs : Bytes). Fits bs room) bytes (h .fits) }
+      record { term = t; there = there; fits = subst (λ (bs : Bytes). BytesFit bs room) bytes (h .fits) }
 
   pub absent-written : {before : Bytes} → entry ≡ entries.Absent → EntryWritten es m entry before before 0
   absent-written {before} q = subst (λ (x : Entry). EntryWritten es m x before before 0) (sym q)
@@ -154,7 +154,7 @@ module _ {es : List ℕ} {node mask m tag : ℕ} (before : Bytes) (room : CopyRo
   copy-begins = omega (arith, long)
 
   -- What `copy` requires
-  pub copy-copies : Copies es node mask (length (take (length before - 4) (drop 4 before)))
+  pub copy-copies : Copyable es node mask (length (take (length before - 4) (drop 4 before)))
   copy-copies =
       let l = ap length (rest-all 4 before) ∙ length-drop 4 before in
       record {

@@ -19,7 +19,7 @@ use Rattle.composing.specs.declared.entry.Plan.{Plan}
 use Rattle.composing.specs.declared.entry.Entry.{Entry}
 
 -- Bytes that fit a buffer, and whose number two bytes can say
-pub record Fits (bytes : Bytes) (room : ℕ) : Type 0 where
+pub record BytesFit (bytes : Bytes) (room : ℕ) : Type 0 where
   pub inside : length bytes ≤ room
   pub short : length bytes < 65536
 
@@ -27,7 +27,7 @@ pub record Fits (bytes : Bytes) (room : ℕ) : Type 0 where
 pub record EntryRoom (es : List ℕ) (m : ℕ) (entry : Entry) (room : ℕ) : Type 0 where
   pub says : meant.Entry NamedTerm
   pub denotes : Denotes es entry says
-  pub fits : Fits (encodeEntry m says) room
+  pub fits : BytesFit (encodeEntry m says) room
 
 pub record EntryThere (es : List ℕ) (entry : Entry) : Type 0 where
   pub table : Table es
@@ -46,7 +46,7 @@ pub record EntryWritten (es : List ℕ) (m : ℕ) (entry : Entry) (before after 
 pub record CopyRoom (es : List ℕ) (node mask m tag room : ℕ) : Type 0 where
   pub term : NamedTerm
   pub there : TermIn es node term
-  pub fits : Fits (field tag (m ∷ copied mask term)) room
+  pub fits : BytesFit (field tag (m ∷ copied mask term)) room
 
 pub record CopyWritten (es : List ℕ) (node mask m tag : ℕ) (before after : Bytes) (r : ℕ) : Type 0 where
   pub wrote : (t : NamedTerm) → TermIn es node t → Wrote (field tag (m ∷ copied mask t)) before after r
@@ -57,7 +57,7 @@ pub record TextRoom (es : List ℕ) (plan : Plan) (m room : ℕ) : Type 0 where
   pub says : Entries
   pub denotes : DenotesAll es plan says
   pub within : m ≤ metavariableCount
-  pub fits : Fits (fieldsOf says m) room
+  pub fits : BytesFit (fieldsOf says m) room
 
 pub record FieldsWritten (es : List ℕ) (plan : Plan) (m : ℕ) (before after : Bytes) (r : ℕ) : Type 0 where
   pub wrote : (says : Entries) → DenotesAll es plan says → Wrote (fieldsOf says m) before after r

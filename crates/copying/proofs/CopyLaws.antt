@@ -15,7 +15,7 @@ use Rattle.tokens.specs.Key.{at}
 use Rattle.slices.proofs.Slices.{part-length}
 use Rattle.bodies.specs.Marked.{marked}
 use Rattle.copying.specs.Fixed.{NodeRoom, NodeWrote, Wrote, aHole, fixedIn, headIn}
-use Rattle.copying.specs.Copied.{Copied, CopiedTerm, CopiedTerms, Copies, CopiesTerm, CopiesTerms, Spans, TermIn, copied, copiedFrom}
+use Rattle.copying.specs.Copied.{Copied, CopiedTerm, CopiedTerms, Copyable, TermCopyable, TermsCopyable, Spans, TermIn, copied, copiedFrom}
 use Rattle.copying.proofs.FixedLaws.{head-length, hole-length}
 use Rattle.copying.proofs.WriteLaws.{Part, headed, part-begins, part-ends, part-goes, part-long}
 use Rattle.copying.proofs.CopiedBytes.{copied-none, first-bytes, hole-bytes}
@@ -30,7 +30,7 @@ later-node : {es : List ℕ} {node : ℕ} {t : NamedTerm} (from m : ℕ) → Ter
 later-node from m there h is-m = omega (arith, term-size there)
 
 -- `copy_term`
-module _ {es : List ℕ} {from mask node room : ℕ} (h : CopiesTerm es from mask node room) where
+module _ {es : List ℕ} {from mask node room : ℕ} (h : TermCopyable es from mask node room) where
   pub hole-room : marked mask (node - from) ≡ true → 3 ≤ room
   hole-room e = omega (arith, h .fits, ap length (hole-bytes mask (node - from) (h .term .0) (h .term .1) e), hole-length)
 
@@ -47,7 +47,7 @@ module _ {es : List ℕ} {from mask node room : ℕ} (h : CopiesTerm es from mas
       inner-less = omega (arith, term-size (h .there))
 
       pub inner-copies : {f : ℕ} (o : Bytes) → length o ≡ room → f ≡ length (fixedIn (at es node))
-          → CopiesTerms es from mask (node + 1) (node + m) (length (take (length o - (3 + f)) (drop (3 + f) o)))
+          → TermsCopyable es from mask (node + 1) (node + m) (length (take (length o - (3 + f)) (drop (3 + f) o)))
       inner-copies {f} o same is-f =
           let n = inner-room is-f in
           record {
@@ -132,7 +132,7 @@ module _ {es : List ℕ} {from mask node to next n : ℕ} {before out : Bytes} (
           part-ends (l .part)
           (ap (copiedFrom mask (next - from)) (span-none (l .rest) (l .there) h) ∙ copied-none mask (next - from))
 
-  module _ (h : CopiesTerms es from mask node to (length before)) where
+  module _ (h : TermsCopyable es from mask node to (length before)) where
     left : Left es from mask node to next n before out (h .terms)
     left = w .written (h .terms) (h .there)
 
@@ -163,7 +163,7 @@ module _ {es : List ℕ} {from mask node to next n : ℕ} {before out : Bytes} (
       pub next-less : 2 * sizeIn (at es next) < 2 * (to - node) + 1
       next-less = omega (arith, next-nodes, w .begins)
 
-      pub next-copies : CopiesTerm es from mask next (length (take (length out - n) (drop n out)))
+      pub next-copies : TermCopyable es from mask next (length (take (length out - n) (drop n out)))
       next-copies =
           record {
             term = next-term .term;
@@ -202,7 +202,7 @@ module _ {es : List ℕ} {from mask node to next n : ℕ} {before out : Bytes} (
 own-number : (node : ℕ) → node - node ≡ 0
 own-number node = omega arith
 
-pub whole-copies : {es : List ℕ} {node mask room : ℕ} → Copies es node mask room → CopiesTerm es node mask node room
+pub whole-copies : {es : List ℕ} {node mask room : ℕ} → Copyable es node mask room → TermCopyable es node mask node room
 unfolding copied
 whole-copies {node} h =
     record {

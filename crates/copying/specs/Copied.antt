@@ -4,7 +4,7 @@
 --   copied       the bytes of a term whose own node has the number 0
 --   TermIn       an expression stands in the table at a node, in whatever scope
 --   Spans        expressions stand in the table from a node up to another, one after the other
---   Copies..     what copying asks: the term or the terms, and room for their bytes, which a field's length can count
+--   ..Copyable   what copying asks: the term or the terms, and room for their bytes, which a field's length can count
 --   Copied..     what it gives: the bytes at the buffer's front, how many they are, and no later byte changed
 use mathlib.Core.Path.{_≡_}
 use Prim.Native.Nat.{ℕ, suc, _+_, _-_, _<_, _≤_}
@@ -51,7 +51,7 @@ pub record Spans (es : List ℕ) (node to : ℕ) (u : Forest Named) : Type 0 whe
   pub ends : to ≡ node + size u
 
 -- A whole term
-pub record Copies (es : List ℕ) (node mask room : ℕ) : Type 0 where
+pub record Copyable (es : List ℕ) (node mask room : ℕ) : Type 0 where
   pub term : NamedTerm
   pub there : TermIn es node term
   pub fits : length (copied mask term) ≤ room
@@ -62,7 +62,7 @@ Copied es node mask before after r =
     (t : NamedTerm) → TermIn es node t → Wrote (copied mask t) before after r
 
 -- A term at a node, at or below the copied one at node `from`
-pub record CopiesTerm (es : List ℕ) (from mask node room : ℕ) : Type 0 where
+pub record TermCopyable (es : List ℕ) (from mask node room : ℕ) : Type 0 where
   pub term : NamedTerm
   pub there : TermIn es node term
   pub begins : from ≤ node
@@ -73,7 +73,7 @@ pub record CopiedTerm (es : List ℕ) (from mask node : ℕ) (before after : Byt
   pub wrote : (t : NamedTerm) → TermIn es node t → Wrote (copiedFrom mask (node - from) (one t)) before after r
 
 -- The terms from a node up to another, below the copied one at node `from`
-pub record CopiesTerms (es : List ℕ) (from mask node to room : ℕ) : Type 0 where
+pub record TermsCopyable (es : List ℕ) (from mask node to room : ℕ) : Type 0 where
   pub terms : Forest Named
   pub there : Spans es node to terms
   pub begins : from ≤ node

@@ -13,7 +13,7 @@ ghost use lib.ListN.{length, drop};
 ghost use Rattle.meaning.specs.Field.{symbolBytes, word};
 ghost use Rattle.tokens.specs.Token.{payloadIn};
 ghost use Rattle.copying.specs.Fixed.{fixedIn, aHole, HeadRoom, Wrote, NodeRoom, NodeWrote};
-ghost use Rattle.copying.specs.Copied.{Copies, Copied, CopiesTerm, CopiedTerm, CopiesTerms, CopiedTerms};
+ghost use Rattle.copying.specs.Copied.{Copyable, Copied, TermCopyable, CopiedTerm, TermsCopyable, CopiedTerms};
 ghost use Rattle.copying.specs.Measure.{Measurable, Measured};
 
 // "hole, length 0"
@@ -116,7 +116,7 @@ fn write_node(x: u64, n: usize, out: &mut [u8]) -> usize
 
 // The term at node `at`, which is the copied one, at node `from`, or stands below it.
 fn copy_term(es: &[u64], from: usize, mask: u64, at: usize, out: &mut [u8]) -> usize
-    requires { ⌜ CopiesTerm (now es) from mask at (length (now out)) ⌝ }
+    requires { ⌜ TermCopyable (now es) from mask at (length (now out)) ⌝ }
     ensures { λ r. ⌜ CopiedTerm (now (es .entry)) from mask at (now (out .entry)) (now (out .exit)) r ⌝ }
 {
     if marked(mask, at - from) {
@@ -132,7 +132,7 @@ fn copy_term(es: &[u64], from: usize, mask: u64, at: usize, out: &mut [u8]) -> u
 // The terms from node `at` up to node `to`, each into the part of the buffer after those before it. A loop, so that the stack grows with
 // the depth of a term and not with the number of its children.
 fn copy_terms(es: &[u64], from: usize, mask: u64, at: usize, to: usize, out: &mut [u8]) -> usize
-    requires { ⌜ CopiesTerms (now es) from mask at to (length (now out)) ⌝ }
+    requires { ⌜ TermsCopyable (now es) from mask at to (length (now out)) ⌝ }
     ensures { λ r. ⌜ CopiedTerms (now (es .entry)) from mask at to (now (out .entry)) (now (out .exit)) r ⌝ }
 {
     let mut next = at;
@@ -146,7 +146,7 @@ fn copy_terms(es: &[u64], from: usize, mask: u64, at: usize, to: usize, out: &mu
 
 // The term at a node with the marked nodes as holes.
 pub fn copy(es: &[u64], node: usize, mask: u64, out: &mut [u8]) -> usize
-    requires { ⌜ Copies (now es) node mask (length (now out)) ⌝ }
+    requires { ⌜ Copyable (now es) node mask (length (now out)) ⌝ }
     ensures { λ r. ⌜ Copied (now (es .entry)) node mask (now (out .entry)) (now (out .exit)) r ⌝ }
 {
     copy_term(es, node, mask, node, out)

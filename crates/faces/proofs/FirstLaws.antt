@@ -18,7 +18,7 @@ use Rattle.tokens.specs.Key.{at}
 use Rattle.lockstep.specs.Walk.{expressionNode}
 use Rattle.metavariables.specs.Survey.{has, count}
 use Rattle.faces.specs.declared.first.Firsts.{Firsts}
-use Rattle.faces.specs.First.{applies, firstIn, absent, nodeOr, firstNode, firstsFrom, firstsOf, listed, Fits, Pushed, Listing}
+use Rattle.faces.specs.First.{applies, firstIn, absent, nodeOr, firstNode, firstsFrom, firstsOf, listed, FirstsFit, Pushed, Listing}
 use Rattle.faces.specs.First.{Listed, large, anyLarge}
 
 -- One recorded face
@@ -56,12 +56,12 @@ module _ (ps ns : List ℕ) (f k : ℕ) where
     first-next e = ap (λ (m : ℕ). firstNode ps (drop m ns) f) (add-one k) ∙ sym (opened ∙ ap nodeOr (choose-false _ _ e))
 
 -- One first face more
-pub pushed-list : (s : Firsts) (j : ℕ) → Fits s → s .count < 8 → take (s .count + 1) (set (s .nodes) (s .count) j) ≡ listed s ++ (j ∷ [])
+pub pushed-list : (s : Firsts) (j : ℕ) → FirstsFit s → s .count < 8 → take (s .count + 1) (set (s .nodes) (s .count) j) ≡ listed s ++ (j ∷ [])
 pushed-list s j r h =
     ap (λ (n : ℕ). take n (set (s .nodes) (s .count) j)) (add-one (s .count))
     ∙ take-suc-set (s .nodes) (s .count) j (omega (arith, r .array))
 
-pub pushed-long : (s : Firsts) (j : ℕ) → Fits s → length (set (s .nodes) (s .count) j) ≡ 8
+pub pushed-long : (s : Firsts) (j : ℕ) → FirstsFit s → length (set (s .nodes) (s .count) j) ≡ 8
 pushed-long s j r = length-set (s .nodes) (s .count) j ∙ r .array
 
 -- The functions from m on
@@ -114,7 +114,7 @@ module _ (ps ns : List ℕ) (s m : ℕ) (r : Firsts) (l : Listing ps ns s m r) (
       }
 
 module _ (ps ns : List ℕ) (s : ℕ) where
-  pub listing-start : (r : Firsts) → Fits r → r .count ≡ 0 → Listing ps ns s 0 r
+  pub listing-start : (r : Firsts) → FirstsFit r → r .count ≡ 0 → Listing ps ns s 0 r
   unfolding firstsFrom firstsOf metavariableCount
   listing-start r f e = record { fits = f; whole = ap (λ (n : ℕ). take n (r .nodes) ++ firstsOf ps ns s) e }
 

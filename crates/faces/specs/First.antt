@@ -46,21 +46,21 @@ firstsOf ps ns s = map (firstNode ps ns) (keep (has s) (upTo metavariableCount))
 abbrev pub listed : Firsts → List ℕ
 listed r = take (r .count) (r .nodes)
 
-pub record Fits (r : Firsts) : Type 0 where
+pub record FirstsFit (r : Firsts) : Type 0 where
   pub array : length (r .nodes) ≡ 8
   pub count : r .count ≤ 8
 
 pub record Pushed (s : Firsts) (j : ℕ) (r : Firsts) : Type 0 where
-  pub fits : Fits r
+  pub fits : FirstsFit r
   pub list : listed r ≡ listed s ++ (j ∷ [])
 
 -- The functions below m have been looked up
 pub record Listing (ps ns : List ℕ) (s m : ℕ) (r : Firsts) : Type 0 where
-  pub fits : Fits r
+  pub fits : FirstsFit r
   pub whole : listed r ++ firstsFrom ps ns s m ≡ firstsOf ps ns s
 
 pub record Listed (ps ns : List ℕ) (s : ℕ) (r : Firsts) : Type 0 where
-  pub fits : Fits r
+  pub fits : FirstsFit r
   pub list : listed r ≡ firstsOf ps ns s
 
 unfoldable pub large : List ℕ → ℕ → Bool

@@ -10,7 +10,7 @@ ghost use Prim.Native.Nat.{_+_, _<_, _≤_};
 ghost use lib.ListN.{length};
 ghost use Rattle.meaning.specs.Limits.{metavariableCount};
 ghost use Rattle.metavariables.specs.Survey.{count};
-ghost use Rattle.faces.specs.First.{applies, firstNode, firstsOf, listed, Fits, Pushed, Listing, Listed, large, anyLarge};
+ghost use Rattle.faces.specs.First.{applies, firstNode, firstsOf, listed, FirstsFit, Pushed, Listing, Listed, large, anyLarge};
 
 // "A face has at most 64 nodes"
 const MAX_FACE_NODES: u64 = 64;
@@ -54,7 +54,7 @@ pub fn first_face(ps: &[u64], faces: &[u64], f: u64) -> usize
 
 // One node more.
 fn pushed(firsts: Firsts, node: usize) -> Firsts
-    requires { ⌜ Fits firsts × (firsts .count < 8) ⌝ }
+    requires { ⌜ FirstsFit firsts × (firsts .count < 8) ⌝ }
     ensures { λ r. ⌜ Pushed firsts node r ⌝ }
 {
     let at = firsts.count;
@@ -104,7 +104,7 @@ fn large(es: &[u64], node: usize) -> bool
 
 // Whether a face has over 64 nodes (14).
 pub fn any_large(es: &[u64], firsts: Firsts) -> bool
-    requires { ⌜ Fits firsts ⌝ }
+    requires { ⌜ FirstsFit firsts ⌝ }
     ensures { λ r. ⌜ r ≡ anyLarge (now (es .entry)) (listed firsts) ⌝ }
 {
     let nodes = firsts.nodes;

@@ -6,4 +6,4 @@ pub const MAX_DEPTH: usize = 32;
 pub const FIRST_WIDE: u32 = 65536;
 
 // Metavariables are numbered from 0.
-pub const METAVARIABLE_COUNT: u8 = 32;
+pub const METAVARIABLES: u8 = 32;

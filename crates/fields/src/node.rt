@@ -6,7 +6,7 @@ use crate::field::head_of;
 use crate::field::long;
 use crate::field::word;
 use crate::limit::FIRST_WIDE;
-use crate::limit::METAVARIABLE_COUNT;
+use crate::limit::METAVARIABLES;
 use crate::number::Binder;
 use crate::number::Metavariable;
 use crate::number::Symbol;
@@ -139,7 +139,7 @@ fn metavariable_in(c: &[u8]) -> Content
         return Content::Refused(6);
     }
     let m = c[0];
-    if m < METAVARIABLE_COUNT {
+    if m < METAVARIABLES {
         Content::Node(Node::Metavariable(Metavariable(m)))
     } else {
         Content::Refused(10)
@@ -153,7 +153,7 @@ fn function_in(c: &[u8]) -> Content
         return Content::Refused(6);
     }
     let m = c[0];
-    if m < METAVARIABLE_COUNT {
+    if m < METAVARIABLES {
         Content::Node(Node::Function(Metavariable(m)))
     } else {
         Content::Refused(10)

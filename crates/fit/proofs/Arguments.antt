@@ -42,7 +42,7 @@ use Rattle.demands.proofs.LowestNode.{HoleAt, lowest-hole}
 use Rattle.bodies.proofs.MarkLaws.{lowest-means}
 use Rattle.bodies.proofs.HoleTests.{Spotted, spots}
 use Rattle.sources.specs.Demand.{demandsIn}
-use Rattle.sources.specs.Kept.{Reads}
+use Rattle.sources.specs.Kept.{Demandable}
 use Rattle.sources.proofs.KeptMeaning.{MovedAt, AllSay}
 use Rattle.sources.proofs.RecordedDemands.{MovedFace, recorded-say, recorded-reads}
 use Rattle.fit.specs.Judging.{holeNode, argumentSpan}
@@ -53,7 +53,7 @@ RecordedFace p n x = Records (λ i. nodeAt i (patterns p)) (λ j. nodeAt j (expr
 
 -- Demands met by a walk on the tables and by one of terms
 abbrev pub SameDemands : List ℕ → List ℕ → List ℕ → List Face → Type 0
-SameDemands ps es ns ys = AllSay es (demandsIn ps ns) (each sourceOf ys) × All (Reads ps es) ns
+SameDemands ps es ns ys = AllSay es (demandsIn ps ns) (each sourceOf ys) × All (Demandable ps es) ns
 
 pub record Argued (p : Problem) (n mask : ℕ) (x : Face) (hs : List Face) : Type 0 where
   pub hole : Face

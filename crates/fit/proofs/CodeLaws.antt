@@ -24,12 +24,12 @@ use Rattle.bodies.specs.Marked.{lowestMarked}
 use Rattle.bodies.specs.BodyClosed.{bodyClosedAt}
 use Rattle.bodies.specs.Suits.{suitsAt}
 use Rattle.sources.specs.Demand.{openNode, demandAt, demandsIn, keptAfter}
-use Rattle.sources.specs.Kept.{Kept, Asks, Reads, Answers}
+use Rattle.sources.specs.Kept.{Kept, Askable, Demandable, Answers}
 use Rattle.sources.specs.declared.Agreed.{Agreed}
 use Rattle.sources.proofs.KeptLaws.{answer-some, answer-none, kept-stays}
 use Rattle.fit.specs.Judging.{bodiesClosed, argumentSpan, argumentKept, applicationKept, rankAt, faceKept, facesKept, noneKept}
 use Rattle.fit.specs.Judging.{demandedAt, judgedAt, Judges}
-use Rattle.fit.specs.Ready.{Tables, Walks, Applies, Slots}
+use Rattle.fit.specs.Ready.{Tables, Walkable, Applicable, Slots}
 
 -- ---- the bodies, from function k on
 
@@ -76,17 +76,17 @@ pub span-is : (ps es : List ℕ) (n mask low long deep across : ℕ) → low ≡
 unfolding argumentSpan
 span-is ps es n mask low long deep across l s d e = rw (e, d, s, l) refl
 
-pub argument-lent : (ps es scratch : List ℕ) (n mask : ℕ) → Tables ps es scratch → Walks ps es n mask
+pub argument-lent : (ps es scratch : List ℕ) (n mask : ℕ) → Tables ps es scratch → Walkable ps es n mask
     → Lent ps es scratch (argumentSpan ps es n mask)
 unfolding argumentSpan
 argument-lent ps es scratch n mask t w =
     record { patterns = t .patterns; expressions = t .expressions; inside = w .ends; room = omega (arith, w .ends, t .room) }
 
 -- What is recorded makes demands that can be looked up
-pub argument-reads : (ps es new : List ℕ) (n mask count : ℕ) → Walks ps es n mask
+pub argument-reads : (ps es new : List ℕ) (n mask count : ℕ) → Walkable ps es n mask
     → Found (spanWalk ps es (argumentSpan ps es n mask)) new count
-    → All (Reads ps es) (take count new)
-argument-reads ps es new n mask count w f = subst (All (Reads ps es)) (sym (f .front)) (w .reads (f .faces) (f .walked))
+    → All (Demandable ps es) (take count new)
+argument-reads ps es new n mask count w f = subst (All (Demandable ps es)) (sym (f .front)) (w .reads (f .faces) (f .walked))
 
 -- An answer of no
 answers-no : (nodes : List ℕ) → Answers none (record { ok = false; sources = record { nodes = nodes } })
@@ -146,11 +146,11 @@ module _ (ps es : List ℕ) (functions : ℕ) (nodes row : List ℕ) (n : ℕ) (
   face-applies h k e r a = rw (← is, eq-eqb tag 6 h, ← e) a
 
 -- The nodes kept stay nodes of the table
-reads-ask : (ps es ns : List ℕ) → All (Reads ps es) ns → All (Asks es) (demandsIn ps ns)
+reads-ask : (ps es ns : List ℕ) → All (Demandable ps es) ns → All (Askable es) (demandsIn ps ns)
 reads-ask ps es [] r = tt
-reads-ask ps es (n ∷ ns) r = all-append (Asks es) (demandAt ps n) (demandsIn ps ns) (r .0 .asks) (reads-ask ps es ns (r .1))
+reads-ask ps es (n ∷ ns) r = all-append (Askable es) (demandAt ps n) (demandsIn ps ns) (r .0 .asks) (reads-ask ps es ns (r .1))
 
-application-stays : (ps es : List ℕ) (n node mask : ℕ) (kept kept′ : List ℕ) → Applies ps es n node mask → Kept es kept
+application-stays : (ps es : List ℕ) (n node mask : ℕ) (kept kept′ : List ℕ) → Applicable ps es n node mask → Kept es kept
     → applicationKept ps es n node mask kept ≡ some kept′ → Kept es kept′
 unfolding applicationKept argumentKept
 application-stays ps es n node mask kept kept′ a k e = by-test (suitsAt es node (expressionNode n) mask) suited (λ f. never (cc (f, e)))
@@ -254,7 +254,7 @@ module _ (ps es faces : List ℕ) (functions : ℕ) (firsts : Firsts) (row : Lis
     plain-some : keptAfter es noneKept (demandsIn ps faces) ≡ some (r .sources .nodes)
     plain-some = answer-some (keptAfter es noneKept (demandsIn ps faces)) r a (sym (Bool·not-not (r .ok)) ∙ ap not t)
 
-    pub plain-stays : All (Reads ps es) faces → Kept es (r .sources .nodes)
+    pub plain-stays : All (Demandable ps es) faces → Kept es (r .sources .nodes)
     plain-stays s = kept-stays es noneKept (demandsIn ps faces) (r .sources .nodes) (none-kept es) (reads-ask ps es faces s) plain-some
 
     pub then-applied : (v : Agreed) → Answers (facesKept ps es functions (firsts .nodes) row faces (r .sources .nodes)) v

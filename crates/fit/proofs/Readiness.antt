@@ -30,11 +30,11 @@ use Rattle.faces.proofs.NodeTokens.{AtNode, node-inside, node-tag, pattern-node
 use Rattle.faces.proofs.ArgumentWalk.{argument-inside}
 use Rattle.bodies.proofs.HoleTests.{Spotted}
 use Rattle.bodies.proofs.ProblemNodes.{expressions-nested}
-use Rattle.sources.specs.Kept.{Reads}
+use Rattle.sources.specs.Kept.{Demandable}
 use Rattle.sources.proofs.RecordedDemands.{recorded-reads}
 use Rattle.fit.specs.Judging.{rankAt}
 use Rattle.fit.specs.Laid.{Laid, RowOf}
-use Rattle.fit.specs.Ready.{Bodies, Applies, Slots, Ready}
+use Rattle.fit.specs.Ready.{Bodies, Applicable, Slots, Ready}
 use Rattle.fit.proofs.Functions.{laid-own, listed-long, row-masks, function-of, function-at, bodies-closed-in}
 use Rattle.fit.proofs.Arguments.{RecordedFace, SameDemands}
 use Rattle.fit.proofs.Applications.{walked-argument}
@@ -42,10 +42,10 @@ use Rattle.fit.proofs.FacesMeaning.{Applied, applied-at, all-spotted, r
 
 -- What is recorded, where the two walks meet the same
 met-reads : (ps es ns : List ℕ) (o : Option (List ℕ)) (v : Option (List Face)) → Both (SameDemands ps es) o v → o ≡ some ns
-    → All (Reads ps es) ns
+    → All (Demandable ps es) ns
 met-reads ps es ns none v b e = never (cc)
 met-reads ps es ns (some ms) none b e = absurd b
-met-reads ps es ns (some ms) (some ys) b e = subst (All (Reads ps es)) (let q : ms ≡ ns = cc in q) (b .1)
+met-reads ps es ns (some ms) (some ys) b e = subst (All (Demandable ps es)) (let q : ms ≡ ns = cc in q) (b .1)
 
 module _ (p : Problem) (ns : List ℕ) (s : ℕ) (firsts : Firsts) (l : Laid p (patternTokens p) (expressionTokens p) ns s firsts) (r : Row)
     (i : r ∈ rows p) where
@@ -76,10 +76,10 @@ module _ (p : Problem) (ns : List ℕ) (s : ℕ) (firsts : Firsts) (l : Laid p (
   module _ (closed : (f : ℕ) → f ∈ functions p → ClosedTerm (rowBody p r f)) where
     -- One application
     application-ready : (n : ℕ) (x : Face) → RecordedFace p n x → Spotted es 0 x → (f : ℕ) → Applied p s firsts r n x f
-        → Applies ps es n (at (firsts .nodes) (rankAt ps s n)) (at row (rankAt ps s n))
+        → Applicable ps es n (at (firsts .nodes) (rankAt ps s n)) (at row (rankAt ps s n))
     unfolding rowBody
     application-ready n x recorded spotted f a =
-        subst (λ (m : ℕ). Applies ps es n node m) (sym (a .rank .mask))
+        subst (λ (m : ℕ). Applicable ps es n node m) (sym (a .rank .mask))
         (record {
           face = expression-inside node (faceOf p f) (a .rank .face) .starts;
           faced = subst (λ (j : ℕ). j < length es) (sym (recorded .node)) (expression-inside (x .node) (x .term) (recorded .term) .starts);

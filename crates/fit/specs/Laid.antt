@@ -18,7 +18,7 @@ use Rattle.meaning.specs.PlaceValue.{masksOf}
 use Rattle.tokens.specs.Token.{patternTokens, expressionTokens}
 use Rattle.metavariables.specs.Survey.{has}
 use Rattle.faces.specs.Recorded.{Recorded}
-use Rattle.faces.specs.First.{listed, Fits}
+use Rattle.faces.specs.First.{listed, FirstsFit}
 use Rattle.faces.specs.Verdict.{FirstsAt}
 use Rattle.faces.specs.declared.first.Firsts.{Firsts}
 
@@ -30,7 +30,7 @@ pub record Laid (p : Problem) (ps es faces : List ℕ) (functions : ℕ) (firsts
   pub agree : face.faces p ≡ some found
   pub recorded : Recorded p faces found
   pub set : keep (has functions) (upTo metavariableCount) ≡ problem.functions p
-  pub fits : Fits firsts
+  pub fits : FirstsFit firsts
   pub nodes : FirstsAt p found (problem.functions p) (listed firsts)
 
 pub record RowOf (p : Problem) (row : List ℕ) : Type 0 where

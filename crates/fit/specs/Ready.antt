@@ -1,11 +1,11 @@
 -- What the code asks of the tables and of a row, said of the numbers alone. The tables of a problem and the masks of one of its rows have
 -- all of it (proofs/Readiness).
---   Tables    the two tables, and room for the faces of an argument
---   Bodies    a face for each function, and a mask
---   Applies   of one application, by the face and the mask of its function: what it faces, and, where the body has a hole and suits, the
---             walk of the argument, can be looked up
---   Slots     the same of one recorded face of whatever kind
---   Ready     all that the test of a row asks
+--   Tables       the two tables, and room for the faces of an argument
+--   Bodies       a face for each function, and a mask
+--   Applicable   of one application, by the face and the mask of its function: what it faces, and, where the body has a hole and suits, the
+--                walk of the argument, can be looked up
+--   Slots        the same of one recorded face of whatever kind
+--   Ready        all that the test of a row asks
 use mathlib.Core.Path.{_≡_}
 use Prim.Native.Nat.{ℕ, _+_, _<_, _≤_}
 use mathlib.Core.Bool.{true}
@@ -18,10 +18,10 @@ use Rattle.tokens.specs.Token.{Table, tagIn, sizeIn, payloadIn}
 use Rattle.tokens.specs.Key.{at, Inside}
 use Rattle.lockstep.specs.Walk.{patternNode, expressionNode}
 use Rattle.lockstep.specs.Span.{spanWalk}
-use Rattle.faces.specs.First.{listed, Fits}
+use Rattle.faces.specs.First.{listed, FirstsFit}
 use Rattle.faces.specs.declared.first.Firsts.{Firsts}
 use Rattle.bodies.specs.Suits.{suitsAt, Nested}
-use Rattle.sources.specs.Kept.{Reads}
+use Rattle.sources.specs.Kept.{Demandable}
 use Rattle.fit.specs.Judging.{bodiesClosed, holeNode, argumentSpan, rankAt}
 
 pub record Tables (ps es scratch : List ℕ) : Type 0 where
@@ -32,31 +32,31 @@ pub record Tables (ps es scratch : List ℕ) : Type 0 where
 
 pub record Bodies (es : List ℕ) (firsts : Firsts) (row : List ℕ) : Type 0 where
   pub table : Table es
-  pub fits : Fits firsts
+  pub fits : FirstsFit firsts
   pub inside : (k : ℕ) → k < firsts .count → Inside es (at (firsts .nodes) k)
   pub masks : length row ≡ maxFunctions
 
 -- Of the argument of an application, where it is walked
-pub record Walks (ps es : List ℕ) (n mask : ℕ) : Type 0 where
+pub record Walkable (ps es : List ℕ) (n mask : ℕ) : Type 0 where
   pub slot : patternNode n < length ps
   pub ends : patternNode n + sizeIn (at ps (patternNode n)) ≤ length ps
   pub hole : holeNode n mask < length es
-  pub reads : (ns : List ℕ) → spanWalk ps es (argumentSpan ps es n mask) ≡ some ns → All (Reads ps es) ns
+  pub reads : (ns : List ℕ) → spanWalk ps es (argumentSpan ps es n mask) ≡ some ns → All (Demandable ps es) ns
 
-pub record Applies (ps es : List ℕ) (n node mask : ℕ) : Type 0 where
+pub record Applicable (ps es : List ℕ) (n node mask : ℕ) : Type 0 where
   pub face : node < length es
   pub faced : expressionNode n < length es
-  pub walks : suitsAt es node (expressionNode n) mask ≡ true → (mask ≡ 0 → ⊥) → Walks ps es n mask
+  pub walks : suitsAt es node (expressionNode n) mask ≡ true → (mask ≡ 0 → ⊥) → Walkable ps es n mask
 
 pub record Slots (ps es : List ℕ) (functions : ℕ) (nodes row : List ℕ) (n : ℕ) : Type 0 where
   pub slot : patternNode n < length ps
   pub number : tagIn (at ps (patternNode n)) ≡ 6 → payloadIn (at ps (patternNode n)) < metavariableCount
   pub rank : tagIn (at ps (patternNode n)) ≡ 6 → rankAt ps functions n < maxFunctions
-  pub applies : tagIn (at ps (patternNode n)) ≡ 6 → Applies ps es n (at nodes (rankAt ps functions n)) (at row (rankAt ps functions n))
+  pub applies : tagIn (at ps (patternNode n)) ≡ 6 → Applicable ps es n (at nodes (rankAt ps functions n)) (at row (rankAt ps functions n))
 
 pub record Ready (ps es faces : List ℕ) (functions : ℕ) (firsts : Firsts) (row scratch : List ℕ) : Type 0 where
   pub tables : Tables ps es scratch
   pub bodies : Bodies es firsts row
-  pub reads : All (Reads ps es) faces
+  pub reads : All (Demandable ps es) faces
   -- a body that is not closed is never walked
   pub slots : bodiesClosed es (listed firsts) row ≡ true → All (Slots ps es functions (firsts .nodes) row) faces

@@ -24,7 +24,7 @@ ghost use Rattle.faces.specs.First.{listed};
 ghost use Rattle.meaning.specs.Basics.{All};
 ghost use Rattle.sources.specs.Kept.{Kept, Answers};
 ghost use Rattle.fit.specs.Judging.{bodiesClosed, argumentKept, applicationKept, faceKept, facesKept, demandedAt, judgedAt, Judges};
-ghost use Rattle.fit.specs.Ready.{Tables, Bodies, Walks, Applies, Slots, Ready};
+ghost use Rattle.fit.specs.Ready.{Tables, Bodies, Walkable, Applicable, Slots, Ready};
 
 pub struct Judged {
     pub solves: bool,
@@ -58,7 +58,7 @@ fn argument_demanded(
     kept: Sources,
     scratch: &mut [u64],
 ) -> Agreed
-    requires { ⌜ Tables (now ps) (now es) (now scratch) × Walks (now ps) (now es) face mask × Kept (now es) (kept .nodes) ⌝ }
+    requires { ⌜ Tables (now ps) (now es) (now scratch) × Walkable (now ps) (now es) face mask × Kept (now es) (kept .nodes) ⌝ }
     ensures { λ r. ⌜ Answers (argumentKept (now (ps .entry)) (now (es .entry)) face mask (kept .nodes)) r ⌝ }
 {
     let i = (face % 65536) as usize;
@@ -91,7 +91,7 @@ fn application_demanded(
     kept: Sources,
     scratch: &mut [u64],
 ) -> Agreed
-    requires { ⌜ Tables (now ps) (now es) (now scratch) × Applies (now ps) (now es) face node mask × Kept (now es) (kept .nodes) ⌝ }
+    requires { ⌜ Tables (now ps) (now es) (now scratch) × Applicable (now ps) (now es) face node mask × Kept (now es) (kept .nodes) ⌝ }
     ensures { λ r. ⌜ Answers (applicationKept (now (ps .entry)) (now (es .entry)) face node mask (kept .nodes)) r ⌝ }
 {
     if !suits(es, node, (face / 65536) as usize, mask) {

@@ -39,11 +39,11 @@ fn print_ended(ended: bool) {
 fn print_rows(rows: &[u64], n: usize) {
     let mut i = 0;
     while i < rows.len() {
-        if n <= i / Place::FUNCTIONS {
+        if n <= i / Place::MAX_FUNCTIONS {
             return;
         }
         print_number(rows[i]);
-        if i % Place::FUNCTIONS == 7 {
+        if i % Place::MAX_FUNCTIONS == 7 {
             end_line();
         } else {
             print(b" ");
@@ -76,7 +76,7 @@ pub fn show_list(label: &[u8], problem: &[u8], asked: &[u8]) {
         return;
     }
     let mut allowances = [0u32; CALLS];
-    let mut rows = [0u64; CALLS * Place::FUNCTIONS];
+    let mut rows = [0u64; CALLS * Place::MAX_FUNCTIONS];
     allow(asked, &mut allowances);
     let ran = run(problem, &allowances, &mut rows);
     print(label);

@@ -38,9 +38,9 @@ fn call(lent: bool, kept: OpenSearch, problem: &[u8], n: u32) -> Moved {
     }
 }
 
-fn print_masks(masks: [u64; Place::FUNCTIONS]) {
+fn print_masks(masks: [u64; Place::MAX_FUNCTIONS]) {
     let mut k = 0;
-    while k < Place::FUNCTIONS {
+    while k < Place::MAX_FUNCTIONS {
         print(b" ");
         print_number(masks[k]);
         k += 1;

@@ -4,7 +4,7 @@
 use mathlib.Core.Path.{_≡_, refl, sym, _∙_}
 use mathlib.Core.Bool.{Bool, true, false}
 use mathlib.Core.List.{List, [], _++_}
-use Prim.Native.Nat.{ℕ, zero, suc, _+_, _-_, _<_, _≤_}
+use Prim.Native.Nat.{ℕ, zero, suc, _-_, _<_, _≤_}
 use native.Mathlib.Omega.{arith}
 use lib.ListN.{length, take, drop, getD, length-drop}
 use lib.Seq.{drop-drop, getD-drop, getD-take}
@@ -24,7 +24,7 @@ use Rattle.terms.specs.declared.term.Term.{Term}
 use Rattle.terms.specs.declared.term.Term.the-variants as terms
 use Rattle.terms.proofs.Bounds.{term-fine}
 use Rattle.said.specs.Said.{entryTag}
-use Rattle.items.specs.Fields.{FieldDone, EndsIn, contentRead, endedOf, entryTokens, fieldAnswer, partsTo}
+use Rattle.items.specs.Fields.{FieldDone, FieldInside, contentRead, endedOf, entryTokens, fieldAnswer, partsTo}
 use Rattle.items.specs.declared.Field.{Field}
 use Rattle.items.specs.declared.Field.the-variants as fields
 
@@ -73,7 +73,7 @@ all-taken n k zero e h = eq-eqb (k - 0) n (omega arith)
 all-taken n k (suc a) e h = ne-eqb (k - suc a) n (λ q. omega arith) ∙ sym (ne-eqb (suc a) 0 (λ q. omega arith))
 
 -- The content of a field that ends there
-module _ (s : Bytes) (tag end : ℕ) (h : EndsIn s end) where
+module _ (s : Bytes) (tag end : ℕ) (h : FieldInside s end) where
   content : Bytes
   content = take (end - 3) (drop 3 s)
 

@@ -22,7 +22,7 @@ use Rattle.terms.specs.Reading.{Space}
 use Rattle.said.specs.Said.{SaidBy}
 use Rattle.said.specs.declared.Said.{Said}
 use Rattle.items.specs.Fields.{FieldDone, entryTokens, itemRead, readField}
-use Rattle.items.specs.Noted.{Noting, notedOf}
+use Rattle.items.specs.Noted.{NoteRoom, notedOf}
 use Rattle.items.specs.Order.{InOrder, followedBy}
 use Rattle.items.specs.Texts.{FieldsDone, TextSpace, textRoom}
 use Rattle.items.specs.declared.Field.the-variants as fields
@@ -175,7 +175,7 @@ module _ (text table : List ℕ) (used at : ℕ) (s : Said) (o : Order) (r : Rea
             omega arith,
           )
 
-      pub reading-noted : Noting s (m .0)
+      pub reading-noted : NoteRoom s (m .0)
       reading-noted =
           record { number = rw (one .isNumber) (one .readable .0); tagsLong = r .tagsLong; nodesLong = r .nodesLong }
 

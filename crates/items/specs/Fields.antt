@@ -53,7 +53,7 @@ RuleOf tag rules.Open = tag ≡ 11
 RuleOf tag rules.Refused = (tag ≡ 8 → ⊥) × (tag ≡ 9 → ⊥) × (tag ≡ 11 → ⊥)
 
 -- Such a field has a head, and lies in the bytes
-pub record EndsIn (s : Bytes) (end : ℕ) : Type 0 where
+pub record FieldInside (s : Bytes) (end : ℕ) : Type 0 where
   pub head : 3 ≤ end
   pub within : end ≤ length s
 

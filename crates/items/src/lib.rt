@@ -15,8 +15,8 @@ ghost use lib.ListN.{length};
 ghost use Rattle.meaning.specs.Limits.{metavariableCount};
 ghost use Rattle.meaning.specs.Text.{readItems, readText};
 ghost use Rattle.terms.specs.Reading.{Space};
-ghost use Rattle.items.specs.Fields.{RuleOf, endedOf, EndsIn, contentRead, readField, FieldDone};
-ghost use Rattle.items.specs.Noted.{Noting, notedOf};
+ghost use Rattle.items.specs.Fields.{RuleOf, endedOf, FieldInside, contentRead, readField, FieldDone};
+ghost use Rattle.items.specs.Noted.{NoteRoom, notedOf};
 ghost use Rattle.items.specs.Order.{followedBy};
 ghost use Rattle.items.specs.Texts.{textRoom, TextSpace, FieldsDone, RefusedText, TextDone};
 
@@ -103,7 +103,7 @@ fn ended(tag: u8, m: Metavariable, end: usize, term: Term) -> Field
 
 // The content of a field, from byte 3 to its end: "number, 1 byte", and then what the rule of its tag says.
 fn read_content(s: &[u8], tag: u8, end: usize, table: &mut [u64]) -> Field
-    requires { ⌜ EndsIn (now s) end × Space (length (now s)) (length (now table)) ⌝ }
+    requires { ⌜ FieldInside (now s) end × Space (length (now s)) (length (now table)) ⌝ }
     ensures { λ r. ⌜ FieldDone (now (s .entry)) (contentRead tag end (now (s .entry))) (now (table .entry)) (now (table .exit)) r ⌝ }
 {
     if end == 3 {
@@ -135,7 +135,7 @@ fn read_field(s: &[u8], table: &mut [u64]) -> Field
 
 // What a field says of its metavariable.
 fn noted(said: Said, m: Metavariable, tag: u8, node: usize) -> Said
-    requires { ⌜ Noting said (m .0) ⌝ }
+    requires { ⌜ NoteRoom said (m .0) ⌝ }
     ensures { λ r. ⌜ r ≡ notedOf said (m .0) tag node ⌝ }
 {
     let i = m.0 as usize;

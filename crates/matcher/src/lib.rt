@@ -21,7 +21,7 @@ pub struct OpenSearch {
 // What a call on an open search answers, and the row of a Found beside it; no other answer's row means anything.
 pub struct Reply {
     pub answer: Answer,
-    pub row: [u64; Place::FUNCTIONS],
+    pub row: [u64; Place::MAX_FUNCTIONS],
 }
 
 // The open search as a call leaves it, and what the call answers.

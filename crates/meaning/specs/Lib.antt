@@ -1,5 +1,6 @@
 -- Document 01 as definitions, in its order. Those of the second part compute what the first part says, or say it in other words; the heading
 -- of each names the theorem that makes it safe to skip.
+-- Limits, and what the definitions share
 pub mod Limits
 pub mod Basics
 -- Fields of a problem

@@ -24,7 +24,7 @@ use Rattle.accept.specs.declared.Verdict.the-variants as verdicts
 use Rattle.prepare.specs.Prepared.{Prepares, Ready}
 use Rattle.prepare.specs.declared.Prepared.{Prepared}
 use Rattle.prepare.proofs.PreparedLaws.{prepared-refused, prepared-accepted, ready-tables}
-use Rattle.places.specs.Places.{valueOf, AtPast, IsRowOf, Opens, Begins, Starts}
+use Rattle.places.specs.Places.{valueOf, AtPast, IsRowOf, Openable, Begins, Starts}
 use Rattle.places.specs.declared.Place as code
 use Rattle.places.specs.declared.Started.{Started}
 use Rattle.places.specs.declared.Start.the-variants as starts
@@ -116,7 +116,7 @@ module _ (s ps es fs ds : List ℕ) (prepared : Prepared) (h : Prepares (accept 
     ready : Ready (accept s) ps es fs ds a (prepared .firsts)
     ready = prepared-accepted (accept s) ps es fs ds prepared a h e
 
-    pub starts-open : Opens (a .rows) ds
+    pub starts-open : Openable (a .rows) ds
     starts-open t = tabled-tables (ready .problem) ds (ready-tables (accept s) ps es fs ds a (prepared .firsts) ready t)
 
     pub starts-begins : (r : Started) → r .answer ≡ starts.Begins → Begins (a .rows) ds (r .place) → Starts (startCall s) r

@@ -42,8 +42,8 @@ Tells v hasRows ds named.Past = AtPast v
 Tells v hasRows ds named.Nothing = (IsRowOf v hasRows ds → ⊥) × (AtPast v → ⊥)
 
 -- Where there are rows the tables are asked for their first row
-abbrev pub Opens : Bool → List ℕ → Type 0
-Opens hasRows ds = hasRows ≡ true → Tables ds
+abbrev pub Openable : Bool → List ℕ → Type 0
+Openable hasRows ds = hasRows ≡ true → Tables ds
 
 unfoldable pub Begins : Bool → List ℕ → Place → Type 0
 Begins true ds r = (row : MaskRow) × (placeOf (maskRows ds) ≡ at row) × AtRow row r

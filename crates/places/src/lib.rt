@@ -12,10 +12,10 @@ ghost use lib.ListN.{replicate};
 ghost use Rattle.meaning.specs.Limits.{maxFunctions};
 ghost use Rattle.meaning.specs.Entry.{startCall};
 ghost use Rattle.rows.specs.Rows.{Long};
-ghost use Rattle.places.specs.Places.{AtRow, AtPast, Tells, Opens, Begins, Starts};
+ghost use Rattle.places.specs.Places.{AtRow, AtPast, Tells, Openable, Begins, Starts};
 
 pub struct Place {
-    pub masks: [u64; Place::FUNCTIONS],
+    pub masks: [u64; Place::MAX_FUNCTIONS],
     pub past: bool,
 }
 
@@ -40,11 +40,11 @@ pub struct Started {
 }
 
 // Whether no mask has a node.
-fn all_empty(masks: [u64; Place::FUNCTIONS]) -> bool
+fn all_empty(masks: [u64; Place::MAX_FUNCTIONS]) -> bool
     ensures { λ r. ⌜ (r ≡ true) ↔ (masks ≡ replicate maxFunctions 0) ⌝ }
 {
     let mut k = 0;
-    while k < Place::FUNCTIONS {
+    while k < Place::MAX_FUNCTIONS {
         if masks[k] != 0 {
             return false;
         }
@@ -55,11 +55,11 @@ fn all_empty(masks: [u64; Place::FUNCTIONS]) -> bool
 
 impl Place {
     // How many functions a place has masks for, and how many nodes a mask.
-    pub const FUNCTIONS: usize = rows::FUNCTIONS;
+    pub const MAX_FUNCTIONS: usize = rows::MAX_FUNCTIONS;
 
-    pub const FACE_NODES: usize = masks::WIDTH;
+    pub const MAX_FACE_NODES: usize = masks::WIDTH;
 
-    pub fn at(row: [u64; Place::FUNCTIONS]) -> Place
+    pub fn at(row: [u64; Place::MAX_FUNCTIONS]) -> Place
         ensures { λ r. ⌜ AtRow row r ⌝ }
     {
         Place {
@@ -72,14 +72,14 @@ impl Place {
         ensures { λ r. ⌜ AtPast r ⌝ }
     {
         Place {
-            masks: [0u64; Place::FUNCTIONS],
+            masks: [0u64; Place::MAX_FUNCTIONS],
             past: true,
         }
     }
 
     // The first row of the tables, or past the last where there is none.
     fn first(rows: bool, ds: &[u64]) -> Place
-        requires { ⌜ Opens rows (now ds) ⌝ }
+        requires { ⌜ Openable rows (now ds) ⌝ }
         ensures { λ r. ⌜ Begins rows (now (ds .entry)) r ⌝ }
     {
         if rows {
@@ -96,7 +96,7 @@ impl Place {
         let mut ps = [0u64; TABLE_ROOM];
         let mut es = [0u64; TABLE_ROOM];
         let mut fs = [0u64; TABLE_ROOM];
-        let mut ds = [0u64; Place::FUNCTIONS * Place::FACE_NODES];
+        let mut ds = [0u64; Place::MAX_FUNCTIONS * Place::MAX_FACE_NODES];
         let prepared = prepare(problem, &mut ps, &mut es, &mut fs, &mut ds);
         let verdict = prepared.verdict;
         match verdict {

@@ -16,7 +16,7 @@ use Rattle.meaning.specs.Readable.{Accepted}
 use Rattle.tokens.specs.Token.{patternTokens, expressionTokens}
 use Rattle.metavariables.specs.Survey.{Surveyed}
 use Rattle.faces.specs.Recorded.{Recorded}
-use Rattle.faces.specs.First.{Fits, Listed}
+use Rattle.faces.specs.First.{FirstsFit, Listed}
 use Rattle.faces.specs.declared.first.Firsts.{Firsts}
 use Rattle.classes.specs.FaceTable.{TablesFrom}
 use Rattle.accept.specs.declared.Standing.{Standing}
@@ -25,7 +25,7 @@ use Rattle.prepare.specs.declared.Prepared.{Prepared}
 
 -- No function has a face
 pub record NoFaces (r : Firsts) : Type 0 where
-  pub fits : Fits r
+  pub fits : FirstsFit r
   pub none : r .count ≡ 0
 
 unfoldable pub NodesOf : Bool → List ℕ → List ℕ → ℕ → Firsts → Type 0

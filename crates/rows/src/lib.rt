@@ -12,12 +12,12 @@ ghost use Rattle.masks.specs.Table.{Next, NotLast, firstClass};
 ghost use Rattle.rows.specs.Rows.{classesAt, choicesAt, maskRows, Long, Tables, Steps};
 
 // How many functions a row has masks for.
-pub const FUNCTIONS: usize = metavariables::MAX_FUNCTIONS;
+pub const MAX_FUNCTIONS: usize = metavariables::MAX_FUNCTIONS;
 
 // Whether there is a row after another, and that row. Past the last every mask is empty.
 pub struct Stepped {
     pub more: bool,
-    pub row: [u64; FUNCTIONS],
+    pub row: [u64; MAX_FUNCTIONS],
 }
 
 // Whether the mask, whatever it is, is a choice of function k.
@@ -52,12 +52,12 @@ fn next_choice(ds: &[u64], k: usize, m: u64) -> u64
 
 // Whether the masks, whatever they are, are a row of the tables. Asked only where there are rows: the tables of a problem without any
 // still have one, of empty masks.
-pub fn is_row(ds: &[u64], row: [u64; FUNCTIONS]) -> bool
+pub fn is_row(ds: &[u64], row: [u64; MAX_FUNCTIONS]) -> bool
     requires { ⌜ Long (now ds) ⌝ }
     ensures { λ r. ⌜ (r ≡ true) ↔ (row ∈ maskRows (now (ds .entry))) ⌝ }
 {
     let mut k = 0;
-    while k < FUNCTIONS {
+    while k < MAX_FUNCTIONS {
         if !is_choice(ds, k, row[k]) {
             return false;
         }
@@ -67,12 +67,12 @@ pub fn is_row(ds: &[u64], row: [u64; FUNCTIONS]) -> bool
 }
 
 // The first row of the tables. Asked only where there are rows, like `is_row`.
-pub fn first_row(ds: &[u64]) -> [u64; FUNCTIONS]
+pub fn first_row(ds: &[u64]) -> [u64; MAX_FUNCTIONS]
     requires { ⌜ Tables (now ds) ⌝ }
     ensures { λ r. ⌜ placeOf (maskRows (now (ds .entry))) ≡ at r ⌝ }
 {
-    let mut row = [0u64; FUNCTIONS];
-    let mut k = FUNCTIONS;
+    let mut row = [0u64; MAX_FUNCTIONS];
+    let mut k = MAX_FUNCTIONS;
     while 0 < k {
         k -= 1;
         row[k] = first_choice(ds, k);
@@ -83,12 +83,12 @@ pub fn first_row(ds: &[u64]) -> [u64; FUNCTIONS]
 // The row after `row`, or that it is the last: the last function with a choice left takes its next one, and the later ones begin
 // again. The first row is lent so that beginning again costs nothing: a call that makes many steps computes it once for itself. It is
 // never kept with a place, since what a host hands in may be any bytes.
-pub fn next_row(ds: &[u64], first: [u64; FUNCTIONS], row: [u64; FUNCTIONS]) -> Stepped
+pub fn next_row(ds: &[u64], first: [u64; MAX_FUNCTIONS], row: [u64; MAX_FUNCTIONS]) -> Stepped
     requires { ⌜ Tables (now ds) ⌝ ∗ ⌜ row ∈ maskRows (now ds) ⌝ ∗ ⌜ placeOf (maskRows (now ds)) ≡ at first ⌝ }
     ensures { λ r. ⌜ Steps (now (ds .entry)) row (r .more) (r .row) ⌝ }
 {
     let mut next = row;
-    let mut k = FUNCTIONS;
+    let mut k = MAX_FUNCTIONS;
     while 0 < k {
         k -= 1;
         let m = next[k];
@@ -103,6 +103,6 @@ pub fn next_row(ds: &[u64], first: [u64; FUNCTIONS], row: [u64; FUNCTIONS]) -> S
     }
     Stepped {
         more: false,
-        row: [0; FUNCTIONS],
+        row: [0; MAX_FUNCTIONS],
     }
 }

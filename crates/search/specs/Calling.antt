@@ -2,21 +2,21 @@
 --   hostReply   an answer as `meaning` has it: the row of a Found and the place left are place values
 --   Answers     what a call owes: the answer is one that document 01 allows, and the place left is the one that it leaves
 use mathlib.Core.Path.{_≡_}
-use mathlib.Core.Bool.{true, false}
+use mathlib.Core.Bool.{false}
 use mathlib.Core.List.{List}
-use Prim.Native.Nat.{ℕ, _<_, _≤_}
+use Prim.Native.Nat.{ℕ, _≤_}
 use lib.ListN.{length, take}
-use Rattle.meaning.specs.Basics.{Bytes, _∈_}
+use Rattle.meaning.specs.Basics.{Bytes}
 use Rattle.meaning.specs.Accept.{accept}
 use Rattle.meaning.specs.Search.{found, end, paused, refusedCall}
 use Rattle.meaning.specs.PlaceValue.{PlaceValue}
 use Rattle.meaning.specs.Entry.{HostReply, SearchCall}
 use Rattle.meaning.specs.Calls.{left}
-use Rattle.rows.specs.Rows.{MaskRow, maskRows}
+use Rattle.rows.specs.Rows.{MaskRow}
 use Rattle.faces.specs.declared.first.Firsts.{Firsts}
 use Rattle.accept.specs.declared.Standing.{Standing}
 use Rattle.prepare.specs.Prepared.{Ready}
-use Rattle.places.specs.Places.{valueOf, IsRowOf}
+use Rattle.places.specs.Places.{valueOf}
 use Rattle.places.specs.declared.Place.{Place}
 use Rattle.seeking.specs.Seeking.{Seeks}
 use Rattle.seeking.specs.declared.Fixed.{Fixed}

@@ -23,7 +23,7 @@ fn refused(number: u8, place: Place) -> Searched
     Searched {
         answer: Answer::Refused(number),
         place: place,
-        row: [0u64; Place::FUNCTIONS],
+        row: [0u64; Place::MAX_FUNCTIONS],
     }
 }
 
@@ -88,7 +88,7 @@ pub fn search(problem: &[u8], place: Place, n: u32) -> Searched
     let mut ps = [0u64; TABLE_ROOM];
     let mut es = [0u64; TABLE_ROOM];
     let mut fs = [0u64; TABLE_ROOM];
-    let mut ds = [0u64; Place::FUNCTIONS * Place::FACE_NODES];
+    let mut ds = [0u64; Place::MAX_FUNCTIONS * Place::MAX_FACE_NODES];
     let mut scratch = [0u64; TABLE_ROOM];
     let prepared = prepare(problem, &mut ps, &mut es, &mut fs, &mut ds);
     let firsts = prepared.firsts;

@@ -10,14 +10,14 @@ ghost use Rattle.seeking.specs.Seeking.{Turned, Passed, Ended, Paused, S
 pub struct Fixed {
     pub functions: u32,
     pub firsts: Firsts,
-    pub first: [u64; Place::FUNCTIONS],
+    pub first: [u64; Place::MAX_FUNCTIONS],
 }
 
 // One row: whether it is a solution row, and the row after it, if there is one.
 pub struct Turn {
     pub solves: bool,
     pub more: bool,
-    pub next: [u64; Place::FUNCTIONS],
+    pub next: [u64; Place::MAX_FUNCTIONS],
 }
 
 pub enum Answer {
@@ -32,7 +32,7 @@ pub enum Answer {
 pub struct Searched {
     pub answer: Answer,
     pub place: Place,
-    pub row: [u64; Place::FUNCTIONS],
+    pub row: [u64; Place::MAX_FUNCTIONS],
 }
 
 fn look_at(
@@ -41,7 +41,7 @@ fn look_at(
     fs: &[u64],
     ds: &[u64],
     fixed: Fixed,
-    row: [u64; Place::FUNCTIONS],
+    row: [u64; Place::MAX_FUNCTIONS],
     scratch: &mut [u64],
 ) -> Turn
     requires { ⌜ Seekable (now ps) (now es) (now fs) (now ds) fixed row (now scratch) ⌝ }
@@ -60,7 +60,7 @@ fn look_at(
 }
 
 // A Found at the row, and the place after it.
-fn found_at(row: [u64; Place::FUNCTIONS], turn: Turn) -> Searched
+fn found_at(row: [u64; Place::MAX_FUNCTIONS], turn: Turn) -> Searched
     ensures { λ r. ⌜ Passed row turn r ⌝ }
 {
     let next = turn.next;
@@ -82,17 +82,17 @@ pub fn ended() -> Searched
     Searched {
         answer: Answer::End,
         place: Place::past_last(),
-        row: [0u64; Place::FUNCTIONS],
+        row: [0u64; Place::MAX_FUNCTIONS],
     }
 }
 
-fn pause_at(row: [u64; Place::FUNCTIONS]) -> Searched
+fn pause_at(row: [u64; Place::MAX_FUNCTIONS]) -> Searched
     ensures { λ r. ⌜ Paused row r ⌝ }
 {
     Searched {
         answer: Answer::Paused,
         place: Place::at(row),
-        row: [0u64; Place::FUNCTIONS],
+        row: [0u64; Place::MAX_FUNCTIONS],
     }
 }
 
@@ -103,7 +103,7 @@ pub fn seek(
     fs: &[u64],
     ds: &[u64],
     fixed: Fixed,
-    row: [u64; Place::FUNCTIONS],
+    row: [u64; Place::MAX_FUNCTIONS],
     n: u32,
     scratch: &mut [u64],
 ) -> Searched

@@ -15,7 +15,7 @@ use Rattle.tokens.specs.Token.{tagIn, payloadIn}
 use Rattle.tokens.specs.Key.{at, sameAt, closedAt, Inside}
 use Rattle.lockstep.specs.Walk.{patternNode, expressionNode}
 use Rattle.sources.specs.Demand.{Demand, openNode, demandAt, demandsIn, agreesAt, keptWith, keptAfter}
-use Rattle.sources.specs.Kept.{Kept, Asks, Reads, Answers}
+use Rattle.sources.specs.Kept.{Kept, Askable, Demandable, Answers}
 use Rattle.sources.specs.declared.Agreed.{Agreed}
 
 -- An answer that is a test and, where it holds, a list
@@ -71,8 +71,8 @@ module _ (ps es kept : List ℕ) (n tag : ℕ) (is : tag ≡ tagIn (at ps (patte
     unfolding demandAt
     face-demand = rw (← is, ← load, eq-eqb tag 5 h)
 
-    pub face-asks : Reads ps es n → Asks es (m, expressionNode n)
-    face-asks r = subst (All (Asks es)) face-demand (r .asks) .0
+    pub face-asks : Demandable ps es n → Askable es (m, expressionNode n)
+    face-asks r = subst (All (Askable es)) face-demand (r .asks) .0
 
     pub face-one : (r : Agreed) → Answers (keptAfter es kept ((m, expressionNode n) ∷ [])) r → Answers (keptAfter es kept (demandAt ps n)) r
     face-one r a = subst (λ (ds : List Demand). Answers (keptAfter es kept ds) r) (sym face-demand) a
@@ -91,7 +91,7 @@ kept-append es kept (d ∷ ds) ds′ = go (agreesAt es kept d) (kept-append es (
     go false e = refl
 
 -- The nodes kept stay nodes of the table
-module _ (es kept : List ℕ) (d : Demand) (k : Kept es kept) (a : Asks es d) where
+module _ (es kept : List ℕ) (d : Demand) (k : Kept es kept) (a : Askable es d) where
   set-kept : Kept es (set kept (d .0) (d .1))
   set-kept =
       record {
@@ -117,7 +117,7 @@ module _ (es kept : List ℕ) (d : Demand) (k : Kept es kept) (a : Asks es d) wh
       go true = set-kept
       go false = k
 
-pub kept-stays : (es kept : List ℕ) (ds : List Demand) (kept′ : List ℕ) → Kept es kept → All (Asks es) ds
+pub kept-stays : (es kept : List ℕ) (ds : List Demand) (kept′ : List ℕ) → Kept es kept → All (Askable es) ds
     → keptAfter es kept ds ≡ some kept′ → Kept es kept′
 unfolding keptAfter
 kept-stays es kept [] kept′ k a e = subst (Kept es) (let q : kept ≡ kept′ = cc in q) k
@@ -148,7 +148,7 @@ module _ (o : Option (List ℕ)) (r : Agreed) (a : Answers o r) where
 -- The demands of the recorded faces from k on: what is kept so far leads where the demands from the start lead
 pub record Going (ps es faces : List ℕ) (end : Option (List ℕ)) (k : ℕ) (kept : List ℕ) : Type 0 where
   pub nodes : Kept es kept
-  pub reads : All (Reads ps es) (drop k faces)
+  pub reads : All (Demandable ps es) (drop k faces)
   pub leads : keptAfter es kept (demandsIn ps (drop k faces)) ≡ end
 
 module _ (ps es faces : List ℕ) (end : Option (List ℕ)) (k : ℕ) (kept : List ℕ) (g : Going ps es faces end k kept) where
@@ -156,10 +156,10 @@ module _ (ps es faces : List ℕ) (end : Option (List ℕ)) (k : ℕ) (kept : Li
     rest : drop k faces ≡ at faces k ∷ drop (suc k) faces
     rest = drop-cons faces k 0 h
 
-    both : All (Reads ps es) (at faces k ∷ drop (suc k) faces)
-    both = subst (All (Reads ps es)) rest (g .reads)
+    both : All (Demandable ps es) (at faces k ∷ drop (suc k) faces)
+    both = subst (All (Demandable ps es)) rest (g .reads)
 
-    pub going-reads : Reads ps es (at faces k)
+    pub going-reads : Demandable ps es (at faces k)
     going-reads = both .0
 
     goes : andThen (keptAfter es kept (demandAt ps (at faces k))) (λ ns. keptAfter es ns (demandsIn ps (drop (suc k) faces))) ≡ end

@@ -24,7 +24,7 @@ use Rattle.lockstep.specs.Walk.{patternNode, expressionNode}
 use Rattle.lockstep.specs.Recorded.{Records, RecordedBy}
 use Rattle.faces.proofs.NodeTokens.{AtNode, node-inside, node-tag, node-payload}
 use Rattle.sources.specs.Demand.{Demand, demandAt, demandsIn}
-use Rattle.sources.specs.Kept.{Asks, Reads}
+use Rattle.sources.specs.Kept.{Askable, Demandable}
 use Rattle.sources.proofs.KeptMeaning.{MovedAt, Says, AllSay}
 
 -- A slot of a table has the number of a metavariable, and a function application one argument
@@ -54,13 +54,13 @@ append-say es [] ds′ (s ∷ ss) ss′ a b = absurd a
 append-say es (d ∷ ds) ds′ [] ss′ a b = absurd a
 append-say es (d ∷ ds) ds′ (s ∷ ss) ss′ a b = (a .0, append-say es ds ds′ ss ss′ (a .1) b)
 
-said-asks : (es : List ℕ) (ds : List Demand) (ss : List Source) → AllSay es ds ss → All (Asks es) ds
+said-asks : (es : List ℕ) (ds : List Demand) (ss : List Source) → AllSay es ds ss → All (Askable es) ds
 said-asks es [] [] a = tt
 said-asks es [] (s ∷ ss) a = absurd a
 said-asks es (d ∷ ds) [] a = absurd a
 said-asks es (d ∷ ds) (s ∷ ss) a = (one (a .0), said-asks es ds ss (a .1))
   where
-    one : Says es d s → Asks es d
+    one : Says es d s → Askable es d
     one w =
         let n = w .at .stands in
         record {
@@ -105,7 +105,7 @@ module _ (ps es : List ℕ) (P E : ℕ → Option Term) (D : ℕ → ℕ) (patte
       (recorded-say ns xs (r .1) (moved .1))
 
   -- What the code asks of recorded faces
-  pub recorded-reads : (ns : List ℕ) (xs : List Face) → RecordedBy P E D ns xs → All (MovedFace es) xs → All (Reads ps es) ns
+  pub recorded-reads : (ns : List ℕ) (xs : List Face) → RecordedBy P E D ns xs → All (MovedFace es) xs → All (Demandable ps es) ns
   recorded-reads [] [] r moved = tt
   recorded-reads [] (x ∷ xs) r moved = absurd r
   recorded-reads (n ∷ ns) [] r moved = absurd r

@@ -1,8 +1,8 @@
 -- What the functions of this crate ask and promise.
---   Kept      nodes that the table has, or `openNode`, one for each metavariable
---   Asks      a demand on a metavariable at a node that the table has
---   Reads     a recorded face whose slot the pattern's table has, and which asks where it makes a demand
---   Answers   the answer that a list of demands gives: whether all agree, and then the nodes kept
+--   Kept         nodes that the table has, or `openNode`, one for each metavariable
+--   Askable      a demand on a metavariable at a node that the table has
+--   Demandable   a recorded face whose slot the pattern's table has, and whose demand, where it makes one, can be asked
+--   Answers      the answer that a list of demands gives: whether all agree, and then the nodes kept
 use mathlib.Core.Path.{_≡_}
 use Prim.Native.Nat.{ℕ, _<_}
 use mathlib.Core.List.{List}
@@ -19,13 +19,13 @@ pub record Kept (es kept : List ℕ) : Type 0 where
   pub long : length kept ≡ metavariableCount
   pub inside : (m : ℕ) → m < metavariableCount → (at kept m ≡ openNode → ⊥) → Inside es (at kept m)
 
-pub record Asks (es : List ℕ) (d : Demand) : Type 0 where
+pub record Askable (es : List ℕ) (d : Demand) : Type 0 where
   pub number : d .0 < metavariableCount
   pub inside : Inside es (d .1)
 
-pub record Reads (ps es : List ℕ) (n : ℕ) : Type 0 where
+pub record Demandable (ps es : List ℕ) (n : ℕ) : Type 0 where
   pub slot : patternNode n < length ps
-  pub asks : All (Asks es) (demandAt ps n)
+  pub asks : All (Askable es) (demandAt ps n)
 
 pub record Answers (o : Option (List ℕ)) (r : Agreed) : Type 0 where
   pub ok : r .ok ≡ isSome o

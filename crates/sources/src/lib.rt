@@ -7,7 +7,7 @@ use tokens::token::tag;
 ghost use mathlib.Core.List.{[], _∷_};
 ghost use Rattle.meaning.specs.Basics.{All};
 ghost use Rattle.sources.specs.Demand.{demandAt, demandsIn, keptAfter};
-ghost use Rattle.sources.specs.Kept.{Kept, Asks, Reads, Answers};
+ghost use Rattle.sources.specs.Kept.{Kept, Askable, Demandable, Answers};
 
 // No table has a node of this number.
 pub const OPEN: usize = 65536;
@@ -25,7 +25,7 @@ pub struct Agreed {
 
 // One demand more: the first of a metavariable must be closed and is kept, a later one must be the same as the first.
 pub fn demanded(es: &[u64], sources: Sources, m: usize, node: usize) -> Agreed
-    requires { ⌜ Kept (now es) (sources .nodes) × Asks (now es) (m, node) ⌝ }
+    requires { ⌜ Kept (now es) (sources .nodes) × Askable (now es) (m, node) ⌝ }
     ensures { λ r. ⌜ Answers (keptAfter (now (es .entry)) (sources .nodes) ((m, node) ∷ [])) r ⌝ }
 {
     let first = sources.nodes[m];
@@ -45,7 +45,7 @@ pub fn demanded(es: &[u64], sources: Sources, m: usize, node: usize) -> Agreed
 
 // The demand that one recorded face makes, where it is that of a metavariable alone.
 fn demanded_at(ps: &[u64], es: &[u64], face: u64, sources: Sources) -> Agreed
-    requires { ⌜ Kept (now es) (sources .nodes) × Reads (now ps) (now es) face ⌝ }
+    requires { ⌜ Kept (now es) (sources .nodes) × Demandable (now ps) (now es) face ⌝ }
     ensures { λ r. ⌜ Answers (keptAfter (now (es .entry)) (sources .nodes) (demandAt (now (ps .entry)) face)) r ⌝ }
 {
     let x = ps[(face % 65536) as usize];
@@ -60,7 +60,7 @@ fn demanded_at(ps: &[u64], es: &[u64], face: u64, sources: Sources) -> Agreed
 
 // The demands of all recorded faces in order, until one disagrees.
 pub fn all_demanded(ps: &[u64], es: &[u64], faces: &[u64], sources: Sources) -> Agreed
-    requires { ⌜ Kept (now es) (sources .nodes) × All (Reads (now ps) (now es)) (now faces) ⌝ }
+    requires { ⌜ Kept (now es) (sources .nodes) × All (Demandable (now ps) (now es)) (now faces) ⌝ }
     ensures { λ r. ⌜ Answers (keptAfter (now (es .entry)) (sources .nodes) (demandsIn (now (ps .entry)) (now (faces .entry)))) r ⌝ }
 {
     let mut kept = sources;

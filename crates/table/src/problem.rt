@@ -1,7 +1,7 @@
 // Reads a problem: 1, then constraints to the end with 2, 3, 4, 11 and 7. Its patterns go into one table and its expressions into another.
 use crate::answer::Read;
-use crate::limit::MAX_CONSTRAINTS;
 use crate::limit::LARGEST_PROBLEM;
+use crate::limit::MAX_CONSTRAINTS;
 use fields::field::Parts;
 use fields::field::parts_of;
 use terms::term::Term;

@@ -20,9 +20,9 @@ const FILL: u8 = 170;
 fn place_of(asked: &[u8]) -> Place
     requires { ⌜ length (now asked) ≡ 67 ⌝ }
 {
-    let mut masks = [0u64; Place::FUNCTIONS];
+    let mut masks = [0u64; Place::MAX_FUNCTIONS];
     let mut k = 0;
-    while k < Place::FUNCTIONS {
+    while k < Place::MAX_FUNCTIONS {
         let from = 8 * k;
         masks[k] = number_at(asked, from, from + 8);
         k += 1;

@@ -7,26 +7,26 @@ ghost use Rattle.meaning.specs.Limits.{maxFunctions};
 ghost use Rattle.places.specs.Places.{valueOf};
 ghost use Rattle.words.specs.Words.{lastWord, nowhere, placeOfWords, placeWords, placed};
 
-pub const PLACE_WORDS: usize = Place::FUNCTIONS + 1;
+pub const PLACE_WORDS: usize = Place::MAX_FUNCTIONS + 1;
 
 // Past the last no mask has a node, so that this names no place of any problem.
 fn nowhere() -> Place
     ensures { λ r. ⌜ valueOf r ≡ nowhere ⌝ }
 {
     Place {
-        masks: [1u64; Place::FUNCTIONS],
+        masks: [1u64; Place::MAX_FUNCTIONS],
         past: true,
     }
 }
 
 // The words before the last of a place.
-fn masks_in(words: &[u64]) -> [u64; Place::FUNCTIONS]
+fn masks_in(words: &[u64]) -> [u64; Place::MAX_FUNCTIONS]
     requires { ⌜ placeWords ≤ length (now words) ⌝ }
     ensures { λ r. ⌜ r ≡ take maxFunctions (now (words .entry)) ⌝ }
 {
-    let mut masks = [0u64; Place::FUNCTIONS];
+    let mut masks = [0u64; Place::MAX_FUNCTIONS];
     let mut j = 0;
-    while j < Place::FUNCTIONS {
+    while j < Place::MAX_FUNCTIONS {
         masks[j] = words[j];
         j += 1;
     }
@@ -41,7 +41,7 @@ pub fn place_of(words: &[u64]) -> Place
         return nowhere();
     }
     let masks = masks_in(words);
-    let last = words[Place::FUNCTIONS];
+    let last = words[Place::MAX_FUNCTIONS];
     match last {
         0 => Place {
             masks: masks,
@@ -68,9 +68,9 @@ pub fn put_place(words: &mut [u64], place: Place)
 {
     let masks = place.masks;
     let mut j = 0;
-    while j < Place::FUNCTIONS {
+    while j < Place::MAX_FUNCTIONS {
         words[j] = masks[j];
         j += 1;
     }
-    words[Place::FUNCTIONS] = last_word(place.past);
+    words[Place::MAX_FUNCTIONS] = last_word(place.past);
 }

@@ -108,7 +108,7 @@ pub fn write(problem: &[u8], row: Place, out: &mut [u8]) -> Written
     let mut ps = [0u64; TABLE_ROOM];
     let mut es = [0u64; TABLE_ROOM];
     let mut fs = [0u64; TABLE_ROOM];
-    let mut ds = [0u64; Place::FUNCTIONS * Place::FACE_NODES];
+    let mut ds = [0u64; Place::MAX_FUNCTIONS * Place::MAX_FACE_NODES];
     let mut scratch = [0u64; TABLE_ROOM];
     let prepared = prepare(problem, &mut ps, &mut es, &mut fs, &mut ds);
     let firsts = prepared.firsts;

@@ -15,7 +15,7 @@ use Rattle.meaning.specs.Basics.{Bytes}
 use Rattle.tokens.specs.Token.{sizeIn}
 use Rattle.tokens.specs.Key.{at}
 use Rattle.bodies.specs.Marked.{marked}
-use Rattle.copying.specs.Copied.{CopiesTerm}
+use Rattle.copying.specs.Copied.{TermCopyable}
 use Rattle.copying.proofs.SpanLaws.{term-inside}
 use Rattle.copying.proofs.CopyLaws.{Copying, copying-begins, copying-ends, copying-goes, hole-room, inner-copies, inner-less}
 use Rattle.copying.proofs.CopyLaws.{inner-room, next-copies, next-less, next-nodes, next-short, node-room, term-copied, term-hole}
@@ -208,7 +208,7 @@ module _ (t : ℕ) where
     abbrev n : ℕ
     n = loop .loop .n
 
-    copies : CopiesTerm es (start .args .from) (start .args .mask) (loop .loop .next) (length (take (length out - n) (drop n out)))
+    copies : TermCopyable es (start .args .from) (start .args .mask) (loop .loop .next) (length (take (length out - n) (drop n out)))
     copies = next-copies (loop .loop .inv) (start .pre .1) (c .loop-test .taken)
 
     nodes : (1 ≤ sizeIn (at es (loop .loop .next))) × (loop .loop .next + sizeIn (at es (loop .loop .next)) ≤ start .args .to)

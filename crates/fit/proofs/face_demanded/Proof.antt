@@ -6,7 +6,7 @@ use borrow.Author.Needs.{needs}
 use Rattle.meaning.specs.Limits.{metavariableCount, maxFunctions}
 use Rattle.tokens.specs.Key.{at}
 use Rattle.metavariables.specs.Survey.{count}
-use Rattle.fit.specs.Ready.{Applies}
+use Rattle.fit.specs.Ready.{Applicable}
 use Rattle.fit.proofs.CodeLaws.{face-plain, face-applies}
 use Rattle.fit.proofs.face_demanded.Statement.{statement}
 use Rattle.fit.proofs.face_demanded.Tie as tie
@@ -81,7 +81,7 @@ application-demanded-requires c κs =
     let a = s .args in
     let e = (c .before .rank .ensures ∙ ap (λ (m : ℕ). count m (a .functions)) (c .before .before .payload .ensures)) in (
       s .pre .0,
-      subst (λ (k : ℕ). Applies (a .ps .now) (a .es .now) (a .face) (at (a .t5) k) (at (a .t6) k)) (sym e)
+      subst (λ (k : ℕ). Applicable (a .ps .now) (a .es .now) (a .face) (at (a .t5) k) (at (a .t6) k)) (sym e)
           (s .pre .1 .applies (sym (c .before .before .before .before .tag .ensures) ∙ c .before .before .before .if1 .left)),
       s .pre .2,
     )

@@ -5,7 +5,7 @@ use Prim.Native.Nat.{ℕ, _<_}
 use native.Mathlib.Omega.{arith}
 use lib.ListN.{getD}
 use borrow.Author.Needs.{needs}
-use Rattle.items.specs.Fields.{EndsIn, RuleOf}
+use Rattle.items.specs.Fields.{FieldInside, RuleOf}
 use Rattle.items.specs.declared.Rule.{Rule}
 use Rattle.items.proofs.ContentLaws.{content-none, content-over, content-value, content-body, content-open, content-other}
 use Rattle.items.proofs.read_content.Statement.{statement}
@@ -28,7 +28,7 @@ module _ (c : tie.After-rule-of) where
   abbrev o : List ℕ
   o = start .args .table .now
 
-  abbrev inside : EndsIn s end
+  abbrev inside : FieldInside s end
   inside = start .pre .0
 
   abbrev some : end ≡ 3 → ⊥
