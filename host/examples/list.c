@@ -1,34 +1,32 @@
 /*
  * Lists the solutions of the problem on standard input, as document 01's program `readings` does, but goes on after a pause:
  *
- *     rt staticlib exports
- *     cc -Iinclude -o list host/examples/list.c target/staticlib/libexports.a
+ *     rt staticlib tivagyesz
+ *     cc -Iinclude -o list host/examples/list.c target/staticlib/libtivagyesz.a
  *     ./list < crates/readings/stdin
  */
 #include "matcher.h"
 
 #include <stdio.h>
 
-/* A text has at most the problem's bytes and 4 for each of 32 metavariables. */
-#define LARGEST_WRITTEN (MATCHER_LARGEST_PROBLEM + 4 * 32)
-
 /* One byte more than a problem may have: a longer one is then refused and not cut off. */
 static uint8_t problem[MATCHER_LARGEST_PROBLEM + 1];
 
 static int refused(uint32_t refusal) {
     printf("refused %u\n", (unsigned)refusal);
+    fprintf(stderr, "list: %s\n", matcher_meaning(refusal));
     return 1;
 }
 
 static int print_solution(size_t len, const uint64_t *row, unsigned long number) {
-    static uint8_t text[LARGEST_WRITTEN];
-    uint64_t written;
+    static uint8_t text[MATCHER_LARGEST_WRITTEN];
+    size_t written;
     uint32_t answer = matcher_write(problem, len, row, MATCHER_PLACE_WORDS, text, sizeof text, &written);
     if (answer != MATCHER_OK) {
         return refused(answer);
     }
     printf("solution %lu:", number);
-    for (uint64_t k = 0; k < written; k++) {
+    for (size_t k = 0; k < written; k++) {
         printf("%02X", text[k]);
     }
     printf("\n");

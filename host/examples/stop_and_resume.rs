@@ -3,10 +3,10 @@
 //!     cargo run --example stop_and_resume -- PROBLEM SAVED COUNT
 //!
 //! PROBLEM is a file with the bytes of a problem, SAVED the file that keeps the place; it is made by the first run. At most
-//! COUNT solutions are printed, each with its number in the whole list, then `end N`, or `stopped after N`, after which
-//! another run goes on.
+//! COUNT solutions are printed, each with its number in the whole list and what its metavariables stand for, then
+//! `end N`, or `stopped after N`, after which another run goes on.
 
-use matcher::{Problem, Search};
+use matcher::{Problem, Search, Solution};
 use std::error::Error;
 use std::io::{ErrorKind, Write};
 use std::path::Path;
@@ -48,10 +48,16 @@ fn print(search: &mut Search, count: usize) -> std::io::Result<()> {
         let Some(solution) = search.next() else {
             return writeln!(out, "end {}", search.found());
         };
-        let digits: String = solution.text().iter().map(|byte| format!("{byte:02X}")).collect();
-        writeln!(out, "solution {}:{digits}", solution.number())?;
+        writeln!(out, "solution {}: {}", solution.number(), words(&solution))?;
     }
     writeln!(out, "stopped after {}", search.found())
+}
+
+/// What each metavariable stands for: `?0 is _, ?1 is s5`.
+fn words(solution: &Solution) -> String {
+    let filling = solution.filling();
+    let words = filling.iter().map(|(number, given)| format!("?{number} is {given}"));
+    words.collect::<Vec<String>>().join(", ")
 }
 
 /// Writes the file beside the old one and then in its place, so that a place is never half written.

@@ -5,9 +5,9 @@
 //! lists them all, none twice, always in the same order. The search can be stopped after any call, kept as
 //! [bytes](Search::suspend) and [resumed](Problem::resume) by another process: the list comes out the same.
 //!
-//! The work is done by a library whose every function is proved against document 01, this project's specification; what
-//! is here only hands it bytes and words and gives its numbers names. Where this documentation says "document 01", it
-//! says that the sentence is proved there and not promised here.
+//! The work is done by a library that is proved against document 01; what is here only hands it bytes and words and
+//! gives its numbers names. Document 01 is the name of this project's specification. In the repository, `docs/FORMAT.md`
+//! restates what it says of bytes and refusals, and `docs/TRUST.md` says what is proved of the library and what is not.
 //!
 //! # An example
 //!
@@ -15,28 +15,29 @@
 //! X stays open.
 //!
 //! ```
-//! use matcher::Problem;
+//! use matcher::{Problem, Term};
 //!
-//! // constraint (tag 7): function 0 applied (6) to metavariable 1 (5), and symbol 5 (1)
-//! let bytes = [7, 0, 13, 6, 0, 5, 0, 5, 0, 1, 1, 1, 0, 2, 0, 5];
-//! let problem = Problem::new(&bytes)?;
-//! let texts: Vec<Vec<u8>> = problem.search().map(|solution| solution.text()).collect();
-//! assert_eq!(
-//!     texts,
-//!     [
-//!         // body (9) of 0: a hole (10); value (8) of 1: symbol 5
-//!         vec![9, 0, 4, 0, 10, 0, 0, 8, 0, 6, 1, 1, 0, 2, 0, 5],
-//!         // body of 0: symbol 5; 1 is open (11)
-//!         vec![9, 0, 6, 0, 1, 0, 2, 0, 5, 11, 0, 1, 1],
-//!     ]
-//! );
-//! assert!(problem.check(&texts[0])?);
+//! // metavariables have numbers, 0 to 31
+//! const P: u8 = 0;
+//! const X: u8 = 1;
+//!
+//! let pattern = Term::function(P, Term::metavariable(X));
+//! let problem = Problem::of([(pattern, Term::symbol(5))])?;
+//! let mut ways = Vec::new();
+//! for solution in problem.search() {
+//!     let [p, x] = [P, X].map(|number| solution.given(number).expect("the problem has it"));
+//!     ways.push(format!("{}: P is {p}, X is {x}", solution.number()));
+//!     // the solution as bytes, which the checker passes
+//!     assert!(problem.check(&solution.text())?.is_yes());
+//! }
+//! assert_eq!(ways, ["1: P is _, X is s5", "2: P is s5, X is open"]);
 //! # Ok::<(), matcher::Refusal>(())
 //! ```
 //!
 //! # Fields
 //!
-//! Problems and texts are fields: a one-byte tag, a two-byte length, high byte first, and that many bytes of content.
+//! Problems and texts are bytes. [`Term`], [`Problem::of`] and [`text_of`] make them, and [`Solution::filling`] takes a
+//! text apart. They are fields: a one-byte tag, a two-byte length, high byte first, and that many bytes of content.
 //!
 //! | tag | meaning | content |
 //! |---|---|---|
@@ -52,20 +53,31 @@
 //! | 10 | hole | nothing |
 //! | 11 | open, in a text | number, 1 byte |
 //!
-//! A problem is at most 16 constraints in at most [`LARGEST_PROBLEM`] bytes. [`Refusal`] names every other limit.
+//! A problem is at most [`MAX_CONSTRAINTS`] constraints in at most [`LARGEST_PROBLEM`] bytes. Terms are at most
+//! [`MAX_DEPTH`] deep, at most [`MAX_FUNCTIONS`] metavariables are functions, and what the first application of each shall
+//! equal has at most [`MAX_FACE_NODES`] nodes.
 
 #![warn(missing_docs)]
 
+mod fields;
+mod filling;
 mod problem;
 pub mod raw;
 mod refusal;
 mod saved;
 mod search;
+mod shown;
 mod solution;
+mod term;
+mod verdict;
 
+pub use filling::{text_of, Given};
 pub use problem::Problem;
-pub use raw::{LARGEST_PROBLEM, LARGEST_TEXT};
+pub use raw::{LARGEST_PROBLEM, LARGEST_TEXT, LARGEST_WRITTEN, PLACE_WORDS};
+pub use raw::{MAX_CONSTRAINTS, MAX_DEPTH, MAX_FACE_NODES, MAX_FUNCTIONS, METAVARIABLES};
 pub use refusal::Refusal;
 pub use saved::{ResumeError, SAVED_BYTES};
 pub use search::{Search, Step, ALLOWANCE};
 pub use solution::Solution;
+pub use term::Term;
+pub use verdict::Verdict;

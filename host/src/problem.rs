@@ -1,12 +1,17 @@
 //! A problem that the matcher accepts.
 
-use crate::raw::{self, PLACE_WORDS};
+use crate::fields::{self, tag};
+use crate::raw::{self, LARGEST_PROBLEM, PLACE_WORDS};
 use crate::refusal::Refusal;
 use crate::saved::{self, ResumeError};
 use crate::search::Search;
+use crate::shown;
+use crate::term::Term;
+use crate::verdict::Verdict;
+use std::fmt;
 
 /// A problem that is accepted: none of the refusals 1 to 14 and 25 applies to its bytes.
-#[derive(Clone, Debug, PartialEq, Eq)]
+#[derive(Clone, PartialEq, Eq, Hash)]
 pub struct Problem {
     bytes: Vec<u8>,
     /// The first row, or past the last if there is none.
@@ -14,7 +19,7 @@ pub struct Problem {
 }
 
 impl Problem {
-    /// Reads the bytes of a problem, or says why they are refused.
+    /// Reads the bytes of a problem; [`Problem::of`] makes them from terms.
     ///
     /// ```
     /// use matcher::{Problem, Refusal};
@@ -27,6 +32,12 @@ impl Problem {
     /// assert_eq!(refusal.to_string(), "refused 3: a field's length goes past the enclosing end");
     /// # Ok::<(), Refusal>(())
     /// ```
+    ///
+    /// # Errors
+    /// The refusal, 1 to 14 or 25.
+    ///
+    /// # Panics
+    /// Only if the proved library answers what it is proved not to answer.
     pub fn new(bytes: &[u8]) -> Result<Problem, Refusal> {
         let mut start = [0; PLACE_WORDS];
         match raw::start(bytes, &mut start) {
@@ -38,7 +49,35 @@ impl Problem {
         }
     }
 
-    /// The bytes that it was read from.
+    /// The problem of these constraints: patterns, each with the expression that it shall equal.
+    ///
+    /// ```
+    /// use matcher::{Problem, Refusal, Term};
+    ///
+    /// // ?0{?1} shall equal s5
+    /// let pattern = Term::function(0, Term::metavariable(1));
+    /// let problem = Problem::of([(pattern, Term::symbol(5))])?;
+    /// assert_eq!(problem.bytes(), [7, 0, 13, 6, 0, 5, 0, 5, 0, 1, 1, 1, 0, 2, 0, 5]);
+    /// // a hole in a pattern
+    /// assert_eq!(Problem::of([(Term::hole(), Term::symbol(5))]), Err(Refusal::TagOutOfPlace));
+    /// # Ok::<(), Refusal>(())
+    /// ```
+    ///
+    /// # Errors
+    /// The refusal, as [`Problem::new`] gives it.
+    ///
+    /// # Panics
+    /// Only if the proved library answers what it is proved not to answer.
+    pub fn of(constraints: impl IntoIterator<Item = (Term, Term)>) -> Result<Problem, Refusal> {
+        let parts = constraints.into_iter().map(|(pattern, expression)| {
+            fields::field(tag::CONSTRAINT, [pattern.into_bytes(), expression.into_bytes()])
+        });
+        let bytes = fields::joined(parts, LARGEST_PROBLEM).ok_or(Refusal::ProblemTooLong)?;
+        Problem::new(&bytes)
+    }
+
+    /// Its bytes.
+    #[must_use]
     pub fn bytes(&self) -> &[u8] {
         &self.bytes
     }
@@ -50,8 +89,12 @@ impl Problem {
 
     /// A search that goes on where another one was [suspended](Search::suspend), in this process or another.
     ///
-    /// Bytes that are damaged, or were saved for another problem, are an error; the search that they came from can still
-    /// be resumed from bytes that are not.
+    /// # Errors
+    /// The bytes are not those of a search of this problem, or are damaged. The search that they came from can still be
+    /// resumed from bytes that are not.
+    ///
+    /// # Panics
+    /// Only if the proved library answers what it is proved not to answer.
     pub fn resume(&self, saved: &[u8]) -> Result<Search<'_>, ResumeError> {
         let (place, found) = saved::read(saved, &self.bytes)?;
         let search = Search::at(self, place, found);
@@ -62,15 +105,28 @@ impl Problem {
         }
     }
 
-    /// Whether the filling that a text names is a solution. Metavariable numbers must rise from field to field
-    /// ([`Refusal::TextOutOfOrder`]), and bound names are free: two texts that pass name the same solution exactly when
-    /// they differ only in bound names. A wrong or missing metavariable is a no.
-    pub fn check(&self, text: &[u8]) -> Result<bool, Refusal> {
+    /// Whether the filling that a text names is a solution; [`text_of`](crate::text_of) gives the text of a filling.
+    /// Bound names are free: two texts that pass name the same solution exactly when they differ only in bound names. A
+    /// wrong or missing metavariable is a no.
+    ///
+    /// # Errors
+    /// [`Refusal::TextTooLong`], [`Refusal::TextMalformed`], or, where metavariable numbers do not rise from field to
+    /// field, [`Refusal::TextOutOfOrder`].
+    ///
+    /// # Panics
+    /// Only if the proved library answers what it is proved not to answer.
+    pub fn check(&self, text: &[u8]) -> Result<Verdict, Refusal> {
         match raw::check(&self.bytes, text) {
-            raw::YES => Ok(true),
-            raw::NO => Ok(false),
+            raw::YES => Ok(Verdict::Yes),
+            raw::NO => Ok(Verdict::No),
             other => Err(refused(other)),
         }
+    }
+}
+
+impl fmt::Debug for Problem {
+    fn fmt(&self, f: &mut fmt::Formatter) -> fmt::Result {
+        write!(f, "Problem({})", shown::bytes(&self.bytes))
     }
 }
 

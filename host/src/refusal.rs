@@ -13,6 +13,7 @@ macro_rules! refusals {
         /// 11 and 25), then looked at as a whole (13 and 14), and only then is what else the call was given.
         #[derive(Clone, Copy, Debug, PartialEq, Eq, Hash)]
         #[repr(u8)]
+        #[non_exhaustive]
         pub enum Refusal {
             $(#[doc = $words] $name = $number,)*
         }
@@ -22,6 +23,7 @@ macro_rules! refusals {
             pub const ALL: &'static [Refusal] = &[$(Refusal::$name,)*];
 
             /// What it means, in document 01's words.
+            #[must_use]
             pub fn meaning(self) -> &'static str {
                 match self {
                     $(Refusal::$name => $words,)*
@@ -57,11 +59,13 @@ refusals! {
 
 impl Refusal {
     /// Document 01's number for it.
+    #[must_use]
     pub fn number(self) -> u8 {
         self as u8
     }
 
     /// The refusal that has the number, if one has.
+    #[must_use]
     pub fn numbered(number: u32) -> Option<Refusal> {
         Refusal::ALL.iter().copied().find(|r| u32::from(r.number()) == number)
     }

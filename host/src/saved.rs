@@ -23,7 +23,8 @@ const PLACE: usize = 20;
 const MARK: usize = SAVED_BYTES - 8;
 
 /// Why bytes are not a suspended search of a problem.
-#[derive(Clone, Copy, Debug, PartialEq, Eq)]
+#[derive(Clone, Copy, Debug, PartialEq, Eq, Hash)]
+#[non_exhaustive]
 pub enum ResumeError {
     /// Their number is not [`SAVED_BYTES`].
     Length,

@@ -4,9 +4,12 @@ use crate::problem::{refused, Problem};
 use crate::raw::{self, PLACE_WORDS};
 use crate::refusal::Refusal;
 use crate::saved::{self, SAVED_BYTES};
+use crate::shown;
 use crate::solution::Solution;
+use std::fmt;
 
-/// The rows that the iterator allows each of its calls.
+/// The rows that the iterator allows each of its calls. They take some 0.3 seconds on small problems, and up to 50 on
+/// the largest: a host that cannot wait so long makes the [calls](Search::call) itself.
 pub const ALLOWANCE: u32 = 1_000_000;
 
 /// A search of a problem: a place in the list of its rows. As an iterator it gives the solutions from there on, and makes
@@ -14,7 +17,10 @@ pub const ALLOWANCE: u32 = 1_000_000;
 ///
 /// A problem may have far more rows than anyone can wait for. A host that wants to stay in charge makes the calls itself,
 /// with [`Search::call`].
-#[derive(Clone, Debug)]
+///
+/// The iterator panics only if the proved library answers what it is proved not to answer.
+#[derive(Clone)]
+#[must_use = "a search looks for nothing until it is called"]
 pub struct Search<'p> {
     problem: &'p Problem,
     place: [u64; PLACE_WORDS],
@@ -23,7 +29,8 @@ pub struct Search<'p> {
 }
 
 /// What one call of a search gives.
-#[derive(Clone, Debug, PartialEq, Eq)]
+#[derive(Clone, Debug, PartialEq, Eq, Hash)]
+#[must_use = "a solution that is not taken is lost: the search has moved past it"]
 pub enum Step<'p> {
     /// The first solution at or after the place; the search has moved to the row after it.
     Found(Solution<'p>),
@@ -38,8 +45,11 @@ impl<'p> Search<'p> {
         Search { problem, place, found }
     }
 
-    /// Looks for the next solution, and pauses after `allowance` rows without one. Refused only where the allowance is 0;
-    /// the search then stays where it is.
+    /// Looks for the next solution, and pauses after `allowance` rows without one.
+    ///
+    /// As measured on one machine, a row takes some 0.3 µs on small problems and up to 50 µs on the largest. Before its
+    /// first row a call reads the problem: a small one in some 2 µs, most large ones in 20 µs, and the worst, in which
+    /// eight functions face terms as large and as deep as they may be, in 350 µs.
     ///
     /// ```
     /// use matcher::{Problem, Refusal, Step};
@@ -52,6 +62,12 @@ impl<'p> Search<'p> {
     /// assert_eq!(search.call(1)?, Step::End);
     /// # Ok::<(), Refusal>(())
     /// ```
+    ///
+    /// # Errors
+    /// [`Refusal::NoAllowance`] where the allowance is 0; the search then stays where it is.
+    ///
+    /// # Panics
+    /// Only if the proved library answers what it is proved not to answer.
     pub fn call(&mut self, allowance: u32) -> Result<Step<'p>, Refusal> {
         let mut row = [0; PLACE_WORDS];
         match raw::search(self.problem.bytes(), &mut self.place, &mut row, allowance) {
@@ -66,12 +82,14 @@ impl<'p> Search<'p> {
     }
 
     /// How many solutions came before the place that the search is at, those before it was suspended included.
+    #[must_use]
     pub fn found(&self) -> u64 {
         self.found
     }
 
     /// The search as bytes, for [`Problem::resume`]. They hold the place, how many solutions came before it, and a mark of
     /// the problem, so that they are not taken for a place in another one. The problem's own bytes are not among them.
+    #[must_use]
     pub fn suspend(&self) -> [u8; SAVED_BYTES] {
         saved::bytes(&self.place, self.found, self.problem.bytes())
     }
@@ -79,6 +97,14 @@ impl<'p> Search<'p> {
     /// Whether the problem has the place: a call there is not refused.
     pub(crate) fn stands(&self) -> bool {
         self.clone().call(1).is_ok()
+    }
+}
+
+impl fmt::Debug for Search<'_> {
+    /// How many solutions came before it, and the place: a mask for each function up to the last that is not 0.
+    fn fmt(&self, f: &mut fmt::Formatter) -> fmt::Result {
+        let place = shown::place(&self.place);
+        write!(f, "Search {{ found: {}, place: {place} }}", self.found)
     }
 }
 

@@ -1,14 +1,14 @@
 //! One solution of a problem.
 
+use crate::fields;
+use crate::filling::Given;
 use crate::problem::Problem;
-use crate::raw::{self, PLACE_WORDS};
-
-/// Document 01: a text is at most the problem's length and so many bytes for each of at most 32 metavariables.
-const BYTES_A_METAVARIABLE: usize = 4;
-const METAVARIABLES: usize = 32;
+use crate::raw::{self, LARGEST_WRITTEN, MAX_FACE_NODES, PLACE_WORDS};
+use crate::shown;
+use std::fmt;
 
 /// A solution of a problem: a row of it, and what every metavariable and function stands for there.
-#[derive(Clone, Debug, PartialEq, Eq)]
+#[derive(Clone, PartialEq, Eq, Hash)]
 pub struct Solution<'p> {
     problem: &'p Problem,
     row: [u64; PLACE_WORDS],
@@ -21,30 +21,69 @@ impl<'p> Solution<'p> {
     }
 
     /// Its number in the problem's list, from 1.
+    #[must_use]
     pub fn number(&self) -> u64 {
         self.number
     }
 
-    /// The nodes that are holes of the body of the k-th function, by ascending metavariable number from 0. Nodes of a face
-    /// are numbered from 0, left to right from the top. There is none where the problem has no such function.
-    pub fn holes(&self, k: usize) -> Vec<usize> {
-        let mask = self.row[..PLACE_WORDS - 1].get(k).copied().unwrap_or(0);
-        (0..64).filter(|node| mask >> (63 - node) & 1 == 1).collect()
+    /// What every metavariable of the problem stands for, by ascending number.
+    ///
+    /// # Panics
+    /// Only if the proved library answers what it is proved not to answer.
+    #[must_use]
+    pub fn filling(&self) -> Vec<(u8, Given)> {
+        fields::all(&self.text())
+            .map(|(tag, content)| Given::written(tag, content))
+            .collect()
+    }
+
+    /// What one metavariable stands for; nothing where the problem does not have it.
+    ///
+    /// # Panics
+    /// Only if the proved library answers what it is proved not to answer.
+    #[must_use]
+    pub fn given(&self, metavariable: u8) -> Option<Given> {
+        let mut filling = self.filling().into_iter();
+        filling.find_map(|(number, given)| (number == metavariable).then_some(given))
+    }
+
+    /// The nodes of a function's face that are holes of its body, none where it has no hole; nothing where the metavariable
+    /// is no function of the problem. Nodes of a face are numbered from 0, left to right from the top.
+    ///
+    /// # Panics
+    /// Only if the proved library answers what it is proved not to answer.
+    #[must_use]
+    pub fn holes(&self, metavariable: u8) -> Option<Vec<usize>> {
+        let filling = self.filling();
+        let mut functions = filling.iter().filter(|(_, given)| matches!(given, Given::Body(_)));
+        let mask = self.row[functions.position(|(number, _)| *number == metavariable)?];
+        let is_hole = |node: &usize| mask >> (MAX_FACE_NODES - 1 - node) & 1 == 1;
+        Some((0..MAX_FACE_NODES).filter(is_hole).collect())
     }
 
     /// Its row in the form that the functions of [`raw`] take.
+    #[must_use]
     pub fn row(&self) -> [u64; PLACE_WORDS] {
         self.row
     }
 
     /// Its text: one field for each metavariable of the problem, ascending. [`Problem::check`] passes it.
+    ///
+    /// # Panics
+    /// Only if the proved library answers what it is proved not to answer.
+    #[must_use]
     pub fn text(&self) -> Vec<u8> {
-        let problem = self.problem.bytes();
-        let mut text = vec![0; problem.len() + BYTES_A_METAVARIABLE * METAVARIABLES];
-        let mut written = 0;
-        let answer = raw::write(problem, &self.row, &mut text, &mut written);
+        let (mut text, mut written) = ([0; LARGEST_WRITTEN], 0);
+        let answer = raw::write(self.problem.bytes(), &self.row, &mut text, &mut written);
         assert_eq!(answer, raw::OK, "the matcher is proved to write what it found");
-        text.truncate(written as usize);
-        text
+        text[..written].to_vec()
+    }
+}
+
+impl fmt::Debug for Solution<'_> {
+    /// Its number, and a mask of holes for each function up to the last that has one.
+    fn fmt(&self, f: &mut fmt::Formatter) -> fmt::Result {
+        let masks = shown::place(&self.row);
+        write!(f, "Solution {{ number: {}, row: {masks} }}", self.number)
     }
 }

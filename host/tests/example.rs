@@ -50,11 +50,11 @@ fn it_stops_and_goes_on() {
     assert_eq!(printed(&run(&problem, &saved, "0")), "stopped after 0\n");
     assert_eq!(
         printed(&run(&problem, &saved, "1")),
-        "solution 1:090004000A0000080006010100020005\nstopped after 1\n"
+        "solution 1: ?0 is _, ?1 is s5\nstopped after 1\n"
     );
     assert_eq!(
         printed(&run(&problem, &saved, "5")),
-        "solution 2:0900060001000200050B000101\nend 2\n"
+        "solution 2: ?0 is s5, ?1 is open\nend 2\n"
     );
     assert_eq!(printed(&run(&problem, &saved, "5")), "end 2\n");
 }

@@ -1,6 +1,7 @@
 //! The library as a new user calls it.
 
-use matcher::{Problem, Refusal, ResumeError, Step, SAVED_BYTES};
+use matcher::{text_of, Given, Problem, Refusal, ResumeError, Solution, Step, Term, Verdict, SAVED_BYTES};
+use std::collections::HashSet;
 
 /// (P(1), 1+1), a problem of four solutions: 1 is symbol 1, + is symbol 10.
 const FOUR: [u8; 30] = [
@@ -13,9 +14,96 @@ const TWO: [u8; 16] = [7, 0, 13, 6, 0, 5, 0, 5, 0, 1, 1, 1, 0, 2, 0, 5];
 #[test]
 fn solutions_have_numbers_and_holes() {
     let problem = Problem::new(&FOUR).unwrap();
-    let listed: Vec<(u64, Vec<usize>)> = problem.search().map(|s| (s.number(), s.holes(0))).collect();
-    assert_eq!(listed, [(1, vec![2, 3]), (2, vec![2]), (3, vec![3]), (4, vec![])]);
-    assert!(problem.search().all(|s| s.holes(1).is_empty() && s.holes(8).is_empty()));
+    let listed: Vec<(u64, Option<Vec<usize>>)> = problem.search().map(|s| (s.number(), s.holes(0))).collect();
+    let holes = [vec![2, 3], vec![2], vec![3], vec![]].map(Some);
+    assert_eq!(listed, (1..).zip(holes).collect::<Vec<_>>());
+}
+
+/// Functions 3 and 7, and metavariable 5 between them: (?7{s1} ?3{?5}) shall equal (s1 s2).
+fn two_functions() -> Problem {
+    let calls = [
+        Term::function(7, Term::symbol(1)),
+        Term::function(3, Term::metavariable(5)),
+    ];
+    let symbols = [Term::symbol(1), Term::symbol(2)];
+    Problem::of([(Term::application(calls), Term::application(symbols))]).unwrap()
+}
+
+#[test]
+fn a_metavariable_is_asked_for_by_its_number() {
+    let problem = two_functions();
+    let solution = problem.search().next().unwrap();
+    let [hole, two] = [Term::hole(), Term::symbol(2)];
+    let filling = [
+        (3, Given::Body(hole.clone())),
+        (5, Given::Value(two)),
+        (7, Given::Body(hole)),
+    ];
+    assert_eq!(solution.filling(), filling);
+    assert_eq!(text_of(filling.clone()), Ok(solution.text()));
+    for (number, given) in filling {
+        assert_eq!(solution.given(number), Some(given));
+    }
+    assert!([0, 4, 8, 32, 255]
+        .iter()
+        .all(|number| solution.given(*number).is_none()));
+    let last = problem.search().last().unwrap();
+    let given: Vec<String> = last
+        .filling()
+        .iter()
+        .map(|(number, given)| format!("{number} {given}"))
+        .collect();
+    assert_eq!(given, ["3 s2", "5 open", "7 s1"]);
+}
+
+#[test]
+fn holes_of_a_function_and_of_none() {
+    let problem = two_functions();
+    let holes: Vec<_> = problem
+        .search()
+        .map(|s| [3, 7].map(|number| s.holes(number).unwrap()))
+        .collect();
+    let (is_hole, none) = (vec![0], vec![]);
+    let both = [
+        [&is_hole, &is_hole],
+        [&is_hole, &none],
+        [&none, &is_hole],
+        [&none, &none],
+    ];
+    assert_eq!(holes, both.map(|pair| pair.map(Vec::clone)));
+    let solution = problem.search().next().unwrap();
+    assert!([0, 1, 5, 8, 31, 255]
+        .iter()
+        .all(|number| solution.holes(*number).is_none()));
+}
+
+#[test]
+fn debug_is_short() {
+    let problem = Problem::new(&FOUR).unwrap();
+    let mut search = problem.search();
+    assert_eq!(format!("{search:?}"), "Search { found: 0, place: [8000000000000000] }");
+    let solution = search.next().unwrap();
+    assert_eq!(
+        format!("{solution:?}"),
+        "Solution { number: 1, row: [3000000000000000] }"
+    );
+    assert_eq!(
+        format!("{:?}", search.by_ref().last().unwrap()),
+        "Solution { number: 4, row: [] }"
+    );
+    assert_eq!(format!("{search:?}"), "Search { found: 4, place: past the last }");
+    let digits = "07000D06000500050001010100020005";
+    let of = |times: usize| format!("{:?}", Problem::new(&TWO.repeat(times)).unwrap());
+    assert_eq!(of(1), format!("Problem({digits})"));
+    assert_eq!(of(2), format!("Problem({digits}{digits})"));
+    assert_eq!(of(3), format!("Problem({digits}{digits}.. 48 bytes)"));
+}
+
+#[test]
+fn solutions_are_kept_in_sets() {
+    let problem = Problem::new(&FOUR).unwrap();
+    let set: HashSet<Solution> = problem.search().chain(problem.search()).collect();
+    assert_eq!(set.len(), 4);
 }
 
 #[test]
@@ -67,10 +155,10 @@ fn texts_are_checked() {
     let problem = Problem::new(&TWO).unwrap();
     let texts: Vec<Vec<u8>> = problem.search().map(|s| s.text()).collect();
     for text in &texts {
-        assert_eq!(problem.check(text), Ok(true));
+        assert_eq!(problem.check(text), Ok(Verdict::Yes));
         assert_eq!(problem.check(&text[1..]), Err(Refusal::TextMalformed));
     }
-    assert_eq!(problem.check(&[]), Ok(false));
+    assert_eq!(problem.check(&[]), Ok(Verdict::No));
     assert_eq!(problem.check(&[0; 8193]), Err(Refusal::TextTooLong));
 }
 

@@ -85,7 +85,7 @@ fn written(subject: &dyn Subject, problem: &[u8], row: Words, text: &[u8]) -> Re
         subject.write(problem, &row, &mut out, &mut length),
         OK,
     )?;
-    same(problem, "the length of a text", length as usize, text.len())?;
+    same(problem, "the length of a text", length, text.len())?;
     same(problem, "a text", hex(&out[..text.len()]), hex(text))?;
     if out[text.len()..].iter().any(|byte| *byte != 0xA5) {
         return Err(differ(problem, "a byte after the text is changed"));

@@ -156,7 +156,7 @@ impl Known<'_> {
                     self.problem,
                     &what,
                     (answer, length, hex(&out)),
-                    (OK, text.len() as u64, hex(&whole)),
+                    (OK, text.len(), hex(&whole)),
                 )
             }
             refused => {

@@ -10,7 +10,7 @@ pub trait Subject {
     /// One search call.
     fn search(&self, problem: &[u8], place: &mut [u64], row: &mut [u64], n: u32) -> u32;
     /// A row's text.
-    fn write(&self, problem: &[u8], row: &[u64], out: &mut [u8], written: &mut u64) -> u32;
+    fn write(&self, problem: &[u8], row: &[u64], out: &mut [u8], written: &mut usize) -> u32;
     /// Whether a text passes.
     fn check(&self, problem: &[u8], text: &[u8]) -> u32;
 }
@@ -27,7 +27,7 @@ impl Subject for Proved {
         raw::search(problem, place, row, n)
     }
 
-    fn write(&self, problem: &[u8], row: &[u64], out: &mut [u8], written: &mut u64) -> u32 {
+    fn write(&self, problem: &[u8], row: &[u64], out: &mut [u8], written: &mut usize) -> u32 {
         raw::write(problem, row, out, written)
     }
 

@@ -269,13 +269,13 @@ impl Subject for Wrong {
         }
     }
 
-    fn write(&self, problem: &[u8], row: &[u64], out: &mut [u8], written: &mut u64) -> u32 {
+    fn write(&self, problem: &[u8], row: &[u64], out: &mut [u8], written: &mut usize) -> u32 {
         let before = out.to_vec();
         let answer = match self {
             Wrong::ListsBothWays => Proved.write(&apart(problem), row, out, written),
             _ => Proved.write(problem, row, out, written),
         };
-        let length = *written as usize;
+        let length = *written;
         match self {
             Wrong::Refuses => 4,
             Wrong::Ends if answer == OK => {
@@ -302,7 +302,7 @@ impl Subject for Wrong {
                 let text = narrowed(&out[..length]);
                 out.copy_from_slice(&before);
                 out[..text.len()].copy_from_slice(&text);
-                *written = text.len() as u64;
+                *written = text.len();
                 OK
             }
             Wrong::WritesAnyRow if answer == 17 => {

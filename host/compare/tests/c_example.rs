@@ -1,13 +1,14 @@
-//! The C example, compiled as its first lines say, prints what the second implementation gives.
+//! The C example, compiled as its first lines say, prints what the second implementation gives; the header by itself is
+//! strict C and C++.
 
 use compare::generate;
 use compare::random::Random;
 use compare::report::differ;
 use compare::tree;
 use compare::vectors;
-use std::io::Write;
+use std::io::{ErrorKind, Write};
 use std::path::{Path, PathBuf};
-use std::process::{Command, Stdio};
+use std::process::{Command, Output, Stdio};
 
 /// Lists of more rows than this take long to print.
 const MOST_ROWS: usize = 500;
@@ -16,36 +17,61 @@ fn repository() -> PathBuf {
     Path::new(env!("CARGO_MANIFEST_DIR")).join("../..")
 }
 
-/// Compiles the example, without a warning.
-fn compiled(to: &Path) {
-    let root = repository();
-    let compiler = std::env::var_os("CC").unwrap_or_else(|| "cc".into());
-    let output = Command::new(compiler)
-        .args(["-std=c99", "-Wall", "-Wextra", "-Werror", "-O1", "-o"])
-        .arg(to)
-        .arg("-I")
-        .arg(root.join("include"))
-        .arg(root.join("host/examples/list.c"))
-        .arg(root.join("target/staticlib/libexports.a"))
-        .output()
-        .expect("a C compiler is there");
+/// A compiler that finds the header and lets no warning pass: the one that the variable names, or else the usual one.
+fn compiler(variable: &str, usual: &str) -> Command {
+    let name = std::env::var_os(variable).unwrap_or_else(|| usual.into());
+    let mut compiler = Command::new(name);
+    compiler.args(["-Wall", "-Wextra", "-Werror", "-I"]);
+    compiler.arg(repository().join("include"));
+    compiler
+}
+
+fn no_warning(output: &Output) {
     assert!(output.status.success(), "{}", String::from_utf8_lossy(&output.stderr));
 }
 
-fn listed(program: &Path, problem: &[u8]) -> String {
-    let mut process = Command::new(program)
+/// Compiles the example.
+fn compiled(to: &Path) {
+    let output = compiler("CC", "cc")
+        .args(["-std=c99", "-O1", "-o"])
+        .arg(to)
+        .arg(repository().join("host/examples/list.c"))
+        .arg(env!("TIVAGYESZ_LIBRARY"))
+        .output()
+        .expect("a C compiler is there");
+    no_warning(&output);
+}
+
+/// Runs a program on this input.
+fn fed(program: &mut Command, input: &[u8]) -> std::io::Result<Output> {
+    let mut process = program
         .stdin(Stdio::piped())
         .stdout(Stdio::piped())
-        .spawn()
-        .expect("the example starts");
+        .stderr(Stdio::piped())
+        .spawn()?;
     process
         .stdin
         .take()
         .expect("a pipe")
-        .write_all(problem)
+        .write_all(input)
         .expect("it reads its input");
-    let output = process.wait_with_output().expect("it ends");
-    String::from_utf8(output.stdout).expect("it prints text")
+    process.wait_with_output()
+}
+
+/// What the example prints for a problem, and what it says besides.
+fn listed(program: &Path, problem: &[u8]) -> (String, String) {
+    let output = fed(&mut Command::new(program), problem).expect("the example runs");
+    let text = |bytes| String::from_utf8(bytes).expect("it prints text");
+    (text(output.stdout), text(output.stderr))
+}
+
+/// What it says of an answer of `readings`: a refusal in words.
+fn said(answer: &str) -> String {
+    let number = answer
+        .strip_prefix("refused ")
+        .and_then(|rest| rest.trim_end().parse().ok());
+    let refusal = number.map(|number| matcher::Refusal::numbered(number).expect("a refusal"));
+    refusal.map_or(String::new(), |refusal| format!("list: {}\n", refusal.meaning()))
 }
 
 #[test]
@@ -62,12 +88,33 @@ fn it_lists_as_the_second_implementation_does() {
         solutions += expected.matches("solution").count();
         assert_eq!(
             listed(&program, &problem),
-            expected,
+            (expected.clone(), said(&expected)),
             "seed {seed}: {}",
             differ(&problem, "the C example")
         );
     }
-    assert_eq!(listed(&program, &[0; 4097]), "refused 1\n");
+    let (printed, words) = listed(&program, &[0; 4097]);
+    assert_eq!((&printed[..], words), ("refused 1\n", said("refused 1\n")));
     let _ = std::fs::remove_file(&program);
     assert!(solutions >= 100, "only {solutions} solutions");
+}
+
+/// What a compiler says of a file that has the header and nothing else.
+fn header_alone(mut compiler: Command, language: &[&str]) -> std::io::Result<Output> {
+    compiler.args(language).args(["-pedantic", "-fsyntax-only", "-"]);
+    fed(&mut compiler, b"#include \"matcher.h\"\n")
+}
+
+#[test]
+fn the_header_is_strict_c() {
+    let output = header_alone(compiler("CC", "cc"), &["-x", "c", "-std=c99"]);
+    no_warning(&output.expect("a C compiler is there"));
+}
+
+#[test]
+fn the_header_is_strict_cplusplus() {
+    match header_alone(compiler("CXX", "c++"), &["-x", "c++", "-std=c++11"]) {
+        Err(e) if e.kind() == ErrorKind::NotFound => println!("no C++ compiler: the header is not tried as C++"),
+        output => no_warning(&output.expect("the C++ compiler runs")),
+    }
 }

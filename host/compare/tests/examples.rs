@@ -2,7 +2,7 @@
 //! text, and what the second implementation does.
 
 use compare::tree::{self, Entry, Tree};
-use matcher::{Problem, Refusal};
+use matcher::{Problem, Refusal, Verdict};
 
 const P: u8 = 0;
 const Q: u8 = 1;
@@ -71,7 +71,7 @@ fn lists(constraints: &[(Tree, Tree)], solutions: &[Vec<Entry>]) {
         .collect();
     assert_eq!(listed, expected, "the second implementation");
     for text in expected {
-        assert_eq!(problem.check(&text), Ok(true));
+        assert_eq!(problem.check(&text), Ok(Verdict::Yes));
         assert_eq!(second.check(&text), Ok(true));
     }
 }
@@ -263,7 +263,8 @@ fn both_widths() {
 fn checked(problem: &[(Tree, Tree)], text: &[Entry], answer: Result<bool, Refusal>) {
     let bytes = tree::problem(problem);
     let text = tree::text(text);
-    assert_eq!(Problem::new(&bytes).and_then(|p| p.check(&text)), answer);
+    let proved = Problem::new(&bytes).and_then(|p| p.check(&text));
+    assert_eq!(proved.map(Verdict::is_yes), answer);
     let second = second::Problem::read(&bytes).and_then(|p| p.check(&text));
     assert_eq!(second, answer.map_err(Refusal::number));
 }

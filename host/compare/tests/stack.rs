@@ -120,7 +120,7 @@ fn answers(problem: &[u8], texts: &[Vec<u8>]) -> Answers {
         let mut length = 0;
         let answer = raw::search(problem, &mut place, &mut row, ALLOWANCE);
         if raw::write(problem, &row, &mut out, &mut length) == OK && answer == FOUND {
-            written.push(out[..length as usize].to_vec());
+            written.push(out[..length].to_vec());
         }
         if answer != FOUND && answer != PAUSED {
             break;
