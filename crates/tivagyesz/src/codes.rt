@@ -19,14 +19,14 @@ const YES: u32 = 259;
 
 const NO: u32 = 260;
 
-pub const TOO_SHORT: u32 = 18;
+pub const BUFFER_TOO_SHORT: u32 = 18;
 
 // An answer that needs room for a row, where there are so many words.
 fn with_row(room: usize, code: u32) -> u32
     ensures { λ r. ⌜ r ≡ choose (hasPlace room) code 18 ⌝ }
 {
     if room < PLACE_WORDS {
-        return TOO_SHORT;
+        return BUFFER_TOO_SHORT;
     }
     code
 }

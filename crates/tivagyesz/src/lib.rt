@@ -3,8 +3,8 @@
 pub mod codes;
 
 use checking::check;
+use codes::BUFFER_TOO_SHORT;
 use codes::FOUND;
-use codes::TOO_SHORT;
 use codes::check_code;
 use codes::search_code;
 use places::Place;
@@ -29,7 +29,7 @@ fn give_start(words: &mut [u64], first: Place) -> u32
     ensures { λ r. ⌜ Told (placeInto (now (words .entry)) (valueOf first)) (now (words .entry)) (now (words .exit)) r ⌝ }
 {
     if words.len() < PLACE_WORDS {
-        return TOO_SHORT;
+        return BUFFER_TOO_SHORT;
     }
     put_place(words, first);
     0
