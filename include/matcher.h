@@ -19,10 +19,10 @@
  *     rt staticlib tivagyesz
  *     cc -Iinclude program.c target/staticlib/libtivagyesz.a
  *
- * Every function takes any bytes, words and buffers, and answers a number: MATCHER_OK, one from 256 on, or else a refusal. Of several
+ * Every function takes any bytes, words and buffers, and answers a number: MATCHER_OK, an answer of 256 or more, or a refusal. Of several
  * refusals that apply the first is given, in the order in which the function's description names them. After a refusal no buffer is changed.
- * Every call takes the problem anew and keeps nothing, so that calls may run side by side, in any thread. None allocates memory, and none
- * takes more than 192 KB of stack.
+ * Every call takes the problem anew and keeps nothing, so that calls may run side by side, in any thread. None allocates memory. A
+ * thread with 192 KB of stack is enough: in tests none took more than 108.
  *
  * The caller owes what C cannot check:
  * - each pointer has as many elements as the length after it says (one, where there is none), and is not null even where that is 0;

@@ -2,6 +2,10 @@
 import collections
 import pathlib
 import re
+import signal
+
+# A reader that has seen enough, as `head`, ends a script quietly.
+signal.signal(signal.SIGPIPE, signal.SIG_DFL)
 
 ROOT = pathlib.Path(__file__).resolve().parent.parent
 WORD = re.compile(r"[^\s(){}\[\];,.`\"]+")

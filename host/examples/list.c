@@ -2,8 +2,8 @@
  * Lists the solutions of the problem on standard input, as document 01's program `readings` does, but goes on after a pause:
  *
  *     rt staticlib tivagyesz
- *     cc -Iinclude -o list host/examples/list.c target/staticlib/libtivagyesz.a
- *     ./list < crates/readings/stdin
+ *     cc -Iinclude -o target/list host/examples/list.c target/staticlib/libtivagyesz.a
+ *     target/list < crates/readings/stdin
  */
 #include "matcher.h"
 

@@ -39,7 +39,7 @@ pub const OK: u32 = 0;
 /// [`search`]: the first solution row at or after the place.
 pub const FOUND: u32 = 256;
 
-/// [`search`]: so many rows as allowed were passed, and more follow.
+/// [`search`]: at least as many rows as allowed were passed, and more follow.
 pub const PAUSED: u32 = 257;
 
 /// [`search`]: no solution row is left.

@@ -34,7 +34,7 @@ fn run(problem: &Path, saved: &Path, count: &str) -> Output {
     Command::new(program())
         .args([problem.as_os_str(), saved.as_os_str(), count.as_ref()])
         .output()
-        .expect("it starts")
+        .expect("it starts; `cargo test --test example` alone does not build it, `cargo build --examples` does")
 }
 
 fn printed(output: &Output) -> String {

@@ -1,5 +1,5 @@
 -- THE THREE DEMANDS, on one page, of the functions that a host calls. What is quoted are the demands' own words. That all of it holds is one
--- theorem each: `first-demand`, `second-demand`, `third-demand` (proofs/Kept).
+-- theorem each: `first-demand`, `second-demand` and `second-demand-in-c`, `third-demand` (proofs/Kept).
 --   Interface   how a host holds a row, and what its calls of the writer and the checker come to, in Rattle or in C
 --   Owed        what is owed for a list of calls
 use mathlib.Core.Path.{_≡_}
