@@ -19,7 +19,7 @@ use Rattle.meaning.specs.Choice.{Mark, Marks, Owner, views, usesFace, Choice}
 use Rattle.meaning.specs.Choices.{isChoice, allMarks}
 use Rattle.meaning.specs.Choices as meant
 use Rattle.meaning.specs.PlaceValue.{maskOf}
-use Rattle.meaning.proofs.Lists.{T-true, true-T, mem-keep, keep-mem}
+use Rattle.meaning.proofs.Lists.{T-true, true-T, mem-keep, keep-mem, map-same}
 use Rattle.meaning.proofs.Alike.{sameOwned-eq, sameOwned-refl}
 use Rattle.meaning.proofs.Ordered.{Placed, allMarks-are}
 use Rattle.meaning.proofs.ChoiceLaws.{at-other, length-views, choices-are}
@@ -32,7 +32,6 @@ use Rattle.masks.proofs.Marks.{value-marks}
 use Rattle.masks.proofs.Order.{below-mem, choices-mem}
 use Rattle.masks.proofs.Nodes.{in-lt, value-empty}
 use Rattle.masks.proofs.Face.{table-of, choices-listed}
-use Rattle.classes.proofs.Lists.{map-same}
 use Rattle.classes.specs.Tabled.{isFree, areEqual, free, equal, FaceClasses}
 
 -- ---- marks as truth values

@@ -1,19 +1,10 @@
--- Laws of lists: maps and products.
+-- Laws of lists: products.
 use mathlib.Core.Path.{_≡_, refl, ap, ap₂, sym, _∙_}
-use mathlib.Core.List.{List, [], _∷_, _++_, map, map-append, map-map, List·Memᴰ·head, List·Memᴰ·tail}
+use mathlib.Core.List.{List, [], _∷_, _++_, map, map-append, map-map}
 use Prim.Native.Nat.{ℕ, zero, suc}
 use lib.ListN.{replicate}
-use Rattle.meaning.specs.Basics.{each, _∈_}
+use Rattle.meaning.specs.Basics.{each}
 use Rattle.meaning.specs.Rows.{product}
-
--- ---- maps
-
-pub map-same : {A B : Type 0} (f g : A → B) (xs : List A) → ((x : A) → x ∈ xs → f x ≡ g x) → map f xs ≡ map g xs
-map-same f g [] h = refl
-map-same {B = B} f g (x ∷ xs) h =
-    ap₂ {C = List B} (λ y ys. y ∷ ys) (h x (List·Memᴰ·head refl)) (map-same f g xs (λ z m. h z (List·Memᴰ·tail m)))
-
--- ---- products
 
 each-map : {A B C : Type 0} (f : A → B) (g : B → List C) (xs : List A) → each g (map f xs) ≡ each (λ x. g (f x)) xs
 each-map f g [] = refl

@@ -20,7 +20,7 @@ use Rattle.meaning.specs.Rows.{product, rowsOver, rows}
 use Rattle.meaning.specs.Search.{at, placeOf, start}
 use Rattle.meaning.specs.PlaceValue.{maskOf, PlaceValue, masksOf, placeValue}
 use Rattle.meaning.specs.Readable.{Accepted}
-use Rattle.meaning.proofs.Lists.{mem-map, map-mem, at-mem}
+use Rattle.meaning.proofs.Lists.{mem-map, map-mem, map-same, at-mem}
 use Rattle.meaning.proofs.Proper.{one-place, functions-applied}
 use Rattle.meaning.proofs.Ordered.{OneOfEach, product-are}
 use Rattle.meaning.proofs.PlaceLaws.{few-functions}
@@ -32,7 +32,7 @@ use Rattle.masks.proofs.Order.{below-next}
 use Rattle.masks.proofs.Step.{valid-empty, valid-class, test-valid, valid-test}
 use Rattle.rows.specs.Rows.{MaskRow, classesAt, choicesAt, maskRows, Tables, Leads, Steps}
 use Rattle.classes.specs.Tabled.{Tabled}
-use Rattle.classes.proofs.Lists.{map-same, product-map, product-padded}
+use Rattle.classes.proofs.Lists.{product-map, product-padded}
 use Rattle.classes.proofs.FaceChoices.{face-choices, face-table}
 
 -- ---- what an accepted problem is like

@@ -35,6 +35,14 @@ pub mod FullListLaws
 -- Fields in number order, and texts that differ only in bound names
 pub mod FieldOrder
 pub mod AlphaTexts
+-- The full solution set of source document 000 (T-12)
+pub mod Unseen
+pub mod CompleteLaws
+pub mod IdleLaws
+pub mod Gaps
+pub mod SpareSymbol
+pub mod MinimalLaws
+pub mod TextbookLaws
 -- Two subexpressions compared (T-02)
 pub mod CompareLaws
 -- Filling with names

@@ -1,5 +1,5 @@
 -- Laws of the lists, answers and tests of `Basics`.
-use mathlib.Core.Path.{_≡_, refl, ap, sym, _∙_, subst}
+use mathlib.Core.Path.{_≡_, refl, ap, ap₂, sym, _∙_, subst}
 use mathlib.Core.Logic.{_⊎_, inl, inr, ⊎-elim}
 use Prim.Native.Nat.{ℕ, zero, suc, _+_, _<_, _≤_}
 use mathlib.Core.Bool.{Bool, true, false, _||_, _&&_, true≢false, false≢true}
@@ -83,6 +83,12 @@ map-mem {A} {B} f y (x ∷ xs) m = go (map-mem f y xs) (List·Memᴰ·cases-cons
     go ih (inl e) = (x, List·Memᴰ·head refl, e)
     go ih (inr q) = let r = ih q in (r .0, List·Memᴰ·tail (r .1), r .2)
 
+-- Maps that agree on a list
+pub map-same : {A B : Type 0} (f g : A → B) (xs : List A) → ((x : A) → x ∈ xs → f x ≡ g x) → map f xs ≡ map g xs
+map-same f g [] h = refl
+map-same {B = B} f g (x ∷ xs) h =
+    ap₂ {C = List B} (λ y ys. y ∷ ys) (h x (List·Memᴰ·head refl)) (map-same f g xs (λ z m. h z (List·Memᴰ·tail m)))
+
 pub mem-keep : {A : Type 0} (p : A → Bool) (x : A) (xs : List A) → x ∈ xs → p x ≡ true → x ∈ keep p xs
 mem-keep p x [] m e = m
 mem-keep {A} p x (y ∷ ys) m e = go (p y) refl (λ q. mem-keep p x ys q e) (List·Memᴰ·cases-cons m)
@@ -104,6 +110,14 @@ keep-mem {A} p x (y ∷ ys) m = go (p y) refl (keep-mem p x ys) m
         → (x ∈ (y ∷ ys)) × (p x ≡ true)
     go true q ih h = ⊎-elim (λ (e : x ≡ y). (List·Memᴰ·head e, ap p e ∙ q)) (λ k. under (ih k)) (List·Memᴰ·cases-cons h)
     go false q ih h = under (ih h)
+
+pub keep-length : {A : Type 0} (p : A → Bool) (xs : List A) → length (keep p xs) ≤ length xs
+keep-length p [] = omega arith
+keep-length {A} p (x ∷ xs) = go (p x) (keep-length p xs)
+  where
+    go : (b : Bool) → length (keep p xs) ≤ length xs → length (choose b (x ∷ keep p xs) (keep p xs)) ≤ suc (length xs)
+    go true h = omega arith
+    go false h = omega arith
 
 pub mem-each : {A B : Type 0} (f : A → List B) (x : A) (y : B) (xs : List A) → x ∈ xs → y ∈ f x → y ∈ each f xs
 mem-each f x y [] m h = absurd (List·Memᴰ·not-nil m)

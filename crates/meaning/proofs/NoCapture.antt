@@ -4,19 +4,20 @@
 use mathlib.Core.Path.{_≡_, refl, ap₂, sym, _∙_, subst, fun-ext}
 use mathlib.Core.Logic.{_↔_, _⊎_, inl, inr}
 use Prim.Native.Nat.{ℕ, zero, suc}
-use mathlib.Core.Bool.{true, false, true≢false}
-use mathlib.Core.List.{List, []}
-use Rattle.meaning.specs.Basics.{_∈_, isIn}
+use mathlib.Core.Bool.{false}
+use mathlib.Core.List.{[]}
+use Rattle.meaning.specs.Basics.{_∈_}
 use Rattle.meaning.specs.Term.{Forest, one, Named, NamedTerm, Terms, Term, IsExpression}
 use Rattle.meaning.specs.Scope.{nameless}
 use Rattle.meaning.specs.Shift.{ClosedTerm}
 use Rattle.meaning.specs.Rename.{Alpha}
-use Rattle.meaning.specs.Problem.{Problem, namedPatterns, namedExpressions, patterns, expressions, plain, applied}
+use Rattle.meaning.specs.Problem.{Problem, namedPatterns, namedExpressions, patterns, expressions, applied}
 use Rattle.meaning.specs.Filling.{Entry, absent, leftOpen, value, body, Filling, filled}
 use Rattle.meaning.specs.Solution.{Solution}
 use Rattle.meaning.specs.Textual.{isFree, NamedFilling, textual, UncaughtIn, Uncaught, meantBy, ClosedEntry, Spelling, Respelling}
 use Rattle.meaning.specs.Case.{var, all, box, equals, notCaught}
-use Rattle.meaning.proofs.Lists.{never, by-test, isIn-mem, mem-isIn}
+use Rattle.meaning.proofs.Lists.{never}
+use Rattle.meaning.proofs.Proper.{by-role}
 use Rattle.meaning.proofs.Renaming.{alpha-nameless, nameless-alpha}
 use Rattle.meaning.proofs.ViewLaws.{nameless-closed}
 use Rattle.meaning.proofs.TextualLaws.{textual-filled}
@@ -41,26 +42,17 @@ pub problem-spelled : (p : Problem) (σ : Filling) → ((m : ℕ) → ClosedEntr
 problem-spelled p σ closed = spellings-exist (patterns p) σ (nameless-closed [] (namedPatterns p)) closed
 
 solution-closed : (p : Problem) (σ : Filling) → Solution p σ → (m : ℕ) → ClosedEntry (σ m)
-solution-closed p σ s m = by-test (isIn m (applied (patterns p))) function (λ f. by-test (isIn m (plain (patterns p))) variable (other f))
+solution-closed p σ s m = by-role p m as-function (λ i. as-other (s .values m i)) (λ nf nv. is absent (s .others m nf nv) tt)
   where
     is : (x : Entry Term) → σ m ≡ x → ClosedEntry x → ClosedEntry (σ m)
     is x e c = subst ClosedEntry (sym e) c
 
-    function : isIn m (applied (patterns p)) ≡ true → ClosedEntry (σ m)
-    function i = let (b, e, _, c) = s .bodies m (isIn-mem m (applied (patterns p)) i) in is (body b) e c
+    as-function : m ∈ applied (patterns p) → ClosedEntry (σ m)
+    as-function i = let (b, e, _, c) = s .bodies m i in is (body b) e c
 
-    variable : isIn m (plain (patterns p)) ≡ true → ClosedEntry (σ m)
-    variable i = go (s .values m (isIn-mem m (plain (patterns p)) i))
-      where
-        go : (σ m ≡ leftOpen) ⊎ ((t : Term) × (σ m ≡ value t) × IsExpression (one t) × ClosedTerm t) → ClosedEntry (σ m)
-        go (inl e) = is leftOpen e tt
-        go (inr (t, e, _, c)) = is (value t) e c
-
-    outside : (ms : List ℕ) → isIn m ms ≡ false → m ∈ ms → ⊥
-    outside ms f i = true≢false (sym (mem-isIn m ms i) ∙ f)
-
-    other : isIn m (applied (patterns p)) ≡ false → isIn m (plain (patterns p)) ≡ false → ClosedEntry (σ m)
-    other f v = is absent (s .others m (outside (applied (patterns p)) f) (outside (plain (patterns p)) v)) tt
+    as-other : (σ m ≡ leftOpen) ⊎ ((t : Term) × (σ m ≡ value t) × IsExpression (one t) × ClosedTerm t) → ClosedEntry (σ m)
+    as-other (inl e) = is leftOpen e tt
+    as-other (inr (t, e, _, c)) = is (value t) e c
 
 pub solution-spelled : (p : Problem) (σ : Filling) → Solution p σ → Spelling (patterns p) σ
 solution-spelled p σ s = problem-spelled p σ (solution-closed p σ s)

@@ -18,7 +18,7 @@ use Rattle.meaning.specs.Problem.{Constraint, Problem, forestOf, pattern
 use Rattle.meaning.specs.Problem.{placesOf, isFunction, isPlain, functions, metavariables, namedPatterns, namedExpressions}
 use Rattle.meaning.specs.Read.{Context, inPattern, inArgument, inExpression, inBody, contextBelow}
 use Rattle.meaning.specs.Readable.{NodeFits, Readable, ReadableConstraint, Accepted, WithinLimits}
-use Rattle.meaning.proofs.Lists.{or-left, or-right, eqb-eq, eqb-self, mem-map, map-mem, mem-keep}
+use Rattle.meaning.proofs.Lists.{by-test, or-left, or-right, eqb-eq, eqb-self, mem-map, map-mem, mem-keep}
 use Rattle.meaning.proofs.Lists.{keep-mem, isIn-mem, mem-isIn, mem-upTo}
 
 -- In an argument there are only metavariables besides the expression's own nodes
@@ -256,3 +256,11 @@ unfolding metavariables
 plain-occurs p c m b =
     mem-keep (λ k. isFunction p k || isPlain p k) m (upTo metavariableCount) (mem-upTo metavariableCount m (c .smallPlain m b))
     (or-right (isFunction p m) (isPlain p m) (mem-isIn m (plain (patterns p)) b))
+
+-- Each number is a function's, another metavariable's, or none's
+pub by-role : {A : Type 0} (p : Problem) (m : ℕ) → (m ∈ applied (patterns p) → A) → (m ∈ plain (patterns p) → A)
+    → ((m ∈ applied (patterns p) → ⊥) → (m ∈ plain (patterns p) → ⊥) → A) → A
+by-role p m asFunction asOther asNone =
+    by-test (isFunction p m) (λ e. asFunction (isIn-mem m (applied (patterns p)) e))
+    (λ e. by-test (isPlain p m) (λ d. asOther (isIn-mem m (plain (patterns p)) d))
+    (λ d. asNone (λ i. false≢true (sym e ∙ mem-isIn m (applied (patterns p)) i)) (λ i. false≢true (sym d ∙ mem-isIn m (plain (patterns p)) i))))

@@ -1,13 +1,13 @@
 -- The second demand, as far as it concerns definitions: every written text is read back and passes, and every solution has a row whose
 -- text names it. That a text passes exactly when the filling that it names is a solution is the definition `Passes`.
 use mathlib.Core.Path.{_≡_, ap, sym, _∙_, subst, fun-ext}
-use Prim.Native.Nat.{ℕ, suc, _≤_}
-use mathlib.Core.Bool.{Bool, true, false}
-use mathlib.Core.List.{List, [], _∷_}
+use Prim.Native.Nat.{ℕ, _≤_}
+use mathlib.Core.Bool.{true}
+use mathlib.Core.List.{List}
 use native.Mathlib.Omega.{arith}
 use lib.ListN.{length}
 use Rattle.meaning.specs.Limits.{largestProblem, largestText, largestWritten, metavariableCount}
-use Rattle.meaning.specs.Basics.{Bytes, choose, keep, upTo, _∈_}
+use Rattle.meaning.specs.Basics.{Bytes, upTo, _∈_}
 use Rattle.meaning.specs.Problem.{Problem, metavariables}
 use Rattle.meaning.specs.Filling.{Filling}
 use Rattle.meaning.specs.Solution.{Solution}
@@ -20,6 +20,7 @@ use Rattle.meaning.specs.Field.{encodeProblem}
 use Rattle.meaning.specs.Read.{Answer, after, got}
 use Rattle.meaning.specs.Readable.{Accepted}
 use Rattle.meaning.specs.Given.{namedBy}
+use Rattle.meaning.proofs.Lists.{keep-length}
 use Rattle.meaning.proofs.ChoiceLaws.{rows-are}
 use Rattle.meaning.proofs.Proper.{accepted-proper}
 use Rattle.meaning.proofs.Solutions.{row-solution-unique, solution-complete, solves-is-right, candidate-solution, OnlyRow}
@@ -27,14 +28,6 @@ use Rattle.meaning.proofs.TextReading.{read-text}
 use Rattle.meaning.proofs.TextLaws.{text-says, text-ascends, text-readable}
 use Rattle.meaning.proofs.Sums.{length-upTo}
 use Rattle.meaning.proofs.TextLength.{text-length}
-
-keep-length : {A : Type 0} (p : A → Bool) (xs : List A) → length (keep p xs) ≤ length xs
-keep-length p [] = omega arith
-keep-length {A} p (x ∷ xs) = go (p x) (keep-length p xs)
-  where
-    go : (b : Bool) → length (keep p xs) ≤ length xs → length (choose b (x ∷ keep p xs) (keep p xs)) ≤ suc (length xs)
-    go true h = omega arith
-    go false h = omega arith
 
 few-metavariables : (p : Problem) → length (metavariables p) ≤ metavariableCount
 unfolding metavariables

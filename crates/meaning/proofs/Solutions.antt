@@ -3,7 +3,7 @@
 use mathlib.Core.Path.{_≡_, refl, ap, sym, _∙_, subst, fun-ext}
 use mathlib.Core.Logic.{_⊎_, inl, inr, _↔_}
 use Prim.Native.Nat.{ℕ, _<_}
-use mathlib.Core.Bool.{true, false, _&&_, not, true≢false, false≢true}
+use mathlib.Core.Bool.{true, false, _&&_, not, true≢false}
 use mathlib.Core.List.{[], _∷_, map, List·Memᴰ·head, List·Memᴰ·tail}
 use mathlib.Core.Option.{none, some}
 use lib.Dec.{T}
@@ -13,7 +13,7 @@ use Rattle.meaning.specs.Basics.{keep, every, _∈_}
 use Rattle.meaning.specs.Term.{nil, cons, one, size, own, slot, Terms, Term, IsExpression}
 use Rattle.meaning.specs.Shift.{ClosedTerm}
 use Rattle.meaning.specs.Same.{sameTerms}
-use Rattle.meaning.specs.Problem.{Where, standings, Problem, patterns, expressions, plain, applied, placesOf, isFunction, isPlain}
+use Rattle.meaning.specs.Problem.{Where, standings, Problem, patterns, expressions, plain, applied, placesOf}
 use Rattle.meaning.specs.Problem.{bothWays, functions, metavariables}
 use Rattle.meaning.specs.Filling.{leftOpen, value, body, Filling, fillHandler, filled, IsBody}
 use Rattle.meaning.specs.Solution.{Idle, Solution}
@@ -24,13 +24,13 @@ use Rattle.meaning.specs.Rows.{rows}
 use Rattle.meaning.specs.Value.{Source, sources, lookup}
 use Rattle.meaning.specs.Candidate.{given, candidate, isClosedEntry, solves, solutionRows, fullList}
 use Rattle.meaning.specs.Readable.{Accepted}
-use Rattle.meaning.proofs.Lists.{never, T-true, true-T, and-T, T-and, by-test, mem-map, map-mem, mem-keep, keep-mem, isIn-mem}
-use Rattle.meaning.proofs.Lists.{mem-isIn, all-mem, mem-all, every-all, all-every}
+use Rattle.meaning.proofs.Lists.{never, T-true, true-T, and-T, T-and, by-test, mem-map, map-mem, mem-keep, keep-mem}
+use Rattle.meaning.proofs.Lists.{all-mem, mem-all, every-all, all-every}
 use Rattle.meaning.proofs.OneWay.{one-way-means, walk-faces}
 use Rattle.meaning.proofs.ShiftLaws.{test-closed, closed-test}
 use Rattle.meaning.proofs.Alike.{sameTerms-eq, sameTerms-refl}
 use Rattle.meaning.proofs.ChoiceLaws.{rows-are}
-use Rattle.meaning.proofs.Proper.{Proper, accepted-proper, applied-functions, functions-applied, applied-occurs, plain-occurs}
+use Rattle.meaning.proofs.Proper.{Proper, accepted-proper, by-role, applied-functions, functions-applied, applied-occurs, plain-occurs}
 use Rattle.meaning.proofs.Sources.{Walked, walked}
 use Rattle.meaning.proofs.Candidate.{Fitting, candidate-function, candidate-plain, candidate-other, fitting-source, fitting-idle}
 use Rattle.meaning.proofs.Candidate.{lookup-cases, solution-candidate}
@@ -193,23 +193,14 @@ solution-complete p σ a s =
 
 -- What a solution gives is closed
 pub solution-closed : (p : Problem) (σ : Filling) → Solution p σ → (m : ℕ) → isClosedEntry (σ m) ≡ true
-solution-closed p σ s m = by-test (isFunction p m) function-case other-case
+solution-closed p σ s m = by-role p m as-function (λ q. as-other (s .values m q)) (λ nf nv. ap isClosedEntry (s .others m nf nv))
   where
-    function-case : isFunction p m ≡ true → isClosedEntry (σ m) ≡ true
-    function-case q =
-        let b = s .bodies m (isIn-mem m (applied (patterns p)) q) in
-        ap isClosedEntry (b .1) ∙ T-true (closed-test 0 (one (b .0)) (b .3))
+    as-function : m ∈ applied (patterns p) → isClosedEntry (σ m) ≡ true
+    as-function q = let b = s .bodies m q in ap isClosedEntry (b .1) ∙ T-true (closed-test 0 (one (b .0)) (b .3))
 
-    value-case : (σ m ≡ leftOpen) ⊎ ((t : Term) × (σ m ≡ value t) × IsExpression (one t) × ClosedTerm t) → isClosedEntry (σ m) ≡ true
-    value-case (inl q) = ap isClosedEntry q
-    value-case (inr t) = ap isClosedEntry (t .1) ∙ T-true (closed-test 0 (one (t .0)) (t .3))
-
-    other-case : isFunction p m ≡ false → isClosedEntry (σ m) ≡ true
-    other-case q =
-        let na : m ∈ applied (patterns p) → ⊥ = λ k. false≢true (sym q ∙ mem-isIn m (applied (patterns p)) k) in
-        by-test (isPlain p m)
-        (λ y. value-case (s .values m (isIn-mem m (plain (patterns p)) y)))
-        (λ y. ap isClosedEntry (s .others m na (λ k. false≢true (sym y ∙ mem-isIn m (plain (patterns p)) k))))
+    as-other : (σ m ≡ leftOpen) ⊎ ((t : Term) × (σ m ≡ value t) × IsExpression (one t) × ClosedTerm t) → isClosedEntry (σ m) ≡ true
+    as-other (inl q) = ap isClosedEntry q
+    as-other (inr t) = ap isClosedEntry (t .1) ∙ T-true (closed-test 0 (one (t .0)) (t .3))
 
 -- The test of a row is right: it passes exactly the solution rows
 pub solves-is-right : (p : Problem) (r : Row) → Accepted p → r ∈ rows p → (solves p r ≡ true) ↔ SolutionRow p r

@@ -1,4 +1,4 @@
--- The starred examples of document 01, and those of source document 001, as problems with what each must give.
+-- The starred examples of document 01, and those of the source documents 001 and 000, as problems with what each must give.
 --   Case    a problem, by its constraints, with the number of its rows and the texts of its solutions
 -- Notation for terms as they are written in document 01: capitals are metavariables, P and Q functions.
 use Prim.Native.Nat.{ℕ}
@@ -278,6 +278,66 @@ bothWidths = record {
 -- T-09: "(P(P), a)", which no rule in the catalogue fits
 abbrev pub letterBothWays : Case
 letterBothWays = record { problem = con (P (meta 0)) (sym 6) ∷ []; rowCount = 0; texts = [] }
+
+-- Source document 000, section 8, with w for its ρ. A rule's bound variables are bound variables here, not metavariables
+-- Example 1, "conjunction introduction": A is X and B is Y
+abbrev rootEquation : NamedTerm
+rootEquation = equals (plus (squared (var 3)) (sym 1)) (sym 0)
+
+abbrev isFive : NamedTerm
+isFive = equals (var 4) (sym 5)
+
+abbrev pub conjunctionIntroduced : Case
+conjunctionIntroduced = record {
+  problem = con (wrapped (X ∷ Y ∷ and X Y ∷ [])) (wrapped (rootEquation ∷ isFive ∷ and rootEquation isFive ∷ [])) ∷ [];
+  rowCount = 1;
+  texts = (isX rootEquation ∷ isY isFive ∷ []) ∷ [];
+}
+
+-- Example 2, "universal elimination": t is X; "the only way" is P as v⁴ ≥ 0 and t as -0.1
+abbrev fourthPower : NamedTerm → NamedTerm
+fourthPower t = infixed 25 (infixed 21 t (sym 4)) (sym 0)
+
+abbrev minusTenth : NamedTerm
+minusTenth = app (sym 16 ∷ sym 27 ∷ [])
+
+abbrev pub universalEliminated : Case
+universalEliminated = record {
+  problem = con
+      (wrapped (all 3 (P (var 3)) ∷ P X ∷ []))
+      (wrapped (all 3 (fourthPower (var 3)) ∷ fourthPower minusTenth ∷ []))
+      ∷ [];
+  rowCount = 8;
+  texts = (bodyP (fourthPower box) ∷ isX minusTenth ∷ []) ∷ [];
+}
+
+-- Example 3, "existential elimination": Q is X. What 000 finds "does not respect free variables", and its section 7 would "filter it out"
+abbrev divides : NamedTerm → NamedTerm → NamedTerm
+divides t u = infixed 26 t u
+
+abbrev dividesTerm : NamedTerm → NamedTerm
+dividesTerm t = divides t (infixed 16 (infixed 15 (sym 3) (var 7)) (sym 2))
+
+abbrev pub existentialEliminated : Case
+existentialEliminated = record {
+  problem = con
+      (wrapped (exists 3 (P (var 3)) ∷ all 4 (implies (P (var 4)) X) ∷ X ∷ []))
+      (wrapped (exists 5 (dividesTerm (var 5)) ∷ all 6 (implies (dividesTerm (var 6)) (divides (var 6) (var 8))) ∷ divides (var 6) (var 8) ∷ []))
+      ∷ [];
+  rowCount = 11;
+  texts = [];
+}
+
+-- Example 4, "equality elimination": a is X and b is Y; "judged an invalid use of the rule"
+abbrev pub equalityEliminated : Case
+equalityEliminated = record {
+  problem = con
+      (wrapped (equals X Y ∷ P X ∷ P Y ∷ []))
+      (wrapped (equals (var 7) (sym 7) ∷ equals (squared (sym 7)) (squared (var 7)) ∷ equals (squared (var 7)) (squared (sym 7)) ∷ []))
+      ∷ [];
+  rowCount = 13;
+  texts = [];
+}
 
 abbrev pub further : List Case
 further =

@@ -33,6 +33,8 @@ pub mod Given
 pub mod Program
 -- Two subexpressions compared, for T-02 alone
 pub mod Compare
+-- The full solution set of source document 000, for T-12 alone
+pub mod Textbook
 -- Computed forms
 pub mod Field
 pub mod Encoded

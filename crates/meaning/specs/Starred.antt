@@ -1,11 +1,13 @@
--- The starred examples of document 01 as bytes, and one each of T-05 and T-09, written out by hand from the format of fields.
+-- The starred examples of document 01 as bytes, one each of T-05 and T-09, and those of source document 000, written out by hand from the
+-- format of fields.
 --   hex       bytes as document 01 prints them: so many bytes, and the number whose hexadecimal digits they are
 --   Starred   a case with the bytes of its problem and of its solutions' texts
 use Prim.Native.Nat.{ℕ, zero, suc, _/_, _%_, _^_}
 use mathlib.Core.List.{List, [], _∷_, _++_}
 use Rattle.meaning.specs.Basics.{Bytes}
-use Rattle.meaning.specs.Case.{Case, bothWidths, boundValue, letterBothWays, noConstraint, notCaught, onePlusOne, oneSymbol}
-use Rattle.meaning.specs.Case.{twoApplications, twoValues, underBinder, unusedVariable}
+use Rattle.meaning.specs.Case.{Case, bothWidths, boundValue, conjunctionIntroduced, equalityEliminated, existentialEliminated}
+use Rattle.meaning.specs.Case.{letterBothWays, noConstraint, notCaught, onePlusOne, oneSymbol, twoApplications, twoValues, underBinder}
+use Rattle.meaning.specs.Case.{universalEliminated, unusedVariable}
 
 abbrev pub hex : ℕ → ℕ → Bytes
 hex zero digits = []
@@ -87,3 +89,52 @@ widths = record {
 -- T-09: "The example (P(P), a) prints `end 0`"
 abbrev pub bothWaysExample : Starred
 bothWaysExample = record { case = letterBothWays; input = hex 16 0x07000D06000500050001000100020006; written = [] }
+
+-- Source document 000, section 8
+abbrev pub textbookExamples : List Starred
+textbookExamples =
+    record {
+      case = conjunctionIntroduced;
+      input =
+          hex 43 0x0700AC03001D0100020014050001010500010203000D010002000D05000101050001020300890100020014
+          ++ hex 44 0x030029010002000A03001C010002000B03000F01000200150200020003010002000201000200010100020000
+          ++ hex 18 0x03000F010002000A02000200040100020005
+          ++ hex 44 0x030043010002000D030029010002000A03001C010002000B03000F0100020015020002000301000200020100
+          ++ hex 26 0x020001010002000003000F010002000A02000200040100020005;
+      written =
+          (hex 48 0x08002D01030029010002000A03001C010002000B03000F01000200150200020003010002000201000200010100020000
+          ++ hex 22 0x0800130203000F010002000A02000200040100020005)
+          ∷ [];
+    }
+    ∷ record {
+      case = universalEliminated;
+      input =
+          hex 43 0x07007503001D010002001404000D0001000306000600020002000306000500050001010300520100020014
+          ++ hex 38 0x0400230001000303001C010002001903000F0100020015020002000301000200040100020000
+          ++ hex 39 0x0300240100020019030017010002001503000A0100020010010002001B01000200040100020000;
+      written =
+          (hex 33 0x09001E0003001A010002001903000D01000200150A000001000200040100020000
+          ++ hex 17 0x08000E0103000A0100020010010002001B)
+          ∷ [];
+    }
+    ∷ record {
+      case = existentialEliminated;
+      input =
+          hex 44 0x0700D2030035010002001404000D000200030600060002000200030400190001000403001201000200170600
+          ++ hex 23 0x0600020002000405000101050001010300970100020014
+          ++ hex 51 0x04003000020005030029010002001A020002000503001C010002001003000F010002000F010002000302000200070100020002
+          ++ hex 44 0x04004A000100060300430100020017030029010002001A020002000603001C010002001003000F010002000F
+          ++ hex 33 0x01000200030200020007010002000203000F010002001A02000200060200020008
+          ++ hex 18 0x03000F010002001A02000200060200020008;
+      written = [];
+    }
+    ∷ record {
+      case = equalityEliminated;
+      input =
+          hex 43 0x07009A030025010002001403000D010002000A050001010500010206000500050001010600050005000102
+          ++ hex 26 0x03006F010002001403000F010002000A02000200070100020007
+          ++ hex 44 0x030029010002000A03000F01000200150100020007010002000203000F010002001502000200070100020002
+          ++ hex 44 0x030029010002000A03000F01000200150200020007010002000203000F010002001501000200070100020002;
+      written = [];
+    }
+    ∷ []

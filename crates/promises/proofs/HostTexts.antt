@@ -22,6 +22,7 @@ use Rattle.meaning.specs.Given as given
 use Rattle.meaning.proofs.Lists.{mem-map}
 use Rattle.meaning.proofs.ProblemReading.{accept-accepted}
 use Rattle.meaning.proofs.FullListLaws.{full-list-every, full-list-once}
+use Rattle.meaning.proofs.TextbookLaws.{textbook}
 use Rattle.meaning.proofs.WriteLaws.{when-large, write-on}
 use Rattle.meaning.proofs.EntryLaws.{RowOfText, WrittenText, check-is-right, passing-written, written-passes}
 use Rattle.meaning.proofs.AlphaTexts.{same-filling}
@@ -114,6 +115,7 @@ module _ (host : Interface) (lawful : Lawful host) where
           eachOnce = full-list-once p accepted (d .full) (d .isFull);
           nothingElse = λ x m. d .isFull .members (x .0) (x .1) .0 m;
           inRowOrder = d .isFull .ordered;
+          textbook = textbook p accepted (d .full) (d .isFull);
           first = d .prefix ∙ ap (λ (n : ℕ). map givenRow (take n (d .full))) long;
           texts = λ ts t.
               texts .names ts (texts-on rows ts t) ∙ ap (λ (n : ℕ). map (λ (x : Listed). got (x .1)) (take n (d .full))) long;

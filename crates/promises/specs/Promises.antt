@@ -1,5 +1,6 @@
 -- THE THREE DEMANDS, on one page, of the functions that a host calls. What is quoted are the demands' own words. That all of it holds is one
--- theorem each: `first-demand`, `second-demand` and `second-demand-in-c`, `third-demand` (proofs/Kept).
+-- theorem each: `first-demand`, `second-demand` and `second-demand-in-c`, `third-demand` (proofs/Kept). T-12 is what the third says of the full
+-- list in the words of source document 000.
 --   Interface   how a host holds a row, and what its calls of the writer and the checker come to, in Rattle or in C
 --   Owed        what is owed for a list of calls
 use mathlib.Core.Path.{_≡_}
@@ -17,6 +18,7 @@ use Rattle.meaning.specs.Filling.{Filling}
 use Rattle.meaning.specs.Solution.{Solution}
 use Rattle.meaning.specs.Row.{AreRows, HasBodies, IsRow, Row}
 use Rattle.meaning.specs.FullList.{EarlierListed, Listed}
+use Rattle.meaning.specs.Textbook.{Textbook, leftOut}
 use Rattle.meaning.specs.Text.{Item, readText, said}
 use Rattle.meaning.specs.Textual.{AlphaText}
 use Rattle.meaning.specs.Search.{at, past}
@@ -151,7 +153,7 @@ abbrev pub TextOf : (host : Interface) → Bytes → host .Held → Bytes → Ty
 TextOf host s row text = (out out′ : Bytes) × (n : ℕ) × host .Writing s row out (got n) out′ × (text ≡ take n out′)
 
 -- By the rows of the Founds in their order, whether there is an End, and how many allowances are above 0
-pub record Owed (host : Interface) (s : Bytes) (given : List (host .Held)) (ended : Type 0) (allowances : ℕ) : Type 0 where
+pub record Owed (host : Interface) (s : Bytes) (given : List (host .Held)) (ended : Type 0) (allowances : ℕ) : Type 1 where
   pub problem : Problem
   pub accepted : accept s ≡ got problem
   -- the full list: every solution, each once up to bound names, nothing else, in row order
@@ -160,6 +162,8 @@ pub record Owed (host : Interface) (s : Bytes) (given : List (host .Held)) (ende
   pub eachOnce : Distinct (map (λ (x : Listed). x .1) full)
   pub nothingElse : (x : Listed) → x ∈ full → IsRow problem (x .0) × Solution problem (x .1) × HasBodies problem (x .0) (x .1)
   pub inRowOrder : Ordered EarlierListed full
+  -- T-12: "the listed solutions are exactly the minimal complete ones", with what is open left out
+  pub textbook : Textbook problem (map (λ (x : Listed). leftOut (x .1)) full)
   -- "the Founds are the first of the full list in order"
   pub first : map (host .value) given ≡ map givenRow (take (length given) full)
   -- and so are the texts that a host holds of them: that of the k-th Found names filling k
@@ -175,7 +179,7 @@ pub record Owed (host : Interface) (s : Bytes) (given : List (host .Held)) (ende
   pub reachesEnd : length rows < allowances → ended
 
 -- 3. "Over any list of calls, with any allowances and refused calls among them"
-pub record ThirdDemand : Type 0 where
+pub record ThirdDemand : Type 1 where
   -- the caller carries the place, from what `Place::start` gave
   pub carried : (s : Bytes) (r : Started) (cs : List CarriedCall) → All Byte s → StartCalled s r → r .answer ≡ starts.Begins
       → CarriedRun s (r .place) cs → Owed inRattle s (carriedFound cs) (CarriedEnd cs) (carriedAllowed cs)

@@ -1,0 +1,2 @@
+-- Source document 000's worked examples.
+pub mod WorkedExamples
