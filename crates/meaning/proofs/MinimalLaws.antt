@@ -51,6 +51,21 @@ left-out-filled σ u = ap (λ (h : Handler). fill h 0 u) (fun-ext (λ k. fun-ext
     at k (function f n) c = ap (plug (argument c)) (body-alike f (σ f))
     at k (hole i) c = refl
 
+-- What is left out, open where b says so
+abbrev openEntry : Bool → Entry Term → Entry Term
+openEntry true absent = leftOpen
+openEntry false absent = absent
+openEntry b leftOpen = leftOpen
+openEntry b (value t) = value t
+openEntry b (body t) = body t
+
+open-without : (b : Bool) (e : Entry Term) → withoutOpen (openEntry b e) ≡ withoutOpen e
+open-without true absent = refl
+open-without false absent = refl
+open-without b leftOpen = refl
+open-without b (value t) = refl
+open-without b (body t) = refl
+
 module _ (E : Language) (robust : Robust E) (p : Problem) (a : Accepted p) where
   abbrev c : Proper p
   c = accepted-proper p a
@@ -165,22 +180,8 @@ module _ (E : Language) (robust : Robust E) (p : Problem) (a : Accepted p) where
         go (inr (inl v)) = unless (λ d. let e = v .1 in never (cc))
         go (inr (inr (n, v))) = unless (λ d. let e = v .1 in never (cc))
 
-    abbrev openEntry : Bool → Entry Term → Entry Term
-    openEntry true absent = leftOpen
-    openEntry false absent = absent
-    openEntry b leftOpen = leftOpen
-    openEntry b (value t) = value t
-    openEntry b (body t) = body t
-
     abbrev opened : Filling
     opened m = openEntry (isPlain p m) (s m)
-
-    open-without : (b : Bool) (e : Entry Term) → withoutOpen (openEntry b e) ≡ withoutOpen e
-    open-without true absent = refl
-    open-without false absent = refl
-    open-without b leftOpen = refl
-    open-without b (value t) = refl
-    open-without b (body t) = refl
 
     nothing-open : (m : ℕ) → withoutOpen (s m) ≡ s m
     nothing-open m = go (w .potential .given m)

@@ -31,20 +31,20 @@ module _ (p : Problem) (a : Accepted p) (full : List Listed) (isFull : IsFullLis
   abbrev solutions : List Filling
   solutions = map (λ (x : Listed). leftOut (x .1)) full
 
-  listed-solution : (s : Filling) → s ∈ solutions → (σ : Filling) × Solution p σ × (s ≡ leftOut σ)
-  listed-solution s i =
+  member-solution : (s : Filling) → s ∈ solutions → (σ : Filling) × Solution p σ × (s ≡ leftOut σ)
+  member-solution s i =
       let (x, there, e) = map-mem (λ (x : Listed). leftOut (x .1)) s full i in
       (x .1, isFull .members (x .0) (x .1) .0 there .1, e)
 
-  solution-listed : (σ : Filling) → Solution p σ → leftOut σ ∈ solutions
-  solution-listed σ sol =
+  solution-member : (σ : Filling) → Solution p σ → leftOut σ ∈ solutions
+  solution-member σ sol =
       let (x, there, e) = map-mem (λ (x : Listed). x .1) σ full (full-list-every p a full isFull σ sol) in
       subst (λ (τ : Filling). leftOut τ ∈ solutions) (sym e) (mem-map (λ (x : Listed). leftOut (x .1)) there)
 
   whole-set : (E : Language) → Robust E → FullSolutionSet (Whole E p) solutions
   whole-set E robust s = (
-    λ i. let (σ, sol, e) = listed-solution s i in subst (Minimal (Whole E p)) (sym e) (solution-minimal E robust p a σ sol),
-    λ least. let (σ, sol, e) = minimal-solution E robust p a s least in subst (λ (τ : Filling). τ ∈ solutions) (sym e) (solution-listed σ sol),
+    λ i. let (σ, sol, e) = member-solution s i in subst (Minimal (Whole E p)) (sym e) (solution-minimal E robust p a σ sol),
+    λ least. let (σ, sol, e) = minimal-solution E robust p a s least in subst (λ (τ : Filling). τ ∈ solutions) (sym e) (solution-member σ sol),
   )
 
   full-set : (E : Language) → Robust E → FullSolutionSet (Complete E p) solutions
@@ -78,7 +78,7 @@ module _ (p : Problem) (a : Accepted p) (full : List Listed) (isFull : IsFullLis
 
     is-empty : (s : Filling) → s ∈ solutions → s ≡ emptyFilling
     is-empty s i =
-        let (σ, sol, e) = listed-solution s i in
+        let (σ, sol, e) = member-solution s i in
         let c = accepted-proper p a in
         e ∙ fun-ext (λ m. ap withoutOpen (sol .others m (λ j. outside m (applied-occurs p c m j)) (λ j. outside m (plain-occurs p c m j))))
 

@@ -2,7 +2,7 @@
 --   Clean x   a label of an expression, and not symbol x
 --   Loud x    what is given to a metavariable shows wherever that is filled: as a slot that stays, or as symbol x
 -- Two fillings that agree except where the first is loud fill a pattern alike, if the first fills it cleanly: `unseen`. It serves both
--- ways: from a partial filling, whose gaps stay as slots, to its extensions, and from its extension by a fresh symbol back to it.
+-- ways: from a potential solution, whose gaps stay as slots, to its extensions, and from its extension by a fresh symbol back to it.
 use mathlib.Core.Path.{_≡_, refl, ap, ap₂, _∙_}
 use mathlib.Core.Logic.{_⊎_, inl, inr}
 use Prim.Native.Nat.{ℕ, zero, suc}

@@ -1,6 +1,6 @@
--- Source document 000's full solution set, in its own words, for the problems of document 01 (T-12: "Completeness in the textbook's words").
--- Terms have no bound names here, so that equal is equal up to bound names, and nothing is ever caught (its Definition 18). docs/TRACE.md sets
--- its definitions beside ours and says where they differ.
+-- The full solution set of source document 000 (N. Carter, A Limited First-Order Matching Algorithm), in its own words, for the problems of
+-- document 01 (T-12: "Completeness in the textbook's words"). Terms have no bound names here, so that equal is equal up to bound names, and
+-- nothing is ever caught (its Definition 18). docs/TRACE.md sets its definitions beside ours and says where they differ.
 --   Language           000's E, "the set of all expressions"; with holes, the bodies b of its functions λv.b
 --   HasBytes           a term that can be written: some solution text gives it to a metavariable
 --   PotentialSolution  what is not in its domain is `absent`; what is given is closed, since an index that points outside is no variable
