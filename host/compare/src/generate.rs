@@ -55,9 +55,24 @@ const STYLES: [Style; 6] = [
     Style { constraints: 2, symbols: 60, variables: 40, binders: 4, binder_in: 4, functions: 2, plain: 4, pattern: 8, value: 8, body: 30 },
 ];
 
+/// Little of everything, so that all fillings of a problem can be tried.
+#[rustfmt::skip]
+const SMALL: Style =
+    Style { constraints: 2, symbols: 1, variables: 2, binders: 2, binder_in: 4, functions: 2, plain: 2, pattern: 4, value: 2, body: 4 };
+
 /// A random problem.
 pub fn problem(random: &mut Random) -> Made {
     let style = random.pick(&STYLES).clone();
+    styled(random, style)
+}
+
+/// A small random problem.
+pub fn small(random: &mut Random) -> Made {
+    styled(random, SMALL.clone())
+}
+
+/// A random problem with terms of this style.
+fn styled(random: &mut Random, style: Style) -> Made {
     let mut maker = Maker::new(random, style);
     let filling = maker.filling();
     let patterns: Vec<Tree> = (0..maker.up_to(|s| s.constraints)).map(|_| maker.pattern()).collect();

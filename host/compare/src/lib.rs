@@ -2,7 +2,7 @@
 //!
 //! Each comparison is a function over a [`subject::Subject`], so that it can be tried on wrong matchers too ([`wrong`]):
 //! one that passes any of them would be no test. [`pairs`] is one over what a program prints, with wrong ones of its own
-//! ([`wrong_pairs`]).
+//! ([`wrong_pairs`]). [`textbook`] has no second implementation: it tries everything that a definition speaks of.
 
 #![forbid(unsafe_code)]
 #![warn(missing_docs)]
@@ -14,13 +14,16 @@ pub mod features;
 pub mod generate;
 pub mod hex;
 pub mod lists;
+pub mod nameless;
 pub mod nodes;
 pub mod outline;
 pub mod pairs;
 pub mod places;
+pub mod potential;
 pub mod random;
 pub mod report;
 pub mod subject;
+pub mod textbook;
 pub mod texts;
 pub mod tree;
 pub mod vectors;
@@ -31,10 +34,11 @@ pub mod wrong_pairs;
 pub type Comparison = fn(&dyn subject::Subject, std::ops::Range<u64>) -> Result<report::Tally, String>;
 
 /// All of them, with their names.
-pub const COMPARISONS: [(&str, Comparison); 5] = [
+pub const COMPARISONS: [(&str, Comparison); 6] = [
     ("lists", lists::random),
     ("calls", calls::random),
     ("damage", damage::random),
     ("texts", texts::random),
     ("places", places::random),
+    ("textbook", textbook::random),
 ];

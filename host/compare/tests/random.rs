@@ -1,10 +1,10 @@
-//! Random problems, calls, bytes, texts and places: the proved matcher answers as the second implementation does, and every
-//! kind of case comes up often enough to say something.
+//! Random problems, calls, bytes, texts and places: the proved matcher answers as the second implementation does, and lists
+//! the solutions that a textbook's definitions ask for. Every kind of case comes up often enough to say something.
 
 use compare::features::{BOTH_WAYS, FEATURES};
 use compare::report::Tally;
 use compare::subject::Proved;
-use compare::{calls, damage, lists, places, texts};
+use compare::{calls, damage, lists, places, textbook, texts};
 
 /// The comparison holds, and met at least so many of each case.
 fn met(compared: Result<Tally, String>, cases: &[(&str, usize)]) {
@@ -83,4 +83,30 @@ fn places_and_rows_agree() {
         ("refused 18", 500),
     ];
     met(places::random(&Proved, 400_000..404_000), &cases);
+}
+
+#[test]
+fn textbook_solutions_agree() {
+    let cases = [
+        ("problems", 20_000),
+        ("potential solutions", 5_000_000),
+        ("solutions", 20_000),
+        ("no solution", 3_000),
+        ("one solution", 3_000),
+        ("several solutions", 3_000),
+        ("no metavariables, and it holds", 1_000),
+        ("no metavariables, and nothing", 300),
+        ("an open metavariable", 3_000),
+        ("open in some solutions only", 2_000),
+        ("complete and not minimal", 3_000),
+        ("a binder", 10_000),
+        ("a binder over a face", 3_000),
+        ("a name that shadows another", 2_000),
+        ("several constraints", 5_000),
+        ("several functions", 1_000),
+        ("a function applied again", 5_000),
+        ("a metavariable in several places", 3_000),
+        (BOTH_WAYS, 1_000),
+    ];
+    met(textbook::random(&Proved, 600_000..625_000), &cases);
 }
