@@ -294,7 +294,7 @@ conjunctionIntroduced = record {
   texts = (isX rootEquation ∷ isY isFive ∷ []) ∷ [];
 }
 
--- Example 2, "universal elimination": t is X; "the only way" is P as v⁴ ≥ 0 and t as -0.1
+-- Example 2, "universal elimination": t is X; "the only way" is P as v⁴ ≥ 0 and t as -0.1, minus applied to 0.1
 abbrev fourthPower : NamedTerm → NamedTerm
 fourthPower t = infixed 25 (infixed 21 t (sym 4)) (sym 0)
 

@@ -1,10 +1,11 @@
--- The full solution set of source document 000 (N. Carter, A Limited First-Order Matching Algorithm), in its own words, for the problems of
--- document 01 (T-12: "Completeness in the textbook's words"). Terms have no bound names here, so that equal is equal up to bound names, and
--- nothing is ever caught (its Definition 18). docs/TRACE.md sets its definitions beside ours and says where they differ.
---   Language           000's E, "the set of all expressions"; with holes, the bodies b of its functions λv.b
+-- The full solution set of source document 000 (N. Carter, A Limited First-Order Matching Algorithm) for the problems of document 01, in 000's
+-- own words (T-12: "Completeness in the textbook's words"). Terms have no bound names here, so that equal is equal up to bound names, and filling
+-- never catches a variable: there is no solution that does not respect free variables (its Definition 18). docs/TRACE.md sets its definitions
+-- beside ours and says where they differ.
+--   Language           000's E, "the set of all expressions"; of a term with holes it says whether this may be the b of a function λv.b
 --   HasBytes           a term that can be written: some solution text gives it to a metavariable
---   PotentialSolution  what is not in its domain is `absent`; what is given is closed, since an index that points outside is no variable
---   Total              one with each metavariable that occurs in its domain
+--   PotentialSolution  what is not in its domain is `absent`; what is given is closed: no index points outside it, free variables it may have
+--   Total              one whose domain has every metavariable that occurs
 --   CompleteByTotals   complete, as T-12 words it
 --   leftOut            a solution of document 01 as 000 has it: an open metavariable is not in its domain
 use mathlib.Core.Path.{_≡_}
@@ -62,7 +63,7 @@ Extends s s′ = (m : ℕ) → (s′ m ≡ absent) ⊎ (s′ m ≡ s m)
 abbrev pub ProperlyExtends : Filling → Filling → Type 0
 ProperlyExtends s s′ = Extends s s′ × ((m : ℕ) × (s′ m ≡ absent) × (s m ≡ absent → ⊥))
 
--- "s(c1) = c2", where s(c1) has "all metavariables .. appearing in both e and the domain of s" replaced
+-- s(c1) is c2, where s(c1) has "all metavariables .. appearing in both e and the domain of s" replaced
 abbrev pub Met : Filling → Constraint → Type 0
 Met s c = fillTerm (fillHandler s) 0 (namelessTerm [] (c .pattern)) ≡ namelessTerm [] (c .expression)
 
@@ -105,7 +106,7 @@ leftOut σ m = withoutOpen (σ m)
 abbrev pub emptyFilling : Filling
 emptyFilling m = absent
 
--- T-12, of the listed solutions with what is open left out, whatever the number of places
+-- T-12, of the listed solutions with what is open left out
 pub record Textbook (p : Problem) (F : List Filling) : Type 1 where
   -- "exactly the minimal complete ones there". Where a letter is used both ways there are none
   pub fullSolutionSet : (E : Language) → Robust E → FullSolutionSet (Complete E p) F

@@ -77,14 +77,14 @@ tested-accepted s p e accepted = accept-accepted s p (mem-all Byte s small) acce
 inputs-bytes : All (λ (s : Starred). areBytes (s .input) ≡ true) textbookExamples
 inputs-bytes = (refl, (refl, (refl, (refl, tt))))
 
--- THE FULL SOLUTION SETS OF THE EXAMPLES ARE WHAT 000 SAYS
+-- THE FULL SOLUTION SETS OF THE EXAMPLES ARE WHAT 000 SAYS, but for its pairs for bound variables, and of example 3 after its section 7
 pub textbook-examples : (s : Starred) → s ∈ textbookExamples → Textbook (s .case .problem) (told (s .case))
 textbook-examples s i =
     let (accepted, holds, written, read) = all-mem HoldsInBytes s textbookExamples textbook-hold i in
     let bytes = all-mem (λ (x : Starred). areBytes (x .input) ≡ true) s textbookExamples inputs-bytes i in
     case-textbook (s .case) (tested-accepted (s .input) (s .case .problem) bytes accepted) holds
 
--- WHY A LANGUAGE IS ROBUST: "(P(X), s)" with {P: □}, which leaves X out
+-- WHY A LANGUAGE IS ROBUST, for T-12's wording: "(P(X), s)" with {P: □}, which leaves X out
 abbrev five : Term
 five = (own (symbol 5), nil)
 
