@@ -70,7 +70,6 @@ pub mod ProgramLaws
 pub mod PrintedLaws
 -- Examples
 pub mod Computed
-pub mod Examples
 pub mod RefusalExamples
 pub mod EntryExamples
 pub mod CompareExamples

@@ -7,12 +7,13 @@ use Prim.Native.Nat.{ℕ, zero, suc}
 use mathlib.Core.Bool.{false}
 use mathlib.Core.List.{[]}
 use Rattle.meaning.specs.Basics.{_∈_}
-use Rattle.meaning.specs.Term.{Forest, one, Named, NamedTerm, Terms, Term, IsExpression}
+use Rattle.meaning.specs.Term.{Forest, IsExpression, Named, NamedTerm, Term, Terms, application, binder, bound, graft, hole, nil, one, own}
+use Rattle.meaning.specs.Term.{slot, symbol, variable}
 use Rattle.meaning.specs.Scope.{nameless}
 use Rattle.meaning.specs.Shift.{ClosedTerm}
 use Rattle.meaning.specs.Rename.{Alpha}
 use Rattle.meaning.specs.Problem.{Problem, namedPatterns, namedExpressions, patterns, expressions, applied}
-use Rattle.meaning.specs.Filling.{Entry, absent, leftOpen, value, body, Filling, filled}
+use Rattle.meaning.specs.Filling.{Entry, absent, leftOpen, value, body, Filling, filled, plug}
 use Rattle.meaning.specs.Solution.{Solution}
 use Rattle.meaning.specs.Textual.{isFree, NamedFilling, textual, UncaughtIn, Uncaught, meantBy, ClosedEntry, Spelling, Respelling}
 use Rattle.meaning.specs.Case.{var, all, box, equals, notCaught}
@@ -92,3 +93,13 @@ renamed-uncaught = ((tt, avoided (λ i. var 5) refl), (tt, tt, tt), ((tt, avoide
 
 pub renamed-fills : nameless [] (textual (written 6) (namedPatterns (notCaught .problem))) ≡ expressions (notCaught .problem)
 renamed-fills = refl
+
+-- A variable that is bound outside a body is not caught either: the body ∀w.w=□ with it as argument
+abbrev outer : ℕ → Term
+outer i = (own (variable (bound i)), nil)
+
+abbrev equalsSelf : Term → Term
+equalsSelf t = (own (binder 1 tt), one (own (application 3), graft (own (symbol 10), nil) (graft (outer 0) (one t))))
+
+pub argument-not-caught : plug (λ i. outer 0) (equalsSelf (slot (hole 0), nil)) ≡ equalsSelf (outer 1)
+argument-not-caught = refl

@@ -33,7 +33,7 @@ use Rattle.meaning.proofs.CompleteLaws.{Whole, totals-whole}
 use Rattle.meaning.proofs.SpareSymbol.{spare-symbol}
 use Rattle.meaning.proofs.TextbookLaws.{textbook}
 use Rattle.meaning.proofs.Computed.{accepts, reads, texts}
-use Rattle.meaning.proofs.Examples.{Holds, HoldsInBytes, starred-hold}
+use Rattle.examples.proofs.StarredExamples.{Holds, HoldsInBytes, starred-hold}
 
 pub textbook-hold : All HoldsInBytes textbookExamples
 unfolding accepts texts reads

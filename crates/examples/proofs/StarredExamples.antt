@@ -1,22 +1,18 @@
 -- The starred examples of document 01 and those of source document 001, computed from the definitions.
 use mathlib.Core.Path.{_≡_, refl}
-use Prim.Native.Nat.{ℕ}
-use mathlib.Core.List.{List, [], _∷_, map}
+use mathlib.Core.List.{map}
 use lib.ListN.{length}
 use Rattle.meaning.specs.Basics.{All}
-use Rattle.meaning.specs.Term.{nil, one, symbol, variable, application, binder, own, slot, hole, bound, Term}
-use Rattle.meaning.specs.Problem.{forestOf}
-use Rattle.meaning.specs.Filling.{plug}
 use Rattle.meaning.specs.Row.{Row}
 use Rattle.meaning.specs.Rows.{rows}
 use Rattle.meaning.specs.Candidate.{solutionRows}
 use Rattle.meaning.specs.Read.{got}
 use Rattle.meaning.specs.Accept.{accept}
 use Rattle.meaning.specs.Text.{textOf, readText}
 use Rattle.meaning.specs.Encoded.{encodeText}
 use Rattle.meaning.specs.Case.{Case, further}
 use Rattle.meaning.specs.Starred.{Starred, bothWaysExample, starred, widths}
 use Rattle.meaning.proofs.Computed.{accepts, texts, reads}
 
 -- A problem has so many rows, and the texts of its solution rows, in row order, are those of the case
 abbrev pub Holds : Case → Type 0
@@ -76,16 +72,3 @@ further-hold = (
     ),
   ),
 )
-
--- "No variable of a value, body or argument is ever caught": the body ∀w.w=□ filled with a variable that is bound outside it
-abbrev bound-by : ℕ → Term
-bound-by i = (own (variable (bound i)), nil)
-
-abbrev three : List Term → Term
-three ts = (own (application 3), forestOf ts)
-
-abbrev all-equal : Term → Term
-all-equal t = (own (binder 1 tt), one (three ((own (symbol 10), nil) ∷ bound-by 0 ∷ t ∷ [])))
-
-pub argument-not-caught : plug (λ i. bound-by 0) (all-equal (slot (hole 0), nil)) ≡ all-equal (bound-by 1)
-argument-not-caught = refl

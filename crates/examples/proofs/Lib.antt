@@ -1,0 +1,3 @@
+-- Worked examples, computed from the definitions.
+pub mod StarredExamples
+pub mod WorkedExamples

@@ -1,2 +1,0 @@
--- Source document 000's worked examples.
-pub mod WorkedExamples
