@@ -33,7 +33,8 @@ use Rattle.tokens.proofs.KeyLaws.{uses-means, same-means}
 use Rattle.tokens.proofs.Owners.{equal-levels}
 use Rattle.tokens.proofs.ProblemTokens.{Room, room-below, room-later}
 use Rattle.demands.specs.Demand.{lowered}
-use Rattle.faces.proofs.NodeTokens.{AtNode}
+use Rattle.numbers.specs.Tests.{Tests, Beneath, Tells}
+use Rattle.faces.proofs.NodeTokens.{AtNode, node-inside}
 use Rattle.bodies.specs.Suits.{holeFits}
 
 pub record Spotted (es : List ℕ) (d : ℕ) (h : Face) : Type 0 where
@@ -148,41 +149,53 @@ module _ (es : List ℕ) (d : ℕ) where
   closed-there i t n =
       subst (λ (u : Term). Closed (length (n .scope)) (one u)) (sym (n .term)) (nameless-closed (n .scope) (one (n .named)))
 
-  -- The test of equality, where the second uses no binder in between
+  -- The test of equality, where the first uses no binder in between
   same-seen : (l h : Face) → Spotted es d l → Spotted es d h → usesFace (seen h) ≡ false
-      → (sameAt es (l .node) (h .node) ≡ true) ↔ (seen h ≡ seen l)
+      → (sameAt es (h .node) (l .node) ≡ true) ↔ (seen h ≡ seen l)
   same-seen l h s r free =
       let n : AtNode es (l .node) (l .term) = s .there in
       let m : AtNode es (h .node) (h .term) = r .there in
       let x = ap (λ (t : Term). view (levelFrom (n .scope)) (one t)) (n .term) in
       let y = ap (λ (t : Term). view (levelFrom (m .scope)) (one t)) (m .term) in
       let a =
-      same-means (n .levels) (m .levels) (n .context) (m .context) es (l .node) (h .node) (n .scope) (m .scope) (n .named) (m .named)
-      (n .held) (m .held) (n .stands) (m .stands) in
+      same-means (m .levels) (n .levels) (m .context) (n .context) es (h .node) (l .node) (m .scope) (n .scope) (m .named) (n .named)
+      (m .held) (n .held) (m .stands) (n .stands) in
       let b =
       equal-levels d (m .scope) (binders h) (n .scope) (binders l) (h .term) (l .term) (omega (arith, r .deep, count h))
       (omega (arith, s .deep, count l))
       (closed-there (h .node) (h .term) m) (closed-there (l .node) (l .term) n) free in
-      (λ e. b .1 (y ∙ sym (a .0 e) ∙ sym x), λ e. a .1 (sym x ∙ sym (b .0 e) ∙ y))
+      (λ e. b .1 (y ∙ a .0 e ∙ sym x), λ e. a .1 (sym y ∙ b .0 e ∙ x))
+
+  -- What is asked of the nodes, as the table says it: the d binders lie above both
+  hole-told : (q : Tests) → Tells es q → (l h : Face) → Spotted es d l → Spotted es d h → Beneath es d (h .node) (l .node)
+      → holeFits q d (l .node) (h .node) ≡ not (usesAt es (h .node) d) && sameAt es (h .node) (l .node)
+  unfolding holeFits
+  hole-told q tells l h s r beneath =
+      let small = node-inside es (h .node) (h .term) (r .there) in
+      let low = node-inside es (l .node) (l .term) (s .there) in
+      ap (λ (b : Bool). not b && q .same (h .node) (l .node)) (tells .uses (h .node) d small)
+      ∙ by-test (usesAt es (h .node) d) (λ e. rw e refl)
+      (λ e. ap (λ (b : Bool). not (usesAt es (h .node) d) && b) (tells .same d (h .node) (l .node) small low beneath e))
 
   -- THE TEST OF A HOLE
-  pub hole-means : (l h : Face) → Spotted es d l → Spotted es d h
-      → (holeFits es d (l .node) (h .node) ≡ true) ↔ ((t : Term) × (lowered h ≡ some t) × (lowered l ≡ some t))
-  unfolding holeFits
-  hole-means l h s r = (there, back)
+  pub hole-means : (q : Tests) → Tells es q → (l h : Face) → Spotted es d l → Spotted es d h → Beneath es d (h .node) (l .node)
+      → (holeFits q d (l .node) (h .node) ≡ true) ↔ ((t : Term) × (lowered h ≡ some t) × (lowered l ≡ some t))
+  hole-means q tells l h s r beneath =
+      let z = hole-told q tells l h s r beneath in
+      (λ e. there (sym z ∙ e), λ e. z ∙ back e)
     where
-      there : not (usesAt es (h .node) d) && sameAt es (l .node) (h .node) ≡ true → (t : Term) × (lowered h ≡ some t) × (lowered l ≡ some t)
+      there : not (usesAt es (h .node) d) && sameAt es (h .node) (l .node) ≡ true → (t : Term) × (lowered h ≡ some t) × (lowered l ≡ some t)
       there e =
-          let (a, b) = and-T (not (usesAt es (h .node) d)) (sameAt es (l .node) (h .node)) (true-T e) in
+          let (a, b) = and-T (not (usesAt es (h .node) d)) (sameAt es (h .node) (l .node)) (true-T e) in
           let f : usesFace (seen h) ≡ false =
           by-test (usesFace (seen h)) (λ z. absurd (true≢false (sym (T-true a) ∙ ap not (uses-lowered h r .1 z)))) (λ z. z) in
-          let q : seen h ≡ seen l = same-seen l h s r f .0 (T-true b) in
+          let i : seen h ≡ seen l = same-seen l h s r f .0 (T-true b) in
           let (t, x) = free-some h f in
-          let (u, y) = free-some l (sym (ap usesFace q) ∙ f) in
-          let w : t ≡ u = view-injective t u (sym (seen-some h t x) ∙ q ∙ seen-some l u y) in
+          let (u, y) = free-some l (sym (ap usesFace i) ∙ f) in
+          let w : t ≡ u = view-injective t u (sym (seen-some h t x) ∙ i ∙ seen-some l u y) in
           (t, x, y ∙ ap some (sym w))
 
-      back : (t : Term) × (lowered h ≡ some t) × (lowered l ≡ some t) → not (usesAt es (h .node) d) && sameAt es (l .node) (h .node) ≡ true
+      back : (t : Term) × (lowered h ≡ some t) × (lowered l ≡ some t) → not (usesAt es (h .node) d) && sameAt es (h .node) (l .node) ≡ true
       back (t, x, y) =
           let f : usesFace (seen h) ≡ false = seen-free h t x in
           let u : usesAt es (h .node) d ≡ false =

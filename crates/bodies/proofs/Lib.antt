@@ -2,7 +2,6 @@
 pub mod MarkLaws
 pub mod ClosedLaws
 pub mod SuitsLaws
-pub mod ProblemNodes
 pub mod BodyMeaning
 pub mod MarkedWalk
 pub mod HoleTests

@@ -14,7 +14,8 @@ use lib.Seq.{drop-cons, drop-drop}
 use lib.Dec.{eqb}
 use Rattle.meaning.specs.Basics.{join}
 use Rattle.tokens.specs.Token.{depthIn, sizeIn, Table}
-use Rattle.tokens.specs.Key.{keyOf, at, part, sameAt, usesAt, Inside}
+use Rattle.tokens.specs.Key.{keyOf, at, part, Inside}
+use Rattle.numbers.specs.Tests.{Tests}
 use Rattle.masks.specs.Mask.{width, marks, first}
 use Rattle.masks.proofs.Marks.{length-marks}
 use Rattle.masks.proofs.Nodes.{first-min}
@@ -25,14 +26,14 @@ use Rattle.bodies.specs.Suits.{holeFits, atMarks, allFaced, suitsAt}
 use Rattle.bodies.proofs.ClosedLaws.{part-length, part-at}
 
 -- The test of one hole
-module _ (es : List ℕ) (e lowest node : ℕ) where
-  pub hole-uses : usesAt es node e ≡ true → false ≡ holeFits es e lowest node
+module _ (q : Tests) (e lowest node : ℕ) where
+  pub hole-uses : q .uses node e ≡ true → false ≡ holeFits q e lowest node
   unfolding holeFits
-  hole-uses h = sym (ap (λ (b : Bool). not b && sameAt es lowest node) h)
+  hole-uses h = sym (ap (λ (b : Bool). not b && q .same node lowest) h)
 
-  pub hole-same : usesAt es node e ≡ false → sameAt es lowest node ≡ holeFits es e lowest node
+  pub hole-same : q .uses node e ≡ false → q .same node lowest ≡ holeFits q e lowest node
   unfolding holeFits
-  hole-same h = sym (ap (λ (b : Bool). not b && sameAt es lowest node) h)
+  hole-same h = sym (ap (λ (b : Bool). not b && q .same node lowest) h)
 
 -- The lowest node of a mask
 first-room : (l : List Bool) → first l ≤ length l
@@ -96,34 +97,34 @@ module _ (stop : Stop) (d e : ℕ) (ps es : List ℕ) where
             ∙ ap (λ (a : ℕ). lockstep stop d e 0 a (j + k) (drop a ps) (drop (j + k) es)) n)
 
 -- The test of what is left, where what stands across the lowest hole stands at node low
-abbrev left : List ℕ → ℕ → ℕ → ℕ → ℕ → ℕ → ℕ → ℕ → Bool
-left es face mask d e low i j = allFaced (holeFits es e low) (walkFrom (atMarks mask) d e (part es face) es i j)
+abbrev left : Tests → List ℕ → ℕ → ℕ → ℕ → ℕ → ℕ → ℕ → ℕ → Bool
+left q es face mask d e low i j = allFaced (holeFits q e low) (walkFrom (atMarks mask) d e (part es face) es i j)
 
-pub record Walking (es : List ℕ) (face faced mask n d e low i j : ℕ) : Type 0 where
+pub record Walking (q : Tests) (es : List ℕ) (face faced mask n d e low i j : ℕ) : Type 0 where
   pub table : Table es
   pub inside : Inside es face
   pub isSize : n ≡ sizeIn (at es face)
   pub isLow : low ≡ faced + lowestMarked mask
-  pub whole : left es face mask d e low i j ≡ suitsAt es face faced mask
+  pub whole : left q es face mask d e low i j ≡ suitsAt q es face faced mask
   pub beside : i ≤ lowestMarked mask → j ≡ faced + i
   pub passed : lowestMarked mask < i → low < length es
 
-module _ {es : List ℕ} {face n d e lowest : ℕ} (faced mask : ℕ) where
+module _ {q : Tests} {es : List ℕ} {face n d e lowest : ℕ} (faced mask : ℕ) where
   pub suits-begins : Table es → Inside es face → n ≡ sizeIn (at es face) → d ≡ depthIn (at es face) → e ≡ depthIn (at es faced)
-      → lowest ≡ lowestMarked mask → Walking es face faced mask n d e (faced + lowest) 0 faced
+      → lowest ≡ lowestMarked mask → Walking q es face faced mask n d e (faced + lowest) 0 faced
   unfolding suitsAt
   suits-begins t h is-n is-d is-e is-low = record {
     table = t;
     inside = h;
     isSize = is-n;
     isLow = ap (λ (x : ℕ). faced + x) is-low;
-    whole = ap (λ (x : ℕ). left es face mask d e (faced + x) 0 faced) is-low
-        ∙ ap₂ (λ (x y : ℕ). left es face mask x y (faced + lowestMarked mask) 0 faced) is-d is-e;
+    whole = ap (λ (x : ℕ). left q es face mask d e (faced + x) 0 faced) is-low
+        ∙ ap₂ (λ (x y : ℕ). left q es face mask x y (faced + lowestMarked mask) 0 faced) is-d is-e;
     beside = λ l. omega arith;
     passed = λ l. absurd (omega arith);
   }
 
-module _ {es : List ℕ} {face faced mask n d e low i j : ℕ} (w : Walking es face faced mask n d e low i j) where
+module _ {q : Tests} {es : List ℕ} {face faced mask n d e low i j : ℕ} (w : Walking q es face faced mask n d e low i j) where
   abbrev ps : List ℕ
   ps = part es face
 
@@ -131,19 +132,19 @@ module _ {es : List ℕ} {face faced mask n d e low i j : ℕ} (w : Walking es f
   walkLeft x y = walkFrom (atMarks mask) d e ps es x y
 
   abbrev Next : ℕ → ℕ → Type 0
-  Next x y = Walking es face faced mask n d e low x y
+  Next x y = Walking q es face faced mask n d e low x y
 
   long : length ps ≡ n
   long = part-length es face (w .inside) ∙ sym (w .isSize)
 
-  answered : (o : Option (List ℕ)) → walkLeft i j ≡ o → allFaced (holeFits es e low) o ≡ suitsAt es face faced mask
-  answered o h = sym (ap (allFaced (holeFits es e low)) h) ∙ w .whole
+  answered : (o : Option (List ℕ)) → walkLeft i j ≡ o → allFaced (holeFits q e low) o ≡ suitsAt q es face faced mask
+  answered o h = sym (ap (allFaced (holeFits q e low)) h) ∙ w .whole
 
-  pub suits-ends : n ≤ i → true ≡ suitsAt es face faced mask
+  pub suits-ends : n ≤ i → true ≡ suitsAt q es face faced mask
   suits-ends h = answered (some []) (from-end (atMarks mask) d e ps es i j (omega (arith, long)))
 
   module _ (hi : i < n) where
-    pub suits-out : length es ≤ j → false ≡ suitsAt es face faced mask
+    pub suits-out : length es ≤ j → false ≡ suitsAt q es face faced mask
     suits-out h = answered none (from-out (atMarks mask) d e ps es i j (omega (arith, long)) h)
 
     here : at ps i ≡ at es (face + i)
@@ -169,15 +170,15 @@ module _ {es : List ℕ} {face faced mask n d e low i j : ℕ} (w : Walking es f
               from-face (atMarks mask) d e ps es i j (omega (arith, long)) hj m (rw here node-counted)
               ∙ ap₂ (λ (a b : ℕ). join (some (faceCode i j ∷ [])) (walkLeft (i + a) (j + b))) (ap sizeIn here ∙ sym is-x) (sym is-y)
 
-          pub hole-goes-on : holeFits es e low j ≡ true → Next (i + x) (j + y)
+          pub hole-goes-on : holeFits q e low j ≡ true → Next (i + x) (j + y)
           hole-goes-on h = record {
             table = w .table;
             inside = w .inside;
             isSize = w .isSize;
             isLow = w .isLow;
             whole =
-                sym (faced-join (holeFits es e low) i j (walkLeft (i + x) (j + y)) small
-                ∙ ap (λ (b : Bool). b && left es face mask d e low (i + x) (j + y)) h)
+                sym (faced-join (holeFits q e low) i j (walkLeft (i + x) (j + y)) small
+                ∙ ap (λ (b : Bool). b && left q es face mask d e low (i + x) (j + y)) h)
                 ∙ answered (join (some (faceCode i j ∷ [])) (walkLeft (i + x) (j + y))) passes;
             beside = λ l. absurd (let a = lowest-min mask i m in omega (arith, node-counted));
             passed = λ l. lowest-inside;
@@ -186,19 +187,19 @@ module _ {es : List ℕ} {face faced mask n d e low i j : ℕ} (w : Walking es f
               small : i < 65536
               small = omega (arith, w .isSize)
 
-        pub hole-stops : holeFits es e low j ≡ false → false ≡ suitsAt es face faced mask
+        pub hole-stops : holeFits q e low j ≡ false → false ≡ suitsAt q es face faced mask
         hole-stops h =
             let x : ℕ = sizeIn (at es (face + i)) in
             let y : ℕ = sizeIn (at es j) in
-            sym (faced-join (holeFits es e low) i j (walkLeft (i + x) (j + y)) (omega (arith, w .isSize))
-            ∙ ap (λ (b : Bool). b && left es face mask d e low (i + x) (j + y)) h)
+            sym (faced-join (holeFits q e low) i j (walkLeft (i + x) (j + y)) (omega (arith, w .isSize))
+            ∙ ap (λ (b : Bool). b && left q es face mask d e low (i + x) (j + y)) h)
             ∙ answered (join (some (faceCode i j ∷ [])) (walkLeft (i + x) (j + y))) (passes x y refl refl)
 
       module _ (m : marked mask i ≡ false) where
         keys : eqb (keyOf d (at ps i)) (keyOf e (at es j)) ≡ eqb (keyOf d (at es (face + i))) (keyOf e (at es j))
         keys = ap (λ (x : ℕ). eqb (keyOf d x) (keyOf e (at es j))) here
 
-        pub node-stops : eqb (keyOf d (at es (face + i))) (keyOf e (at es j)) ≡ false → false ≡ suitsAt es face faced mask
+        pub node-stops : eqb (keyOf d (at es (face + i))) (keyOf e (at es j)) ≡ false → false ≡ suitsAt q es face faced mask
         node-stops h = answered none (from-differs (atMarks mask) d e ps es i j (omega (arith, long)) hj m (keys ∙ h))
 
         pub node-goes-on : eqb (keyOf d (at es (face + i))) (keyOf e (at es j)) ≡ true → Next (i + 1) (j + 1)

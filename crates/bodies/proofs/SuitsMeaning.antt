@@ -1,7 +1,7 @@
 -- What `suits` answers: whether some argument in its holes makes the body what is faced.
 use mathlib.Core.Path.{_≡_, refl, ap, ap₂, sym, _∙_, subst}
 use mathlib.Core.Logic.{_↔_, inl, inr, _⊎_}
-use Prim.Native.Nat.{ℕ, _+_, _<_, _≤_}
+use Prim.Native.Nat.{ℕ, _+_, _-_, _<_, _≤_}
 use native.Mathlib.Omega.{arith}
 use mathlib.Core.Bool.{Bool, true, false, _&&_, false≢true}
 use mathlib.Core.List.{List, [], _∷_, map, List·Memᴰ·not-nil}
@@ -11,6 +11,7 @@ use Rattle.meaning.specs.Limits.{maxFaceNodes, maxDepth}
 use Rattle.meaning.specs.Basics.{every, _∈_}
 use Rattle.meaning.specs.Term.{one, size, nodeAt, hole, Terms, Term, IsExpression}
 use Rattle.meaning.specs.Problem.{Problem, namedExpressions, expressions}
+use Rattle.meaning.specs.Scope.{enter, namelessLabel}
 use Rattle.meaning.specs.Shift.{Closed, ClosedTerm}
 use Rattle.meaning.specs.Filling.{IsBody}
 use Rattle.meaning.specs.Face.{Face, walk}
@@ -19,8 +20,9 @@ use Rattle.meaning.specs.Choice.{Marks, punchTerm, Choice}
 use Rattle.meaning.specs.Value.{lowestHole}
 use Rattle.meaning.specs.PlaceValue.{maskOf}
 use Rattle.meaning.proofs.Lists.{T-true, true-T, all-mem, mem-all, mem-at, every-all, all-every}
-use Rattle.meaning.proofs.Nodes.{Stands, here, below, beside, node-stands}
+use Rattle.meaning.proofs.Nodes.{Stands, here, below, beside, stands-size, node-stands, walk-node}
 use Rattle.meaning.proofs.Proper.{readable-expression, expressions-readable}
+use Rattle.meaning.proofs.ShiftLaws.{relabel-size}
 use Rattle.meaning.proofs.RowBodies.{punch-one}
 use Rattle.meaning.proofs.Solutions.{punch-body}
 use Rattle.meaning.proofs.Sources.{lowest-is, lowest-there}
@@ -28,6 +30,8 @@ use Rattle.tokens.specs.Token.{depthIn, expressionTokens}
 use Rattle.tokens.specs.Key.{at, part}
 use Rattle.tokens.proofs.Codes.{viewFrom}
 use Rattle.tokens.proofs.KeyLaws.{stands-depth, stands-part}
+use Rattle.tokens.proofs.Spots.{forest-deep}
+use Rattle.numbers.specs.Tests.{Tests, Beneath, Tells}
 use Rattle.demands.specs.Demand.{lowered}
 use Rattle.demands.specs.Fit.{Suits, SuitsWalked}
 use Rattle.demands.specs.LowestMark.{LowestMark}
@@ -81,7 +85,7 @@ module _ (test : ℕ → Bool) where
 -- Node f of the expressions holds the face, node n the term e that an application faces
 module _ (p : Problem) (w : WithinLimits p) (f n : ℕ) (face e : Term) (atF : nodeAt f (expressions p) ≡ some face)
     (atN : nodeAt n (expressions p) ≡ some e) (ms : Marks) (choice : Choice 1 face ms) (few : size (one face) ≤ maxFaceNodes)
-    (closed : ClosedTerm (punchTerm ms face)) where
+    (closed : ClosedTerm (punchTerm ms face)) (q : Tests) (tells : Tells (expressionTokens p) q) where
   abbrev es : List ℕ
   es = expressionTokens p
 
@@ -149,20 +153,34 @@ module _ (p : Problem) (w : WithinLimits p) (f n : ℕ) (face e : Term) (atF : n
       ∙ ap (λ (u : Terms). nodesMet (walk 0 n u (one e))) (sym (punch-one ms face))
 
   abbrev test : ℕ → Bool
-  test m = holeFits es (depthIn (at es n)) (n + lowestMarked mask) m
+  test m = holeFits q (depthIn (at es n)) (n + lowestMarked mask) m
 
-  tested : suitsAt es f n mask ≡ allNodes test (nodesMet (walk 0 n (one body) (one e)))
+  tested : suitsAt q es f n mask ≡ allNodes test (nodesMet (walk 0 n (one body) (one e)))
   unfolding suitsAt
   tested = faced-nodes test tokensWalk ∙ ap (allNodes test) walked
 
   module _ (hs : List Face) (found : walk 0 n (one body) (one e) ≡ some hs) where
     spotted : (h : Face) → h ∈ hs → Spotted es d h
     unfolding d
-    spotted h q =
+    spotted h m =
         all-mem (Spotted es d) h hs
         (spots es d 0 n (E .levels) (E .context) (one body) (E .scope) (one (E .named)) (E .stands .after) (E .stands .split) (omega arith)
         (E .held .readable) (record { depths = E .held .depths; sizes = E .held .sizes }) hs
-        (ap (λ (t : Term). walk 0 n (one body) (one t)) (sym (E .term)) ∙ found)) q
+        (ap (λ (t : Term). walk 0 n (one body) (one t)) (sym (E .term)) ∙ found)) m
+
+    -- Each is a node of what is faced, none of whose nodes is less deep than its root
+    within : (h : Face) → h ∈ hs → (n ≤ h .node) × (h .node < n + size (one e))
+    within h m =
+        let (g, z) = walk-node 0 n (one body) (one e) hs found h m in
+        (g, omega (arith, stands-size (node-stands (h .node - n) (one e) (h .term) z)))
+
+    beneath : (h l : Face) → h ∈ hs → l ∈ hs → Beneath es d (h .node) (l .node)
+    unfolding d
+    beneath h l m k y from to =
+        let long : size (one e) ≡ size (one (E .named)) =
+        ap (λ (t : Term). size (one t)) (E .term) ∙ relabel-size enter namelessLabel (E .scope) (one (E .named)) in
+        forest-deep (E .levels) (E .context) (E .scope) (one (E .named)) (E .held .readable) (E .held .depths) es n (E .stands .after)
+        (E .stands .split) y (omega (arith, within h m .0, within l k .0)) (omega (arith, within h m .1, within l k .1, long))
 
     -- There is one place
     single : (h : Face) (i : ℕ) → h ∈ hs → h .what ≡ hole i → i ≡ 0
@@ -193,18 +211,19 @@ module _ (p : Problem) (w : WithinLimits p) (f n : ℕ) (face e : Term) (atF : n
     -- The test at a hole, with the lowest hole of its place
     test-means : (i : ℕ) (h l : Face) → h ∈ hs → lowestHole i hs ≡ some l
         → (test (h .node) ≡ true) ↔ ((t : Term) × (lowered h ≡ some t) × (lowered l ≡ some t))
-    test-means i h l q low =
-        let z : test (h .node) ≡ holeFits es d (l .node) (h .node) =
-        ap₂ (λ (x y : ℕ). holeFits es x y (h .node)) depth (sym (lowest-node i l low)) in
-        let m = hole-means es d l h (spotted l (lowest-is i hs l low .0)) (spotted h q) in
-        (λ x. m .0 (sym z ∙ x), λ x. z ∙ m .1 x)
+    test-means i h l m low =
+        let z : test (h .node) ≡ holeFits q d (l .node) (h .node) =
+        ap₂ (λ (x y : ℕ). holeFits q x y (h .node)) depth (sym (lowest-node i l low)) in
+        let k = lowest-is i hs l low .0 in
+        let t = hole-means es d q tells l h (spotted l k) (spotted h m) (beneath h l m k) in
+        (λ x. t .0 (sym z ∙ x), λ x. z ∙ t .1 x)
 
-  suits-in : suitsAt es f n mask ≡ true → SuitsWalked n body e
-  suits-in q =
-      let (hs, found, good) = met-in test (walk 0 n (one body) (one e)) (sym tested ∙ q) in
+  suits-in : suitsAt q es f n mask ≡ true → SuitsWalked n body e
+  suits-in t =
+      let (hs, found, good) = met-in test (walk 0 n (one body) (one e)) (sym tested ∙ t) in
       record { holes = hs; found = found; same = λ i h l m z low. test-means hs found i h l m low .0 (good h m) }
 
-  suits-out : SuitsWalked n body e → suitsAt es f n mask ≡ true
+  suits-out : SuitsWalked n body e → suitsAt q es f n mask ≡ true
   suits-out s = tested ∙ ap (λ (o : Option (List Face)). allNodes test (nodesMet o)) (s .found) ∙ met-out test (s .holes) good
     where
       good : (h : Face) → h ∈ s .holes → test (h .node) ≡ true
@@ -214,7 +233,7 @@ module _ (p : Problem) (w : WithinLimits p) (f n : ℕ) (face e : Term) (atF : n
           test-means (s .holes) (s .found) i h l m low .1 (s .same i h l m z low)
 
   -- THE BODY SUITS: "Filling m(t) puts the filled t in each hole of m's body"
-  pub suits-means : (suitsAt es f n mask ≡ true) ↔ Suits body e
+  pub suits-means : (suitsAt q es f n mask ≡ true) ↔ Suits body e
   suits-means =
       let s = suits-walked 1 n body e isBody in
-      (λ q. s .1 (suits-in q), λ q. suits-out (s .0 q))
+      (λ t. s .1 (suits-in t), λ t. suits-out (s .0 t))

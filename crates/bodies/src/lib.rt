@@ -1,10 +1,10 @@
 // One function with its mask by itself: whether the body that the mask makes of its face is closed, and whether it suits what an
-// application faces. Everything is looked up in the token table of the expressions. What the answers mean is proofs/BodyMeaning and
-// proofs/SuitsMeaning.
+// application faces. Everything is looked up in the token table of the expressions, except what stands across a hole: there the numbers of
+// the nodes are asked. What the answers mean is proofs/BodyMeaning and proofs/SuitsMeaning.
+use numbers::ask::same;
+use numbers::ask::uses;
 use tokens::same::reaches;
-use tokens::same::same;
 use tokens::same::same_node;
-use tokens::same::uses_between;
 use tokens::token::depth;
 use tokens::token::size;
 ghost use mathlib.Core.Path.{_≡_};
@@ -12,6 +12,7 @@ ghost use Prim.Native.Nat.{_<_};
 ghost use lib.ListN.{length};
 ghost use Rattle.tokens.specs.Token.{Table};
 ghost use Rattle.tokens.specs.Key.{Inside};
+ghost use Rattle.numbers.specs.Tests.{told};
 ghost use Rattle.bodies.specs.Marked.{marked, lowestMarked};
 ghost use Rattle.bodies.specs.BodyClosed.{bodyClosedAt};
 ghost use Rattle.bodies.specs.Suits.{holeFits, suitsAt, Nested};
@@ -55,21 +56,22 @@ pub fn body_closed(es: &[u64], face: usize, mask: u64) -> bool
 
 // Whether what stands at a node, across a hole, uses no binder between the root, at depth e, and itself, and is what stands across the
 // lowest hole.
-fn hole_fits(es: &[u64], e: u64, lowest: usize, node: usize) -> bool
-    requires { ⌜ Inside (now es) lowest ⌝ ∗ ⌜ Inside (now es) node ⌝ }
-    ensures { λ r. ⌜ r ≡ holeFits (now (es .entry)) e lowest node ⌝ }
+fn hole_fits(ns: &[u64], e: u64, lowest: usize, node: usize) -> bool
+    requires { ⌜ lowest < length (now ns) ⌝ ∗ ⌜ node < length (now ns) ⌝ }
+    ensures { λ r. ⌜ r ≡ holeFits (told (now (ns .entry))) e lowest node ⌝ }
 {
-    if uses_between(es, node, e) {
+    if uses(ns, node, e) {
         return false;
     }
-    same(es, lowest, node)
+    same(ns, node, lowest)
 }
 
 // Whether the body that the mask makes of the face at a node is, with some argument in its holes, what stands at node `faced`. Up to the
 // lowest hole the two agree node by node, so that it stands as far from `faced` as its node from the face.
-pub fn suits(es: &[u64], face: usize, faced: usize, mask: u64) -> bool
-    requires { ⌜ Table (now es) ⌝ ∗ ⌜ Nested (now es) ⌝ ∗ ⌜ face < length (now es) ⌝ ∗ ⌜ faced < length (now es) ⌝ }
-    ensures { λ r. ⌜ r ≡ suitsAt (now (es .entry)) face faced mask ⌝ }
+pub fn suits(es: &[u64], ns: &[u64], face: usize, faced: usize, mask: u64) -> bool
+    requires { ⌜ Table (now es) ⌝ ∗ ⌜ Nested (now es) ⌝ ∗ ⌜ face < length (now es) ⌝ ∗ ⌜ faced < length (now es) ⌝
+        ∗ ⌜ length (now ns) ≡ length (now es) ⌝ }
+    ensures { λ r. ⌜ r ≡ suitsAt (told (now (ns .entry))) (now (es .entry)) face faced mask ⌝ }
 {
     let root = es[face];
     let n = size(root) as usize;
@@ -85,7 +87,7 @@ pub fn suits(es: &[u64], face: usize, faced: usize, mask: u64) -> bool
         let x = es[face + i];
         let y = es[j];
         if marked(mask, i) {
-            if !hole_fits(es, e, low, j) {
+            if !hole_fits(ns, e, low, j) {
                 return false;
             }
             i += size(x) as usize;

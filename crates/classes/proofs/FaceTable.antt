@@ -1,4 +1,4 @@
--- The classes that the token table tells of a face are the face's classes: the table's tests of its nodes are document 01's.
+-- The classes that the tests of a table's nodes tell of a face are the face's classes: the tests are document 01's.
 use mathlib.Core.Path.{_≡_, refl, ap, ap₂, sym, _∙_, subst}
 use mathlib.Core.Logic.{⊎-elim, _↔_}
 use mathlib.Core.Bool.{Bool, true, false, _&&_, not}
@@ -24,13 +24,14 @@ use Rattle.meaning.proofs.Lowered.{lowered-none}
 use Rattle.tokens.specs.Token.{depthIn}
 use Rattle.tokens.specs.Key.{at, sameAt, usesAt, Held, Stands}
 use Rattle.tokens.proofs.KeyLaws.{stands-depth, stands-size, stands-inside, uses-means, same-means}
+use Rattle.numbers.specs.Tests.{Tests, Beneath, Tells}
 use Rattle.masks.specs.Mask.{width}
 use Rattle.masks.specs.Face.{Grown, Made, Classes}
 use Rattle.masks.proofs.Cases.{lt-or-ge, same-truth}
 use Rattle.classes.specs.Tabled.{isFree, areEqual, free, equal, FaceClasses}
 use Rattle.classes.specs.FaceTable.{sizeFrom, freeFrom, sameFrom, ClassesFrom, Whole, FaceAt}
 use Rattle.classes.proofs.FaceChoices.{views-same, same-views}
-use Rattle.tokens.proofs.Spots.{Spot, spot}
+use Rattle.tokens.proofs.Spots.{Spot, spot, forest-deep}
 use Rattle.tokens.proofs.Owners.{equal-levels}
 
 module _ (es : List ℕ) (root : ℕ) (face : Term) (h : FaceAt es root face) where
@@ -93,36 +94,50 @@ module _ (es : List ℕ) (root : ℕ) (face : Term) (h : FaceAt es root face) wh
   root-size : sizeFrom es root ≡ size (one face)
   root-size = stands-size (h .levels) (h .ctx) es root (h .scope) (h .named) (h .held) (h .stands) ∙ sym face-size
 
-  free-same : (i : ℕ) → freeFrom es root i ≡ free face i
-  unfolding freeFrom free
-  free-same i = ⊎-elim here past (lt-or-ge i (size (one face)))
-    where
-      here : i < size (one face)
-          → ltb i (sizeFrom es root) && not (usesAt es (root + i) (depthIn (at es root))) ≡ isFree (getElem? (views face) i)
-      here l =
-          let s = node i l in
-          ap₂ _&&_ (lt-ltb i (sizeFrom es root) (omega (arith, root-size))) (ap not (ap (usesAt es (root + i)) root-depth ∙ node-uses i s))
-          ∙ sym (ap isFree (s .seen))
+  root-ends : root + size (one face) ≤ length es
+  root-ends = omega (arith, stands-inside (h .levels) (h .ctx) es root (h .scope) (h .named) (h .held) (h .stands) .ends, root-size)
 
-      past : size (one face) ≤ i
-          → ltb i (sizeFrom es root) && not (usesAt es (root + i) (depthIn (at es root))) ≡ isFree (getElem? (views face) i)
-      past l =
-          ap (λ (b : Bool). b && not (usesAt es (root + i) (depthIn (at es root)))) (le-ltb i (sizeFrom es root) (omega (arith, root-size)))
-          ∙ sym (ap isFree (at-past (views face) i (omega (arith, length-views [] 0 (one face)))))
+  -- No node of the face is less deep than its root
+  nodes-deep : (i j : ℕ) → i < size (one face) → j < size (one face) → Beneath es above (root + i) (root + j)
+  nodes-deep i j l g y p q =
+      forest-deep (h .levels) (h .ctx) (h .scope) (one (h .named)) (h .held .readable) (h .held .depths) es root (h .stands .after)
+      (h .stands .split) y (omega arith) (omega (arith, face-size))
 
-  equal-same : (i j : ℕ) → i < size (one face) → j < size (one face) → free face i ≡ true → sameFrom es root i j ≡ equal face i j
-  unfolding sameFrom equal free
-  equal-same i j l g o =
-      let s = node i l in
-      let r = node j g in
-      let u : View Owner = view (ownerOf (s .binders)) (one (term i s)) in
-      let v : View Owner = view (ownerOf (r .binders)) (one (term j r)) in
-      let f : usesFace u ≡ false = not-true (usesFace u) (ap isFree (sym (s .seen)) ∙ o) in
-      let m = node-same i j s r f in
-      same-truth (sameAt es (root + i) (root + j)) (areEqual (some u) (some v))
-      (λ q. ap (λ (w : View Owner). areEqual (some u) (some w)) (sym (m .0 q)) ∙ same-views u)
-      (λ q. m .1 (Option·some-injective u v (views-same (some u) (some v) q)))
-      ∙ sym (ap₂ areEqual (s .seen) (r .seen))
+  module _ (q : Tests) (tells : Tells es q) where
+    asked-uses : (i : ℕ) → i < size (one face) → q .uses (root + i) (depthIn (at es root)) ≡ usesAt es (root + i) above
+    asked-uses i l = ap (q .uses (root + i)) root-depth ∙ tells .uses (root + i) above (omega (arith, root-ends))
+
+    free-same : (i : ℕ) → freeFrom q es root i ≡ free face i
+    unfolding freeFrom free
+    free-same i = ⊎-elim here past (lt-or-ge i (size (one face)))
+      where
+        here : i < size (one face)
+            → ltb i (sizeFrom es root) && not (q .uses (root + i) (depthIn (at es root))) ≡ isFree (getElem? (views face) i)
+        here l =
+            let s = node i l in
+            ap₂ _&&_ (lt-ltb i (sizeFrom es root) (omega (arith, root-size))) (ap not (asked-uses i l ∙ node-uses i s))
+            ∙ sym (ap isFree (s .seen))
+
+        past : size (one face) ≤ i
+            → ltb i (sizeFrom es root) && not (q .uses (root + i) (depthIn (at es root))) ≡ isFree (getElem? (views face) i)
+        past l =
+            ap (λ (b : Bool). b && not (q .uses (root + i) (depthIn (at es root)))) (le-ltb i (sizeFrom es root) (omega (arith, root-size)))
+            ∙ sym (ap isFree (at-past (views face) i (omega (arith, length-views [] 0 (one face)))))
+
+    equal-same : (i j : ℕ) → i < size (one face) → j < size (one face) → free face i ≡ true → sameFrom q root i j ≡ equal face i j
+    unfolding sameFrom equal free
+    equal-same i j l g o =
+        let s = node i l in
+        let r = node j g in
+        let u : View Owner = view (ownerOf (s .binders)) (one (term i s)) in
+        let v : View Owner = view (ownerOf (r .binders)) (one (term j r)) in
+        let f : usesFace u ≡ false = not-true (usesFace u) (ap isFree (sym (s .seen)) ∙ o) in
+        let m = node-same i j s r f in
+        tells .same above (root + i) (root + j) (omega (arith, root-ends)) (omega (arith, root-ends)) (nodes-deep i j l g) (node-uses i s ∙ f)
+        ∙ same-truth (sameAt es (root + i) (root + j)) (areEqual (some u) (some v))
+        (λ z. ap (λ (w : View Owner). areEqual (some u) (some w)) (sym (m .0 z)) ∙ same-views u)
+        (λ z. m .1 (Option·some-injective u v (views-same (some u) (some v) z)))
+        ∙ sym (ap₂ areEqual (s .seen) (r .seen))
 
 -- Classes by other tests that say the same
 module _ (w n : ℕ) (ok ok′ : ℕ → Bool) (eq eq′ : ℕ → ℕ → Bool) (same-ok : (i : ℕ) → ok i ≡ ok′ i)
@@ -158,19 +173,13 @@ module _ (w n : ℕ) (ok ok′ : ℕ → Bool) (eq eq′ : ℕ → ℕ → Bool)
 pub face-whole : (es : List ℕ) (root : ℕ) (face : Term) → FaceAt es root face → size (one face) ≤ width → Whole es root
 face-whole es root face h fits =
     let e = root-size es root face h in
-    let z : root + 0 ≡ root = omega arith in
-    record {
-      starts = stands-inside (h .levels) (h .ctx) es root (h .scope) (h .named) (h .held) (h .stands) .starts;
-      fits = omega arith;
-      inside = λ i l.
-          let s = node es root face h i (omega arith) in
-          stands-inside (s .levels) (s .ctx) es (root + i) (s .scope) (s .named) (node-held es root face h i s)
-          (node-stands es root face h i s);
-    }
+    let inside = stands-inside (h .levels) (h .ctx) es root (h .scope) (h .named) (h .held) (h .stands) in
+    record { starts = inside .starts; fits = omega arith; ends = inside .ends }
 
--- and the classes that the table tells of it are its own.
-pub face-classes : (es : List ℕ) (root : ℕ) (face : Term) → FaceAt es root face → (ds : List ℕ) → ClassesFrom es root ds
+-- and the classes that the tests tell of it are its own.
+pub face-classes : (es : List ℕ) (root : ℕ) (face : Term) → FaceAt es root face → (q : Tests) → Tells es q → (ds : List ℕ)
+    → ClassesFrom q es root ds
     → FaceClasses face ds
-face-classes es root face h ds c =
-    classes-same width (size (one face)) (freeFrom es root) (free face) (sameFrom es root) (equal face) (free-same es root face h)
-    (equal-same es root face h) ds (rw (root-size es root face h) at c)
+face-classes es root face h q tells ds c =
+    classes-same width (size (one face)) (freeFrom q es root) (free face) (sameFrom q root) (equal face) (free-same es root face h q tells)
+    (equal-same es root face h q tells) ds (rw (root-size es root face h) at c)

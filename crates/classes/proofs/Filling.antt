@@ -10,20 +10,21 @@ use lib.Seq.{take-suc-set, take-take, getD-drop, getD-take, drop-at, take-at, le
 use borrow.Rule.Slice.PartMut.{putMid, take-put, drop-put}
 use Rattle.meaning.specs.Limits.{maxFunctions}
 use Rattle.slices.proofs.Slices.{drop-take}
+use Rattle.numbers.specs.Tests.{Tests}
 use Rattle.masks.specs.Mask.{width}
 use Rattle.masks.proofs.Cases.{lt-or-ge}
 use Rattle.rows.specs.Rows.{Long, classesAt}
 use Rattle.rows.proofs.Lists.{getD-zeros}
 use Rattle.classes.specs.FaceTable.{ClassesFrom, TablesFrom}
 
-pub record Filled (es nodes : List ℕ) (k : ℕ) (ds : List ℕ) : Type 0 where
+pub record Filled (q : Tests) (es nodes : List ℕ) (k : ℕ) (ds : List ℕ) : Type 0 where
   pub long : Long ds
-  pub there : (j : ℕ) → j < k → ClassesFrom es (getD nodes j 0) (classesAt ds j)
+  pub there : (j : ℕ) → j < k → ClassesFrom q es (getD nodes j 0) (classesAt ds j)
   pub clear : (i : ℕ) → k * width ≤ i → getD ds i 0 ≡ 0
 
 -- Nothing is filled yet
-pub filled-none : (es nodes old ds : List ℕ) → Long old → ds ≡ replicate (length old) 0 → Filled es nodes 0 ds
-filled-none es nodes old ds l e =
+pub filled-none : (q : Tests) (es nodes old ds : List ℕ) → Long old → ds ≡ replicate (length old) 0 → Filled q es nodes 0 ds
+filled-none q es nodes old ds l e =
     record {
       long = ap length e ∙ length-replicate {A = ℕ} (length old) 0 ∙ l;
       there = λ j h. absurd (omega arith);
@@ -35,7 +36,7 @@ front : (l : List ℕ) (j a : ℕ) → j * width + width ≤ a → classesAt l j
 front l j a h =
     sym (take-take width (a - j * width) (drop (j * width) l) (omega arith)) ∙ ap (take width) (sym (drop-take (j * width) a l))
 
-module _ (es nodes ds x : List ℕ) (k : ℕ) (f : Filled es nodes k ds) (few : k < maxFunctions) (n : length x ≡ width) where
+module _ (q : Tests) (es nodes ds x : List ℕ) (k : ℕ) (f : Filled q es nodes k ds) (few : k < maxFunctions) (n : length x ≡ width) where
   abbrev a : ℕ
   a = k * width
 
@@ -68,25 +69,25 @@ module _ (es nodes ds x : List ℕ) (k : ℕ) (f : Filled es nodes k ds) (few : 
       ∙ ap (λ (m : ℕ). getD ds m 0) e
 
   -- One more function
-  pub filled-more : length put ≡ length ds → ClassesFrom es (getD nodes k 0) x → Filled es nodes (k + 1) put
+  pub filled-more : length put ≡ length ds → ClassesFrom q es (getD nodes k 0) x → Filled q es nodes (k + 1) put
   filled-more l c =
       record {
         long = l ∙ f .long;
-        there = λ j h. ⊎-elim (λ (q : j < k). before j q) (λ (q : k ≤ j). here j (omega arith)) (lt-or-ge j k);
+        there = λ j h. ⊎-elim (λ (w : j < k). before j w) (λ (w : k ≤ j). here j (omega arith)) (lt-or-ge j k);
         clear = λ i h. put-after i (omega arith) ∙ f .clear i (omega arith);
       }
     where
-      before : (j : ℕ) → j < k → ClassesFrom es (getD nodes j 0) (classesAt put j)
-      before j q = subst (ClassesFrom es (getD nodes j 0)) (sym (put-before j q)) (f .there j q)
+      before : (j : ℕ) → j < k → ClassesFrom q es (getD nodes j 0) (classesAt put j)
+      before j w = subst (ClassesFrom q es (getD nodes j 0)) (sym (put-before j w)) (f .there j w)
 
-      here : (j : ℕ) → j ≡ k → ClassesFrom es (getD nodes j 0) (classesAt put j)
+      here : (j : ℕ) → j ≡ k → ClassesFrom q es (getD nodes j 0) (classesAt put j)
       here j e =
-          subst (λ (m : ℕ). ClassesFrom es (getD nodes m 0) (classesAt put m)) (sym e)
-          (subst (ClassesFrom es (getD nodes k 0)) (sym put-classes) c)
+          subst (λ (m : ℕ). ClassesFrom q es (getD nodes m 0) (classesAt put m)) (sym e)
+          (subst (ClassesFrom q es (getD nodes k 0)) (sym put-classes) c)
 
 -- All are filled
-pub filled-all : (es nodes ds : List ℕ) (count : ℕ) → Filled es nodes count ds → TablesFrom es nodes count ds
-filled-all es nodes ds count f = record { long = f .long; there = f .there; absent = absent }
+pub filled-all : (q : Tests) (es nodes ds : List ℕ) (count : ℕ) → Filled q es nodes count ds → TablesFrom q es nodes count ds
+filled-all q es nodes ds count f = record { long = f .long; there = f .there; absent = absent }
   where
     absent : (k i : ℕ) → count ≤ k → getD (classesAt ds k) i 0 ≡ 0
     absent k i h =

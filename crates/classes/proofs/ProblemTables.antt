@@ -15,6 +15,7 @@ use Rattle.meaning.specs.Row.{faceOf}
 use Rattle.meaning.specs.Readable.{Accepted}
 use Rattle.meaning.proofs.Lists.{never, at-mem}
 use Rattle.tokens.specs.Token.{expressionTokens}
+use Rattle.numbers.specs.Tests.{Tests, Tells}
 use Rattle.faces.specs.Verdict.{FirstAt, FirstsAt}
 use Rattle.rows.specs.Rows.{classesAt}
 use Rattle.classes.specs.FaceTable.{Whole, Faces, TablesFrom}
@@ -82,10 +83,10 @@ module _ (p : Problem) (a : Accepted p) (xs : List Face) (agree : faces p ≡ so
           (small-faces p a (ap isSome agree) (e .0) (at-mem (functions p) k (e .0) (e .1)))
 
   -- ... AND THEY ARE THE PROBLEM'S
-  pub problem-tabled : (ds : List ℕ) → TablesFrom (expressionTokens p) nodes count ds → Tabled p ds
-  problem-tabled ds t = record { long = t .long; there = there; absent = λ k i h. t .absent k i (subst (λ (n : ℕ). n ≤ k) counted h) }
+  pub problem-tabled : (q : Tests) → Tells (expressionTokens p) q → (ds : List ℕ) → TablesFrom q (expressionTokens p) nodes count ds → Tabled p ds
+  problem-tabled q tells ds t = record { long = t .long; there = there; absent = λ k i h. t .absent k i (subst (λ (n : ℕ). n ≤ k) counted h) }
     where
       there : (k f : ℕ) → getElem? (functions p) k ≡ some f → FaceClasses (faceOf p f) (classesAt ds k)
       there k f e =
-          face-classes (expressionTokens p) (getD nodes k 0) (faceOf p f) (face-at k f e) (classesAt ds k)
+          face-classes (expressionTokens p) (getD nodes k 0) (faceOf p f) (face-at k f e) q tells (classesAt ds k)
           (t .there k (subst (λ (n : ℕ). k < n) counted (within (functions p) k f e)))

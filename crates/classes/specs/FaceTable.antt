@@ -1,8 +1,9 @@
--- The class table of a face, from the table of tokens that the face stands in.
+-- The class table of a face that stands in a table, by the tests of the table's nodes.
 --
 --   root      the node at which the face stands; its nodes are those from the root on, as many as the root's token says
 --   freeFrom  whether node i of the face uses no variable bound inside the face above it
---   sameFrom  whether nodes i and j of the face are equal, an outer binder told by its level
+--   sameFrom  whether nodes i and j of the face are equal
+--   q         who answers what is asked of nodes (crate `numbers`)
 use mathlib.Core.Path.{_≡_}
 use mathlib.Core.Bool.{Bool, _&&_, not}
 use mathlib.Core.List.{List}
@@ -14,7 +15,8 @@ use Rattle.meaning.specs.Term.{NamedTerm, Term}
 use Rattle.meaning.specs.Scope.{namelessTerm}
 use Rattle.meaning.specs.Read.{Context}
 use Rattle.tokens.specs.Token.{depthIn, sizeIn}
-use Rattle.tokens.specs.Key.{at, sameAt, Inside, usesAt, Held, Stands}
+use Rattle.tokens.specs.Key.{at, Held, Stands}
+use Rattle.numbers.specs.Tests.{Tests}
 use Rattle.masks.specs.Mask.{width}
 use Rattle.masks.specs.Face.{Classes}
 use Rattle.rows.specs.Rows.{Long, classesAt}
@@ -22,21 +24,21 @@ use Rattle.rows.specs.Rows.{Long, classesAt}
 abbrev pub sizeFrom : List ℕ → ℕ → ℕ
 sizeFrom es root = sizeIn (at es root)
 
-unfoldable pub freeFrom : List ℕ → ℕ → ℕ → Bool
-freeFrom es root i = ltb i (sizeFrom es root) && not (usesAt es (root + i) (depthIn (at es root)))
+unfoldable pub freeFrom : Tests → List ℕ → ℕ → ℕ → Bool
+freeFrom q es root i = ltb i (sizeFrom es root) && not (q .uses (root + i) (depthIn (at es root)))
 
-unfoldable pub sameFrom : List ℕ → ℕ → ℕ → ℕ → Bool
-sameFrom es root i j = sameAt es (root + i) (root + j)
+unfoldable pub sameFrom : Tests → ℕ → ℕ → ℕ → Bool
+sameFrom q root i j = q .same (root + i) (root + j)
 
 -- The list holds the classes of the face that stands at the root.
-abbrev pub ClassesFrom : List ℕ → ℕ → List ℕ → Type 0
-ClassesFrom es root ds = Classes width (sizeFrom es root) (freeFrom es root) (sameFrom es root) ds
+abbrev pub ClassesFrom : Tests → List ℕ → ℕ → List ℕ → Type 0
+ClassesFrom q es root ds = Classes width (sizeFrom es root) (freeFrom q es root) (sameFrom q root) ds
 
--- A face that the code can make the classes of: it fits a mask, and its nodes' subterms lie in the table.
+-- A face that the code can make the classes of: it fits a mask, and its nodes lie in the table.
 pub record Whole (es : List ℕ) (root : ℕ) : Type 0 where
   pub starts : root < length es
   pub fits : sizeFrom es root ≤ width
-  pub inside : (i : ℕ) → i < sizeFrom es root → Inside es (root + i)
+  pub ends : root + sizeFrom es root ≤ length es
 
 -- The face's tokens stand at the root.
 pub record FaceAt (es : List ℕ) (root : ℕ) (face : Term) : Type 0 where
@@ -54,7 +56,7 @@ pub record Faces (es nodes : List ℕ) (count : ℕ) : Type 0 where
   pub whole : (k : ℕ) → k < count → Whole es (getD nodes k 0)
 
 -- The class tables of these faces, one after the other, and none but empty classes after them.
-pub record TablesFrom (es nodes : List ℕ) (count : ℕ) (ds : List ℕ) : Type 0 where
+pub record TablesFrom (q : Tests) (es nodes : List ℕ) (count : ℕ) (ds : List ℕ) : Type 0 where
   pub long : Long ds
-  pub there : (k : ℕ) → k < count → ClassesFrom es (getD nodes k 0) (classesAt ds k)
+  pub there : (k : ℕ) → k < count → ClassesFrom q es (getD nodes k 0) (classesAt ds k)
   pub absent : (k i : ℕ) → count ≤ k → getD (classesAt ds k) i 0 ≡ 0

@@ -54,7 +54,7 @@ pub record Tells (t : List ℕ) (a r s x : ℕ) (o : OwnerLabel) : Type 0 where
 
 module _ (t : List ℕ) (a b s : ℕ) (shared : Shared t a b s) where
   -- A binder that lies above both is shared
-  shared-deep : (x : ℕ) → (x < a) × Over t x (suc a) → (x < b) × Over t x (suc b) → suc (depthAt t x) ≤ s
+  pub shared-deep : (x : ℕ) → (x < a) × Over t x (suc a) → (x < b) × Over t x (suc b) → suc (depthAt t x) ≤ s
   shared-deep x p q =
       let y = shared .node in
       let h : depthAt t x < depthAt t y =

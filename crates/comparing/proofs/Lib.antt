@@ -3,4 +3,5 @@ pub mod SharedLaws
 pub mod Agreement
 pub mod NodeTold
 pub mod Meaning
+pub mod NumberMeaning
 pub mod Answering

@@ -2,12 +2,11 @@
 use mathlib.Core.Path.{_≡_, refl, ap, ap₂, sym, _∙_, subst}
 use Prim.Native.Nat.{ℕ, suc, _+_, _<_, _≤_}
 use mathlib.Core.Bool.{Bool, _&&_}
-use mathlib.Core.List.{List, [], _∷_, _++_, append-nil}
+use mathlib.Core.List.{List, [], _∷_}
 use mathlib.Core.Option.{none, some}
 use native.Mathlib.Omega.{arith}
 use native.Mathlib.Decide.{decLt}
-use lib.ListN.{length, drop, getElem?}
-use Rattle.meaning.specs.Limits.{maxDepth}
+use lib.ListN.{length, getElem?}
 use Rattle.meaning.specs.Basics.{choose}
 use Rattle.meaning.specs.Term.{one, size}
 use Rattle.meaning.specs.Scope.{enter, namelessLabel, namelessTerm}
@@ -15,21 +14,19 @@ use Rattle.meaning.specs.Problem.{Problem, namedExpressions, expressions}
 use Rattle.meaning.specs.Equal.{View, view}
 use Rattle.meaning.specs.Choice.{Owner, ownerOf, viewsFrom}
 use Rattle.meaning.specs.Same.{allAlike}
-use Rattle.meaning.specs.Read.{inExpression}
 use Rattle.meaning.specs.Readable.{WithinLimits}
 use Rattle.meaning.specs.Compare.{preorder, agree, pairs, pairsOf, subexpressions, Comparison}
 use Rattle.meaning.proofs.Lists.{all-mem, at-mem, at-past}
 use Rattle.meaning.proofs.ShiftLaws.{relabel-size}
 use Rattle.meaning.proofs.ChoiceLaws.{length-views}
-use Rattle.meaning.proofs.Proper.{expressions-readable}
 use Rattle.meaning.proofs.CompareLaws.{RankedTerm, alike-equal, subexpressions-ranked}
 use Rattle.tokens.specs.Token.{depthIn, sizeIn, expressionTokens}
 use Rattle.tokens.specs.Key.{at, part, agreeUnder, comparedAcross, Held, Stands}
 use Rattle.tokens.specs.declared.same.Compared.{Compared}
-use Rattle.tokens.proofs.TokenParts.{tokens-length}
-use Rattle.tokens.proofs.KeyLaws.{stands-depth, stands-size, stands-part, stands-inside}
-use Rattle.tokens.proofs.ProblemTokens.{nodes-few, expression-table, expressions-room}
-use Rattle.tokens.proofs.Spots.{Spot, spot, depthAt, forest-deep}
+use Rattle.tokens.proofs.KeyLaws.{stands-depth, stands-size, stands-part}
+use Rattle.tokens.proofs.ProblemTokens.{expression-table}
+use Rattle.tokens.proofs.Spots.{depthAt, forest-deep}
+use Rattle.numbers.proofs.ProblemTable as problem
 use Rattle.comparing.specs.Comparing.{Nested, ComparedIn, Present, Judged}
 use Rattle.comparing.specs.declared.Pair.{Pair}
 use Rattle.comparing.proofs.Agreement.{Tells, tokens-agree}
@@ -66,34 +63,24 @@ module _ (p : Problem) (w : WithinLimits p) where
   abbrev pub table : List ℕ
   table = expressionTokens p
 
-  table-length : length table ≡ size (namedExpressions p)
-  unfolding expressionTokens
-  table-length = tokens-length [] (namedExpressions p)
-
   module _ (a : ℕ) (h : a < length table) where
-    abbrev Node : Type 0
-    Node = Spot 0 (size (namedExpressions p)) table a (table ++ []) (viewsFrom [] 0 (expressions p)) (expressions p) a
+    abbrev pub node : problem.Node p w a h
+    node = problem.node p w a h
 
-    node : Node
-    unfolding expressionTokens maxDepth
-    node =
-        spot 0 maxDepth inExpression [] [] 0 (namedExpressions p) [] table a a (omega arith) (omega (arith, table-length))
-        (expressions-readable p w) (expressions-room p w .depths) (omega arith) (sym (append-nil table)) tt
+    abbrev held : Held (node .levels) (node .ctx) (node .scope) (node .named)
+    held = problem.held p w a h
 
-    held : Held (node .levels) (node .ctx) (node .scope) (node .named)
-    held = record { readable = node .readable; depths = node .depths; sizes = omega (arith, node .sizes, nodes-few p w) }
+    abbrev stands : Stands table a (node .scope) (node .named)
+    stands = problem.stands p w a h
 
-    stands : Stands table a (node .scope) (node .named)
-    stands = record { after = node .after; split = ap (drop a) (sym (append-nil table)) ∙ node .split }
-
-    abbrev nodeView : View Owner
+    abbrev pub nodeView : View Owner
     nodeView = view (ownerOf (node .binders)) (one (namelessTerm (node .scope) (node .named)))
 
-    node-seen : getElem? (subexpressions p) a ≡ some nodeView
+    pub node-seen : getElem? (subexpressions p) a ≡ some nodeView
     unfolding subexpressions
     node-seen = node .seen
 
-    node-depth : depthAt table a ≡ length (node .scope)
+    pub node-depth : depthAt table a ≡ length (node .scope)
     node-depth = stands-depth (node .levels) (node .ctx) table a (node .scope) (node .named) held stands
 
     node-tells : (s : ℕ) → InPairs (Tells table a (depthAt table a) s) (part table a) (preorder nodeView)
@@ -112,16 +99,12 @@ module _ (p : Problem) (w : WithinLimits p) where
     node-size : sizeIn (at table a) ≡ size (one (node .named))
     node-size = stands-size (node .levels) (node .ctx) table a (node .scope) (node .named) held stands
 
-    node-ends : a + sizeIn (at table a) ≤ length table
-    node-ends = stands-inside (node .levels) (node .ctx) table a (node .scope) (node .named) held stands .ends
-
     node-deep : (y : ℕ) → a ≤ y → y < a + sizeIn (at table a) → depthIn (at table a) ≤ depthIn (at table y)
-    unfolding stands
     node-deep y g k =
         omega (
           arith,
           node-depth,
-          forest-deep (node .levels) (node .ctx) (node .scope) (one (node .named)) (node .readable) (node .depths) table a (node .after)
+          forest-deep (node .levels) (node .ctx) (node .scope) (one (node .named)) (node .readable) (node .depths) table a (stands .after)
               (stands .split) y g (omega (arith, node-size)),
         )
 
@@ -129,12 +112,12 @@ module _ (p : Problem) (w : WithinLimits p) where
   pub table-nested : Nested table
   table-nested = record {
     counted = λ k h. expression-table p w .counted k h;
-    ends = λ k h. node-ends k h;
+    ends = λ k h. problem.table-numerable p w .inside k h .ends;
     deep = λ k y h g q. node-deep k h y g q;
   }
 
   -- What `compare` answers of two nodes is what `meaning` says of their subexpressions
-  node-compared : (a b : ℕ) (h : a < length table) (g : b < length table) (r : Compared) → ComparedIn table a b r
+  pub node-compared : (a b : ℕ) (h : a < length table) (g : b < length table) (r : Compared) → ComparedIn table a b r
       → Comparison (nodeView a h) (nodeView b g) (r .equal) (r .pairs)
   unfolding comparedAcross pairsOf
   node-compared a b h g r c =
@@ -155,11 +138,11 @@ module _ (p : Problem) (w : WithinLimits p) where
       record { verdict = (λ z. q .0 (sym e ∙ z), λ z. e ∙ q .1 z); count = n }
 
   -- Main theorem. Two numbers: each is a node of the expressions or none
-  node-missing : (a : ℕ) → length table ≤ a → getElem? (subexpressions p) a ≡ none
+  pub node-missing : (a : ℕ) → length table ≤ a → getElem? (subexpressions p) a ≡ none
   unfolding subexpressions
   node-missing a h =
       at-past (viewsFrom [] 0 (expressions p)) a
-      (omega (arith, h, table-length, length-views [] 0 (expressions p), relabel-size enter namelessLabel [] (namedExpressions p)))
+      (omega (arith, h, problem.table-length p w, length-views [] 0 (expressions p), relabel-size enter namelessLabel [] (namedExpressions p)))
 
   pub compared-means : (a b : ℕ) (r : Pair) → Present table a b r → Judged (getElem? (subexpressions p) a) (getElem? (subexpressions p) b) r
   unfolding Judged

@@ -80,7 +80,7 @@ tested-deep root s k (slot z) = refl
 
 -- A binder above the node, by its index: its level, and that it lies above
 module _ (t : List ℕ) (a : ℕ) where
-  chain-at : (bs : List ℕ) (i : ℕ) → i < length bs → Chain 0 t a (suc a) bs
+  pub chain-at : (bs : List ℕ) (i : ℕ) → i < length bs → Chain 0 t a (suc a) bs
       → (x : ℕ) × (ownerOf bs i ≡ nodeOfFace x) × (suc (depthAt t x) ≡ length bs - i) × (x < a) × Over t x (suc a)
   chain-at [] i h c = absurd (omega arith)
   chain-at (x ∷ bs) zero h c = (x, refl, omega (arith, c .0), c .1, c .2)

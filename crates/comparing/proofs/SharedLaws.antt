@@ -1,13 +1,14 @@
--- The loop that looks for the binders above both of two nodes: what it knows when it has passed all subterms from a up to `next`.
-use mathlib.Core.Path.{_≡_, _∙_}
+-- How many binders lie above both of two nodes: what the loop that looks for them knows when it has passed all subterms from a up to `next`,
+-- and that there always is an answer.
+use mathlib.Core.Path.{_≡_, refl, ap, _∙_, subst}
 use mathlib.Core.List.{List}
-use Prim.Native.Nat.{ℕ, _+_, _<_, _≤_, min}
+use Prim.Native.Nat.{ℕ, zero, suc, _+_, _-_, _<_, _≤_, min}
 use native.Mathlib.Omega.{arith}
 use native.Mathlib.Decide.{decLt}
 use lib.ListN.{length}
 use Rattle.tokens.specs.Token.{depthIn, sizeIn}
 use Rattle.tokens.specs.Key.{at}
-use Rattle.comparing.specs.Comparing.{Nested, Shared}
+use Rattle.comparing.specs.Comparing.{Between, Nested, Shared}
 
 pub record Passed (t : List ℕ) (a b s next : ℕ) : Type 0 where
   pub least : (y : ℕ) → a ≤ y → y < next → s ≤ depthIn (at t y)
@@ -88,3 +89,53 @@ shared-turned t a b s h = record {
   between = (omega (arith, h .between .0), omega (arith, h .between .1));
   reached = h .reached;
 }
+
+-- There always are so many
+from-first : (t : List ℕ) (a n : ℕ) → (s : ℕ) × Shared t a (a + n) s
+from-first t a zero = (
+  depthIn (at t a),
+  record {
+    least = λ y p. let e : a ≡ y = omega (arith, p .0, p .1) in omega (arith, ap (λ (x : ℕ). depthIn (at t x)) e);
+    node = a;
+    between = (omega arith, omega arith);
+    reached = refl;
+  },
+)
+from-first t a (suc n) = let (s, h) = from-first t a n in go s h (decLt (depthIn (at t (a + suc n))) s)
+  where
+    y : ℕ
+    y = a + suc n
+
+    least : (s m : ℕ) → Shared t a (a + n) s → m ≤ s → m ≤ depthIn (at t y) → (x : ℕ) → Between a y x → m ≤ depthIn (at t x)
+    least s m h g k x p = elim (decLt x y) [
+      | yes l ↦ omega (arith, h .least x (omega (arith, p .0), omega (arith, p .1)))
+      | no l ↦ let e : y ≡ x = omega (arith, p .1) in omega (arith, ap (λ (z : ℕ). depthIn (at t z)) e)
+    ]
+
+    go : (s : ℕ) → Shared t a (a + n) s → Dec (depthIn (at t y) < s) → (s : ℕ) × Shared t a y s
+    go s h (yes l) = (
+      depthIn (at t y),
+      record {
+        least = least s (depthIn (at t y)) h (omega arith) (omega arith);
+        node = y;
+        between = (omega arith, omega arith);
+        reached = refl;
+      },
+    )
+    go s h (no l) = (
+      s,
+      record {
+        least = least s s h (omega arith) (omega arith);
+        node = h .node;
+        between = (omega (arith, h .between .0), omega (arith, h .between .1));
+        reached = h .reached;
+      },
+    )
+
+pub shared-some : (t : List ℕ) (a b : ℕ) → (s : ℕ) × Shared t a b s
+shared-some t a b = elim (decLt a b) [
+  | yes h ↦ let e : a + (b - a) ≡ b = omega arith in subst (λ (c : ℕ). (s : ℕ) × Shared t a c s) e (from-first t a (b - a))
+  | no h ↦
+      let e : b + (a - b) ≡ a = omega arith in
+      let (s, g) = subst (λ (c : ℕ). (s : ℕ) × Shared t b c s) e (from-first t b (a - b)) in (s, shared-turned t a b s g)
+]

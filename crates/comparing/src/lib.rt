@@ -1,6 +1,8 @@
-// Two nodes of a problem's expressions compared: yes or no, and how many pairs of nodes that took (T-02).
+// Two nodes of a problem's expressions compared: yes or no, and how many pairs of nodes that took (T-02). And the numbers of all its nodes,
+// two of which are the same exactly when that comparison says yes (T-08).
 use accept::Verdict;
 use accept::accept;
+use numbers::make::number;
 use table::TABLE_ROOM;
 use tokens::same::Compared;
 use tokens::same::compare_across;
@@ -10,7 +12,10 @@ use tokens::token::size;
 ghost use Prim.Native.Nat.{_<_, _≤_};
 ghost use lib.ListN.{length, take};
 ghost use Rattle.meaning.specs.Accept.{accept};
+ghost use Rattle.table.specs.Whole.{tableRoom};
+ghost use Rattle.numbers.specs.Numbering.{Numerable};
 ghost use Rattle.comparing.specs.Comparing.{Nested, Shared, ComparedIn, Present, Compares};
+ghost use Rattle.comparing.specs.NumberedNodes.{NumbersMade, NumbersNodes};
 
 // What is said of a pair of nodes: the problem is refused, it has no such node, or the two were compared.
 pub enum Pair {
@@ -83,5 +88,35 @@ pub fn compare_in(problem: &[u8], a: usize, b: usize) -> Pair
     match accept(problem, &mut patterns, &mut expressions, &mut faces) {
         Verdict::Refused(r) => Pair::Refused(r),
         Verdict::Accepted(standing) => compare_present(&expressions, standing.expressions, a, b),
+    }
+}
+
+// What is said of the nodes of a problem: the problem is refused, or so many numbers are written.
+pub enum Numbering {
+    Refused(u8),
+    Numbers(usize),
+}
+
+// The numbers of the first n nodes of a table.
+fn number_present(es: &[u64], n: usize, ns: &mut [u64]) -> Numbering
+    requires { ⌜ n ≤ length (now es) ⌝ ∗ ⌜ Numerable (take n (now es)) ⌝ ∗ ⌜ (n ≤ tableRoom) × (n ≤ length (now ns)) ⌝ }
+    ensures { λ r. ⌜ NumbersMade (take n (now (es .entry))) n (now (ns .exit)) r ⌝ }
+{
+    let mut links = [0u64; TABLE_ROOM];
+    number(&es[..n], ns, &mut links);
+    Numbering::Numbers(n)
+}
+
+// Any bytes: document 01's refusal, or a number for each node of the problem's expressions, at the front of `ns`.
+pub fn number_in(problem: &[u8], ns: &mut [u64]) -> Numbering
+    requires { ⌜ tableRoom ≤ length (now ns) ⌝ }
+    ensures { λ r. ⌜ NumbersNodes (accept (now (problem .entry))) (now (ns .exit)) r ⌝ }
+{
+    let mut patterns = [0u64; TABLE_ROOM];
+    let mut expressions = [0u64; TABLE_ROOM];
+    let mut faces = [0u64; TABLE_ROOM];
+    match accept(problem, &mut patterns, &mut expressions, &mut faces) {
+        Verdict::Refused(r) => Numbering::Refused(r),
+        Verdict::Accepted(standing) => number_present(&expressions, standing.expressions, ns),
     }
 }

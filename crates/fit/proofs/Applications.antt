@@ -26,6 +26,7 @@ use Rattle.meaning.proofs.Lists.{never, choose-true, choose-false}
 use Rattle.meaning.proofs.RowBodies.{punch-one}
 use Rattle.tokens.specs.Token.{patternTokens, expressionTokens}
 use Rattle.tokens.proofs.ProblemTokens.{expression-table}
+use Rattle.numbers.specs.Tests.{Tests, Tells}
 use Rattle.lockstep.specs.Walk.{expressionNode}
 use Rattle.lockstep.specs.Span.{spanWalk}
 use Rattle.lockstep.specs.Recorded.{Both}
@@ -63,7 +64,8 @@ filled-mask (suc w) (m ∷ ms) i (suc j) h e = let q = filled-mask w ms i j (ome
 module _ (p : Problem) (w : WithinLimits p) (n f : ℕ) (x : Face) (recorded : RecordedFace p n x) (applies : x .what ≡ function f 1)
     (spotted : Spotted (expressionTokens p) 0 x) (node : ℕ) (face : Term) (faceAt : nodeAt node (expressions p) ≡ some face)
     (isFace : IsExpression (one face)) (ms : Marks) (choice : Choice 1 face ms) (few : size (one face) ≤ maxFaceNodes)
-    (isBody : IsBody 1 (one (punchTerm ms face))) (closed : ClosedTerm (punchTerm ms face)) where
+    (isBody : IsBody 1 (one (punchTerm ms face))) (closed : ClosedTerm (punchTerm ms face)) (q : Tests)
+    (tells : Tells (expressionTokens p) q) where
   abbrev ps : List ℕ
   ps = patternTokens p
 
@@ -77,12 +79,12 @@ module _ (p : Problem) (w : WithinLimits p) (n f : ℕ) (x : Face) (recorded : R
   body = punchTerm ms face
 
   -- "Filling m(t) puts the filled t in each hole of m's body"
-  suited : (suitsAt es node (expressionNode n) mask ≡ true) ↔ Suits body (x .term)
+  suited : (suitsAt q es node (expressionNode n) mask ≡ true) ↔ Suits body (x .term)
   suited =
-      let s = suits-means p w node (x .node) face (x .term) faceAt (recorded .term) ms choice few closed in
-      let e : suitsAt es node (expressionNode n) mask ≡ suitsAt es node (x .node) mask =
-      ap (λ (j : ℕ). suitsAt es node j mask) (recorded .node) in
-      (λ q. s .0 (sym e ∙ q), λ q. e ∙ s .1 q)
+      let s = suits-means p w node (x .node) face (x .term) faceAt (recorded .term) ms choice few closed q tells in
+      let e : suitsAt q es node (expressionNode n) mask ≡ suitsAt q es node (x .node) mask =
+      ap (λ (j : ℕ). suitsAt q es node j mask) (recorded .node) in
+      (λ t. s .0 (sym e ∙ t), λ t. e ∙ s .1 t)
 
   walkedTo : Suits body (x .term) → SuitsWalked (x .node) body (x .term)
   walkedTo q = suits-walked 1 (x .node) body (x .term) isBody .0 q
@@ -108,7 +110,7 @@ module _ (p : Problem) (w : WithinLimits p) (n f : ℕ) (x : Face) (recorded : R
           (argued p w n f x recorded applies spotted face isFace ms choice few s j small (subst (λ (k : ℕ). LowestMark k j ms) z low))
 
   -- Where the code walks the argument, there is a lowest hole
-  pub walked-argument : suitsAt es node (expressionNode n) mask ≡ true → (mask ≡ 0 → ⊥) → (hs : List Face) × Argued p n mask x hs
+  pub walked-argument : suitsAt q es node (expressionNode n) mask ≡ true → (mask ≡ 0 → ⊥) → (hs : List Face) × Argued p n mask x hs
   walked-argument t z = go (walkedTo (suited .0 t)) (holes-of (walkedTo (suited .0 t)))
     where
       go : (s : SuitsWalked (x .node) body (x .term)) → Holes s → (hs : List Face) × Argued p n mask x hs
@@ -127,10 +129,10 @@ module _ (p : Problem) (w : WithinLimits p) (n f : ℕ) (x : Face) (recorded : R
         ∙ ap (λ (v : Option Face). join (lowestDemand (x .under) t v) (some [])) e
 
     argued-step : (a : Argued p n mask x (s .holes)) (kept : List ℕ) (ks : List Source) → Firsts es kept ks
-        → Step es (argumentKept ps es n mask kept) ks (Unit {0}) (applicationLowest body 1 x)
+        → Step es (argumentKept q ps es n mask kept) ks (Unit {0}) (applicationLowest body 1 x)
     unfolding argumentKept
     argued-step a kept ks first =
-        step-as es ks (argumentKept ps es n mask kept) (Unit {0}) (Unit {0})
+        step-as es ks (argumentKept q ps es n mask kept) (Unit {0}) (Unit {0})
         (join (sourcesMet (walk (x .under) (a .hole .node) (one t) (one (a .held)))) (some []))
         (applicationLowest body 1 x) (λ u. u) (λ u. u) (sym demands)
         (go (spanWalk ps es (argumentSpan ps es n mask)) (walk (x .under) (a .hole .node) (one t) (one (a .held))) (a .met))
@@ -142,19 +144,19 @@ module _ (p : Problem) (w : WithinLimits p) (n f : ℕ) (x : Face) (recorded : R
             (a .holds)
 
         go : (o : Option (List ℕ)) (v : Option (List Face)) → Both (SameDemands ps es) o v
-            → Step es (andThen o (λ ns. keptAfter es kept (demandsIn ps ns))) ks (Unit {0}) (join (sourcesMet v) (some []))
+            → Step es (andThen o (λ ns. keptAfter q kept (demandsIn ps ns))) ks (Unit {0}) (join (sourcesMet v) (some []))
         go none none m = step-none es ks (Unit {0})
         go none (some ys) m = absurd m
         go (some ns) none m = absurd m
         go (some ns) (some ys) m =
-            step-as es ks (keptAfter es kept (demandsIn ps ns)) (Unit {0}) (Unit {0}) (some (each sourceOf ys))
+            step-as es ks (keptAfter q kept (demandsIn ps ns)) (Unit {0}) (Unit {0}) (some (each sourceOf ys))
             (some (each sourceOf ys ++ [])) (λ u. u) (λ u. u)
             (ap some (sym (append-nil (each sourceOf ys))))
-            (step-told es ks (keptAfter es kept (demandsIn ps ns)) (each sourceOf ys)
-            (kept-means es (expression-table p w .small) kept ks (demandsIn ps ns) (each sourceOf ys) first (m .0)))
+            (step-told es ks (keptAfter q kept (demandsIn ps ns)) (each sourceOf ys)
+            (kept-means es (expression-table p w .small) q tells kept ks (demandsIn ps ns) (each sourceOf ys) first (m .0)))
 
     suited-step : Holes s → (kept : List ℕ) (ks : List Source) → Firsts es kept ks
-        → Step es (choose (eqb mask 0) (some kept) (argumentKept ps es n mask kept)) ks (Unit {0}) (applicationLowest body 1 x)
+        → Step es (choose (eqb mask 0) (some kept) (argumentKept q ps es n mask kept)) ks (Unit {0}) (applicationLowest body 1 x)
     suited-step (without z e) kept ks first =
         subst (λ (o : Option (List ℕ)). Step es o ks (Unit {0}) (applicationLowest body 1 x)) (sym (choose-true _ _ (eq-eqb mask 0 z)))
         (step-as es ks (some kept) (Unit {0}) (Unit {0}) (some []) (applicationLowest body 1 x) (λ u. u) (λ u. u) (sym (lowest-is none e))
@@ -165,9 +167,9 @@ module _ (p : Problem) (w : WithinLimits p) (n f : ℕ) (x : Face) (recorded : R
 
   -- THE APPLICATION
   pub application-step : (kept : List ℕ) (ks : List Source) → Firsts es kept ks
-      → Step es (applicationKept ps es n node mask kept) ks (Suits body (x .term)) (applicationLowest body 1 x)
+      → Step es (applicationKept q ps es n node mask kept) ks (Suits body (x .term)) (applicationLowest body 1 x)
   unfolding applicationKept
   application-step kept ks first =
-      step-guard es ks (suitsAt es node (expressionNode n) mask) (choose (eqb mask 0) (some kept) (argumentKept ps es n mask kept))
+      step-guard es ks (suitsAt q es node (expressionNode n) mask) (choose (eqb mask 0) (some kept) (argumentKept q ps es n mask kept))
       (Suits body (x .term))
-      (applicationLowest body 1 x) (suited .0) (suited .1) (λ q. suited-step (walkedTo q) (holes-of (walkedTo q)) kept ks first)
+      (applicationLowest body 1 x) (suited .0) (suited .1) (λ u. suited-step (walkedTo u) (holes-of (walkedTo u)) kept ks first)

@@ -51,9 +51,10 @@ use Rattle.fit.specs.Judging.{holeNode, argumentSpan}
 abbrev pub RecordedFace : Problem → ℕ → Face → Type 0
 RecordedFace p n x = Records (λ i. nodeAt i (patterns p)) (λ j. nodeAt j (expressions p)) (λ i. depthIn (at (patternTokens p) i)) n x
 
--- Demands met by a walk on the tables and by one of terms
+-- Demands met by a walk on the tables and by one of terms, which can be asked where each node has a number
 abbrev pub SameDemands : List ℕ → List ℕ → List ℕ → List Face → Type 0
-SameDemands ps es ns ys = AllSay es (demandsIn ps ns) (each sourceOf ys) × All (Demandable ps es) ns
+SameDemands ps es ns ys =
+    AllSay es (demandsIn ps ns) (each sourceOf ys) × ((ks : List ℕ) → length ks ≡ length es → All (Demandable ps ks) ns)
 
 pub record Argued (p : Problem) (n mask : ℕ) (x : Face) (hs : List Face) : Type 0 where
   pub hole : Face
@@ -196,8 +197,8 @@ module _ (p : Problem) (w : WithinLimits p) where
             moved-in (h .node) (h .under) (h .term) (holds .0) there (holds .1) (y .node) (y .term) g q) in (
               recorded-say ps es (λ i. nodeAt i (patterns p)) (λ i. nodeAt (i - h .node) (one (holds .0))) (λ i. depthIn (at ps i))
                   (pattern-node p w) ns ys r moved,
-              recorded-reads ps es (λ i. nodeAt i (patterns p)) (λ i. nodeAt (i - h .node) (one (holds .0))) (λ i. depthIn (at ps i))
-                  (pattern-node p w) ns ys r moved,
+              λ ks long. recorded-reads ps es (λ i. nodeAt i (patterns p)) (λ i. nodeAt (i - h .node) (one (holds .0)))
+                  (λ i. depthIn (at ps i)) (pattern-node p w) ks long ns ys r moved,
             )
 
     -- THE ARGUMENT IS WALKED

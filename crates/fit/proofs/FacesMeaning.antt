@@ -33,6 +33,7 @@ use Rattle.meaning.proofs.Solutions.{row-body-shape}
 use Rattle.tokens.specs.Token.{tagIn, payloadIn, payloadOf, patternTokens, expressionTokens}
 use Rattle.tokens.specs.Key.{at}
 use Rattle.tokens.proofs.ProblemTokens.{expression-table}
+use Rattle.numbers.specs.Tests.{Tests}
 use Rattle.metavariables.specs.Survey.{count}
 use Rattle.lockstep.specs.Walk.{patternNode}
 use Rattle.faces.specs.Recorded.{Recorded}
@@ -92,8 +93,8 @@ recorded-moved p (n ∷ ns) [] r a = absurd r
 recorded-moved p (n ∷ ns) (x ∷ xs) r a =
     (still (expressionTokens p) (x .node) (x .term) (a .0 .there), recorded-moved p ns xs (r .1) (a .1))
 
-module _ (p : Problem) (ns : List ℕ) (s : ℕ) (firsts : Firsts) (l : Laid p (patternTokens p) (expressionTokens p) ns s firsts) (r : Row)
-    (i : r ∈ rows p) where
+module _ (p : Problem) (q : Tests) (ns : List ℕ) (s : ℕ) (firsts : Firsts)
+    (l : Laid p q (patternTokens p) (expressionTokens p) ns s firsts) (r : Row) (i : r ∈ rows p) where
   abbrev ps : List ℕ
   ps = patternTokens p
 
@@ -125,7 +126,7 @@ module _ (p : Problem) (ns : List ℕ) (s : ℕ) (firsts : Firsts) (l : Laid p (
         tag = node-tag ps (patternNode n) (function f k) (x .children) a;
         number = number;
         few = few;
-        rank = function-at p ns s firsts l r i (rankAt ps s n) f
+        rank = function-at p q ns s firsts l r i (rankAt ps s n) f
             (ap (λ (g : ℕ). getElem? (functions p) (count g s)) number ∙ rank-at p s (l .set) f isFunction);
         isFace = face-expression p proper (l .found) (l .agree) f isApplied;
         isBody = subst (λ (c : ℕ). IsBody c (one (rowBody p r f))) (one-place p (l .accepted .within) f isApplied)
@@ -134,7 +135,7 @@ module _ (p : Problem) (ns : List ℕ) (s : ℕ) (firsts : Firsts) (l : Laid p (
 
   -- A face of another kind makes no test
   plain-slot : (n : ℕ) (x : Face) → RecordedFace p n x → (kept : List ℕ) → eqb (tagOf (slot (x .what))) 6 ≡ false
-      → faceKept ps es s (firsts .nodes) row n kept ≡ some kept
+      → faceKept q ps es s (firsts .nodes) row n kept ≡ some kept
   unfolding faceKept
   plain-slot n x recorded kept e =
       choose-false _ _
@@ -147,37 +148,38 @@ module _ (p : Problem) (ns : List ℕ) (s : ℕ) (firsts : Firsts) (l : Laid p (
     application-face : (n : ℕ) (x : Face) → RecordedFace p n x → Spotted es 0 x → (f k : ℕ) → x .what ≡ function f k
         → Applied p s firsts r n x f
         → (kept : List ℕ) (ks : List Source) → meaning.Firsts es kept ks
-        → Step es (faceKept ps es s (firsts .nodes) row n kept) ks (Suits (rowBody p r f) (x .term)) (applicationLowest (rowBody p r f) k x)
+        → Step es (faceKept q ps es s (firsts .nodes) row n kept) ks (Suits (rowBody p r f) (x .term))
+        (applicationLowest (rowBody p r f) k x)
     unfolding faceKept rowBody
     application-face n x recorded spotted f k e a kept ks first =
-        let one-argument : 1 ≡ k = let q : function f 1 ≡ function f k = sym (a .applies) ∙ e in cc in
+        let one-argument : 1 ≡ k = let i : function f 1 ≡ function f k = sym (a .applies) ∙ e in cc in
         let ms : Marks = choiceIn (functions p) r f in
         let node : ℕ = at (firsts .nodes) (rankAt ps s n) in
-        let same : applicationKept ps es n node (maskOf maxFaceNodes ms) kept ≡ faceKept ps es s (firsts .nodes) row n kept =
-        ap (λ (m : ℕ). applicationKept ps es n node m kept) (sym (a .rank .mask)) ∙ sym
+        let same : applicationKept q ps es n node (maskOf maxFaceNodes ms) kept ≡ faceKept q ps es s (firsts .nodes) row n kept =
+        ap (λ (m : ℕ). applicationKept q ps es n node m kept) (sym (a .rank .mask)) ∙ sym
         (choose-true _ _ (ap (λ (g : ℕ). eqb g 6) (a .tag))) in
-        subst (λ (c : ℕ). Step es (faceKept ps es s (firsts .nodes) row n kept) ks (Suits (rowBody p r f) (x .term))
+        subst (λ (c : ℕ). Step es (faceKept q ps es s (firsts .nodes) row n kept) ks (Suits (rowBody p r f) (x .term))
         (applicationLowest (rowBody p r f) c x)) one-argument
         (subst (λ (o : Option (List ℕ)). Step es o ks (Suits (rowBody p r f) (x .term)) (applicationLowest (rowBody p r f) 1 x)) same
         (application-step p (l .accepted .within) n f x recorded (a .applies) spotted node (faceOf p f) (a .rank .face) (a .isFace) ms
         (a .rank .choice)
-        (a .rank .small) (a .isBody) (closed f (a .isFunction)) kept ks first))
+        (a .rank .small) (a .isBody) (closed f (a .isFunction)) q (l .tells) kept ks first))
 
     -- One face
     face-step : (n : ℕ) (x : Face) → RecordedFace p n x → x ∈ l .found → Spotted es 0 x → (kept : List ℕ) (ks : List Source)
         → meaning.Firsts es kept ks
-        → Step es (faceKept ps es s (firsts .nodes) row n kept) ks (SlotFits (rowBody p r) x (x .what))
+        → Step es (faceKept q ps es s (firsts .nodes) row n kept) ks (SlotFits (rowBody p r) x (x .what))
         (slotLowest (rowBody p r) x (x .what))
     face-step n x recorded m spotted kept ks first = go (x .what) refl
       where
         plain : (z : Slot) → x .what ≡ z → eqb (tagOf (slot z)) 6 ≡ false
-            → Step es (faceKept ps es s (firsts .nodes) row n kept) ks (Unit {0}) (some [])
+            → Step es (faceKept q ps es s (firsts .nodes) row n kept) ks (Unit {0}) (some [])
         plain z e t =
             subst (λ (o : Option (List ℕ)). Step es o ks (Unit {0}) (some []))
             (sym (plain-slot n x recorded kept (ap (λ (y : Slot). eqb (tagOf (slot y)) 6) e ∙ t))) (step-nothing es ks kept first)
 
         go : (z : Slot) → x .what ≡ z
-            → Step es (faceKept ps es s (firsts .nodes) row n kept) ks (SlotFits (rowBody p r) x z) (slotLowest (rowBody p r) x z)
+            → Step es (faceKept q ps es s (firsts .nodes) row n kept) ks (SlotFits (rowBody p r) x z) (slotLowest (rowBody p r) x z)
         go (metavariable k) e = plain (metavariable k) e refl
         go (hole k) e = plain (hole k) e refl
         go (function f k) e = application-face n x recorded spotted f k e (applied-at n x recorded m f k e) kept ks first
@@ -185,30 +187,30 @@ module _ (p : Problem) (ns : List ℕ) (s : ℕ) (firsts : Firsts) (l : Laid p (
     -- All of them
     faces-step : (ms : List ℕ) (xs : List Face) → Recorded p ms xs → ((x : Face) → x ∈ xs → x ∈ l .found) → All (Spotted es 0) xs
         → (kept : List ℕ) (ks : List Source) → meaning.Firsts es kept ks
-        → Step es (facesKept ps es s (firsts .nodes) row ms kept) ks (All (λ x. SlotFits (rowBody p r) x (x .what)) xs)
+        → Step es (facesKept q ps es s (firsts .nodes) row ms kept) ks (All (λ x. SlotFits (rowBody p r) x (x .what)) xs)
         (eachSome (λ x. slotLowest (rowBody p r) x (x .what)) xs)
     unfolding facesKept
-    faces-step [] [] q h a kept ks first = step-nothing es ks kept first
-    faces-step [] (x ∷ xs) q h a kept ks first = absurd q
-    faces-step (n ∷ ms) [] q h a kept ks first = absurd q
-    faces-step (n ∷ ms) (x ∷ xs) q h a kept ks first =
-        step-then es ks (faceKept ps es s (firsts .nodes) row n kept) (λ next. facesKept ps es s (firsts .nodes) row ms next)
+    faces-step [] [] recorded h a kept ks first = step-nothing es ks kept first
+    faces-step [] (x ∷ xs) recorded h a kept ks first = absurd recorded
+    faces-step (n ∷ ms) [] recorded h a kept ks first = absurd recorded
+    faces-step (n ∷ ms) (x ∷ xs) recorded h a kept ks first =
+        step-then es ks (faceKept q ps es s (firsts .nodes) row n kept) (λ next. facesKept q ps es s (firsts .nodes) row ms next)
         (SlotFits (rowBody p r) x (x .what)) (All (λ y. SlotFits (rowBody p r) y (y .what)) xs)
         (slotLowest (rowBody p r) x (x .what)) (eachSome (λ y. slotLowest (rowBody p r) y (y .what)) xs)
-        (face-step n x (q .0) (h x (List·Memᴰ·head refl)) (a .0) kept ks first)
-        (λ next ds later. faces-step ms xs (q .1) (λ y m. h y (List·Memᴰ·tail m)) (a .1) next (ks ++ ds) later)
+        (face-step n x (recorded .0) (h x (List·Memᴰ·head refl)) (a .0) kept ks first)
+        (λ next ds later. faces-step ms xs (recorded .1) (λ y m. h y (List·Memᴰ·tail m)) (a .1) next (ks ++ ds) later)
 
     -- THE PLAIN FACES AND THEN THE APPLICATIONS
-    pub demanded-step : Step es (demandedAt ps es ns s firsts row) [] (Unit {0} × All (λ x. SlotFits (rowBody p r) x (x .what)) (l .found))
-        (lowestIn (rowBody p r) (l .found))
+    pub demanded-step : Step es (demandedAt q ps es ns s firsts row) []
+        (Unit {0} × All (λ x. SlotFits (rowBody p r) x (x .what)) (l .found)) (lowestIn (rowBody p r) (l .found))
     unfolding demandedAt
     demanded-step =
-        step-then es [] (keptAfter es noneKept (demandsIn ps ns)) (λ kept. facesKept ps es s (firsts .nodes) row ns kept) (Unit {0})
+        step-then es [] (keptAfter q noneKept (demandsIn ps ns)) (λ kept. facesKept q ps es s (firsts .nodes) row ns kept) (Unit {0})
         (All (λ x. SlotFits (rowBody p r) x (x .what)) (l .found)) (some (each sourceOf (l .found)))
         (eachSome (λ x. slotLowest (rowBody p r) x (x .what)) (l .found))
-        (step-told es [] (keptAfter es noneKept (demandsIn ps ns)) (each sourceOf (l .found))
-        (kept-means es (expression-table p (l .accepted .within) .small) noneKept [] (demandsIn ps ns) (each sourceOf (l .found))
-        (none-first es)
+        (step-told es [] (keptAfter q noneKept (demandsIn ps ns)) (each sourceOf (l .found))
+        (kept-means es (expression-table p (l .accepted .within) .small) q (l .tells) noneKept [] (demandsIn ps ns)
+        (each sourceOf (l .found)) (none-first es)
         (recorded-say ps es _ _ _ (pattern-node p (l .accepted .within)) ns (l .found) (l .recorded)
         (recorded-moved p ns (l .found) (l .recorded) all-spotted))))
         (λ kept ds first. faces-step ns (l .found) (l .recorded) (λ x m. m) all-spotted kept ds first)

@@ -26,6 +26,7 @@ use Rattle.meaning.proofs.ChoiceLaws.{rows-are}
 use Rattle.meaning.proofs.PlaceLaws.{masks-long, small-faces}
 use Rattle.tokens.specs.Token.{patternTokens, expressionTokens}
 use Rattle.tokens.specs.Key.{at}
+use Rattle.numbers.specs.Tests.{Tests, Tells}
 use Rattle.faces.specs.First.{listed}
 use Rattle.faces.specs.Verdict.{FirstsAt}
 use Rattle.faces.specs.declared.first.Firsts.{Firsts}
@@ -63,12 +64,13 @@ function-of p xs (f ∷ fs) (j ∷ js) zero r h = (f, refl)
 function-of p xs (f ∷ fs) (j ∷ js) (suc k) r h = function-of p xs fs js k (r .1) (omega arith)
 
 -- What is laid out, over the tables of the problem
-pub laid-own : (p : Problem) (ps es ns : List ℕ) (s : ℕ) (firsts : Firsts) → Laid p ps es ns s firsts
-    → Laid p (patternTokens p) (expressionTokens p) ns s firsts
-laid-own p ps es ns s firsts l = record {
+pub laid-own : (p : Problem) (q : Tests) (ps es ns : List ℕ) (s : ℕ) (firsts : Firsts) → Laid p q ps es ns s firsts
+    → Laid p q (patternTokens p) (expressionTokens p) ns s firsts
+laid-own p q ps es ns s firsts l = record {
   accepted = l .accepted;
   patterns = refl;
   expressions = refl;
+  tells = subst (λ (t : List ℕ). Tells t q) (l .expressions) (l .tells);
   found = l .found;
   agree = l .agree;
   recorded = l .recorded;
@@ -85,7 +87,8 @@ pub record FunctionAt (p : Problem) (firsts : Firsts) (row : List ℕ) (ms : Mar
   pub small : size (one (faceOf p f)) ≤ maxFaceNodes
   pub mask : at row k ≡ maskOf maxFaceNodes ms
 
-module _ (p : Problem) (ns : List ℕ) (s : ℕ) (firsts : Firsts) (l : Laid p (patternTokens p) (expressionTokens p) ns s firsts) where
+module _ (p : Problem) (q : Tests) (ns : List ℕ) (s : ℕ) (firsts : Firsts)
+    (l : Laid p q (patternTokens p) (expressionTokens p) ns s firsts) where
   pub listed-long : length (listed firsts) ≡ firsts .count
   listed-long = length-take-le (firsts .count) (firsts .nodes) (omega (arith, l .fits .array, l .fits .count))
 

@@ -21,6 +21,7 @@ use Rattle.meaning.proofs.OneWay.{faces-walk}
 use Rattle.meaning.proofs.Slots.{faced-applied}
 use Rattle.tokens.specs.Token.{patternTokens, expressionTokens}
 use Rattle.tokens.specs.Key.{at}
+use Rattle.numbers.specs.Tests.{Tests}
 use Rattle.masks.proofs.Cases.{same-truth}
 use Rattle.faces.specs.First.{listed}
 use Rattle.faces.specs.declared.first.Firsts.{Firsts}
@@ -42,13 +43,13 @@ guarded : {A : Type 0} (b : Bool) (o : Option A) (a : A) → guard b o ≡ some 
 guarded true o a e = (refl, e)
 guarded false o a e = never (cc)
 
-module _ (p : Problem) (ns : List ℕ) (s : ℕ) (firsts : Firsts) (l : Laid p (patternTokens p) (expressionTokens p) ns s firsts) (r : Row)
-    (i : r ∈ rows p) where
+module _ (p : Problem) (q : Tests) (ns : List ℕ) (s : ℕ) (firsts : Firsts)
+    (l : Laid p q (patternTokens p) (expressionTokens p) ns s firsts) (r : Row) (i : r ∈ rows p) where
   abbrev es : List ℕ
   es = expressionTokens p
 
   abbrev answer : Option (List ℕ)
-  answer = judgedAt (patternTokens p) es ns s firsts (masksOf r)
+  answer = judgedAt q (patternTokens p) es ns s firsts (masksOf r)
 
   abbrev fits : Face → Type 0
   fits x = SlotFits (rowBody p r) x (x .what)
@@ -64,10 +65,11 @@ module _ (p : Problem) (ns : List ℕ) (s : ℕ) (firsts : Firsts) (l : Laid p (
   judged-in : (kept : List ℕ) → answer ≡ some kept → FitsTogether p r × meaning.Firsts es kept (sources p r)
   unfolding judgedAt rowBody
   judged-in kept e =
-      let (c, q) = guarded (bodiesClosed es (listed firsts) (masksOf r)) (demandedAt (patternTokens p) es ns s firsts (masksOf r)) kept e in
-      let closed = bodies-closed-in p ns s firsts l r i c in
-      let (u, (ds, d, a, f)) = demanded-step p ns s firsts l r i closed .into kept q in
-      let demanded : lowestDemands p r ≡ some ds = demands-are ∙ d in (
+      let (c, d) =
+      guarded (bodiesClosed es (listed firsts) (masksOf r)) (demandedAt q (patternTokens p) es ns s firsts (masksOf r)) kept e in
+      let closed = bodies-closed-in p q ns s firsts l r i c in
+      let (u, (ds, met, a, f)) = demanded-step p q ns s firsts l r i closed .into kept d in
+      let demanded : lowestDemands p r ≡ some ds = demands-are ∙ met in (
         record {
           alone = λ g m. record { suits = λ t w. suits (u .1) g t w; closed = closed g m };
           list = ds;
@@ -86,9 +88,9 @@ module _ (p : Problem) (ns : List ℕ) (s : ℕ) (firsts : Firsts) (l : Laid p (
   unfolding judgedAt rowBody
   judged-out x =
       let closed : (f : ℕ) → f ∈ functions p → ClosedTerm (rowBody p r f) = λ f m. x .alone f m .closed in
-      let c : bodiesClosed es (listed firsts) (masksOf r) ≡ true = bodies-closed-out p ns s firsts l r i closed in
-      ap (λ (t : Bool). isSome (guard t (demandedAt (patternTokens p) es ns s firsts (masksOf r)))) c
-      ∙ demanded-step p ns s firsts l r i closed .back (tt, mem-all fits (l .found) (λ y m. suits y m (y .what) refl)) (x .list)
+      let c : bodiesClosed es (listed firsts) (masksOf r) ≡ true = bodies-closed-out p q ns s firsts l r i closed in
+      ap (λ (t : Bool). isSome (guard t (demandedAt q (patternTokens p) es ns s firsts (masksOf r)))) c
+      ∙ demanded-step p q ns s firsts l r i closed .back (tt, mem-all fits (l .found) (λ y m. suits y m (y .what) refl)) (x .list)
       (sym demands-are ∙ x .demanded) (agreeing-tested (x .list) .0 (x .agreeing))
     where
       suits : (y : Face) → y ∈ l .found → (z : Slot) → y .what ≡ z → SlotFits b y z
@@ -104,8 +106,8 @@ module _ (p : Problem) (ns : List ℕ) (s : ℕ) (firsts : Firsts) (l : Laid p (
   solved =
       let t = solves-together p r (l .accepted) i in
       same-truth (isSome answer) (solves p r)
-      (λ q. let (kept, e) = is-some answer q in t .1 (judged-in kept e .0))
-      (λ q. judged-out (t .0 q))
+      (λ b. let (kept, e) = is-some answer b in t .1 (judged-in kept e .0))
+      (λ b. judged-out (t .0 b))
 
   judged-sources : (kept : List ℕ) → answer ≡ some kept → (m : ℕ) → m < metavariableCount → at kept m ≡ nodeOf (lookup m (sources p r))
   judged-sources kept e m h = judged-in kept e .1 .nodes m h
@@ -117,19 +119,19 @@ pub record Judgement (p : Problem) (r : Row) (a : Judged) : Type 0 where
   pub source : a .solves ≡ true → (m : ℕ) → m < metavariableCount → at (a .sources .nodes) m ≡ nodeOf (lookup m (sources p r))
 
 -- THE THEOREM
-pub judge-means : (p : Problem) (ps es ns : List ℕ) (s : ℕ) (firsts : Firsts) → Laid p ps es ns s firsts
+pub judge-means : (p : Problem) (q : Tests) (ps es ns : List ℕ) (s : ℕ) (firsts : Firsts) → Laid p q ps es ns s firsts
     → (row : List ℕ) (o : RowOf p row) (a : Judged)
-    → Judges (judgedAt ps es ns s firsts row) a → Judgement p (o .choices) a
-judge-means p ps es ns s firsts l row o a j =
-    let own = laid-own p ps es ns s firsts l in
+    → Judges (judgedAt q ps es ns s firsts row) a → Judgement p (o .choices) a
+judge-means p q ps es ns s firsts l row o a j =
+    let own = laid-own p q ps es ns s firsts l in
     let r : Row = o .choices in
-    let mine : Judges (judgedAt (patternTokens p) (expressionTokens p) ns s firsts (masksOf r)) a =
-    subst (λ (q : List ℕ). Judges (judgedAt (patternTokens p) (expressionTokens p) ns s firsts q) a) (o .masks)
-    (subst (λ (q : List ℕ). Judges (judgedAt (patternTokens p) q ns s firsts row) a) (l .expressions)
-    (subst (λ (q : List ℕ). Judges (judgedAt q es ns s firsts row) a) (l .patterns) j)) in
+    let mine : Judges (judgedAt q (patternTokens p) (expressionTokens p) ns s firsts (masksOf r)) a =
+    subst (λ (t : List ℕ). Judges (judgedAt q (patternTokens p) (expressionTokens p) ns s firsts t) a) (o .masks)
+    (subst (λ (t : List ℕ). Judges (judgedAt q (patternTokens p) t ns s firsts row) a) (l .expressions)
+    (subst (λ (t : List ℕ). Judges (judgedAt q t es ns s firsts row) a) (l .patterns) j)) in
     record {
-      solution = mine .solves ∙ solved p ns s firsts own r (o .isRow);
-      source = λ q m h.
-          let (kept, e) = is-some (judgedAt (patternTokens p) (expressionTokens p) ns s firsts (masksOf r)) (sym (mine .solves) ∙ q) in
-          ap (λ (ks : List ℕ). at ks m) (mine .nodes kept e) ∙ judged-sources p ns s firsts own r (o .isRow) kept e m h;
+      solution = mine .solves ∙ solved p q ns s firsts own r (o .isRow);
+      source = λ b m h.
+          let (kept, e) = is-some (judgedAt q (patternTokens p) (expressionTokens p) ns s firsts (masksOf r)) (sym (mine .solves) ∙ b) in
+          ap (λ (ks : List ℕ). at ks m) (mine .nodes kept e) ∙ judged-sources p q ns s firsts own r (o .isRow) kept e m h;
     }

@@ -1,4 +1,5 @@
 -- The test of a row on the token tables: what its demands lead to, or none where the row is no solution row.
+--   q         what is asked of the nodes of the expressions, whoever answers it
 --   kept      the node that each metavariable's value is copied from, so far (crate `sources`)
 --   nodes     the first face of each function, and row its mask: those of function f stand at its rank among the functions
 --   span      the nodes of an application's argument, across from what stands at the lowest hole of its function's body
@@ -12,6 +13,7 @@ use lib.Dec.{eqb}
 use Rattle.meaning.specs.Basics.{choose, guard, andThen, isSome}
 use Rattle.tokens.specs.Token.{tagIn, depthIn, sizeIn, payloadIn}
 use Rattle.tokens.specs.Key.{at}
+use Rattle.numbers.specs.Tests.{Tests}
 use Rattle.metavariables.specs.Survey.{count}
 use Rattle.lockstep.specs.Walk.{patternNode, expressionNode}
 use Rattle.lockstep.specs.Span.{spanWalk}
@@ -44,30 +46,30 @@ argumentSpan ps es n mask = record {
 }
 
 -- What the argument demands there
-unfoldable pub argumentKept : List ℕ → List ℕ → ℕ → ℕ → List ℕ → Option (List ℕ)
-argumentKept ps es n mask kept = andThen (spanWalk ps es (argumentSpan ps es n mask)) (λ ns. keptAfter es kept (demandsIn ps ns))
+unfoldable pub argumentKept : Tests → List ℕ → List ℕ → ℕ → ℕ → List ℕ → Option (List ℕ)
+argumentKept q ps es n mask kept = andThen (spanWalk ps es (argumentSpan ps es n mask)) (λ ns. keptAfter q kept (demandsIn ps ns))
 
 -- One application, by the face and the mask of its function. "An open metavariable stands only in arguments of functions whose body has
 -- no hole": without a hole the argument demands nothing
-unfoldable pub applicationKept : List ℕ → List ℕ → ℕ → ℕ → ℕ → List ℕ → Option (List ℕ)
-applicationKept ps es n node mask kept =
-    guard (suitsAt es node (expressionNode n) mask) (choose (eqb mask 0) (some kept) (argumentKept ps es n mask kept))
+unfoldable pub applicationKept : Tests → List ℕ → List ℕ → ℕ → ℕ → ℕ → List ℕ → Option (List ℕ)
+applicationKept q ps es n node mask kept =
+    guard (suitsAt q es node (expressionNode n) mask) (choose (eqb mask 0) (some kept) (argumentKept q ps es n mask kept))
 
 -- "one choice for each function, by ascending metavariable number"
 abbrev pub rankAt : List ℕ → ℕ → ℕ → ℕ
 rankAt ps functions n = count (payloadIn (at ps (patternNode n))) functions
 
 -- One recorded face, and all of them in order
-unfoldable pub faceKept : List ℕ → List ℕ → ℕ → List ℕ → List ℕ → ℕ → List ℕ → Option (List ℕ)
-faceKept ps es functions nodes row n kept =
+unfoldable pub faceKept : Tests → List ℕ → List ℕ → ℕ → List ℕ → List ℕ → ℕ → List ℕ → Option (List ℕ)
+faceKept q ps es functions nodes row n kept =
     choose (eqb (tagIn (at ps (patternNode n))) 6)
-    (applicationKept ps es n (at nodes (rankAt ps functions n)) (at row (rankAt ps functions n)) kept)
+    (applicationKept q ps es n (at nodes (rankAt ps functions n)) (at row (rankAt ps functions n)) kept)
     (some kept)
 
-unfoldable pub facesKept : List ℕ → List ℕ → ℕ → List ℕ → List ℕ → List ℕ → List ℕ → Option (List ℕ)
-facesKept ps es functions nodes row [] kept = some kept
-facesKept ps es functions nodes row (n ∷ ns) kept =
-    andThen (faceKept ps es functions nodes row n kept) (λ next. facesKept ps es functions nodes row ns next)
+unfoldable pub facesKept : Tests → List ℕ → List ℕ → ℕ → List ℕ → List ℕ → List ℕ → List ℕ → Option (List ℕ)
+facesKept q ps es functions nodes row [] kept = some kept
+facesKept q ps es functions nodes row (n ∷ ns) kept =
+    andThen (faceKept q ps es functions nodes row n kept) (λ next. facesKept q ps es functions nodes row ns next)
 
 -- Before any demand
 abbrev pub noneKept : List ℕ
@@ -75,12 +77,12 @@ noneKept = replicate 32 openNode
 
 -- "A value comes from the metavariable's first occurrence outside arguments, else from the first application ..": so the plain faces
 -- come first, and then the applications
-unfoldable pub demandedAt : List ℕ → List ℕ → List ℕ → ℕ → Firsts → List ℕ → Option (List ℕ)
-demandedAt ps es faces functions firsts row =
-    andThen (keptAfter es noneKept (demandsIn ps faces)) (λ kept. facesKept ps es functions (firsts .nodes) row faces kept)
+unfoldable pub demandedAt : Tests → List ℕ → List ℕ → List ℕ → ℕ → Firsts → List ℕ → Option (List ℕ)
+demandedAt q ps es faces functions firsts row =
+    andThen (keptAfter q noneKept (demandsIn ps faces)) (λ kept. facesKept q ps es functions (firsts .nodes) row faces kept)
 
-unfoldable pub judgedAt : List ℕ → List ℕ → List ℕ → ℕ → Firsts → List ℕ → Option (List ℕ)
-judgedAt ps es faces functions firsts row = guard (bodiesClosed es (listed firsts) row) (demandedAt ps es faces functions firsts row)
+unfoldable pub judgedAt : Tests → List ℕ → List ℕ → List ℕ → ℕ → Firsts → List ℕ → Option (List ℕ)
+judgedAt q ps es faces functions firsts row = guard (bodiesClosed es (listed firsts) row) (demandedAt q ps es faces functions firsts row)
 
 -- The answer: whether it is a solution row, and then the nodes
 pub record Judges (o : Option (List ℕ)) (r : Judged) : Type 0 where

@@ -1,5 +1,5 @@
-// The test of a row: whether it is a solution row, and where the value of each metavariable is copied from. It looks at the token tables
-// and at the recorded faces alone. That its answer is document 01's is proofs/Meaning.
+// The test of a row: whether it is a solution row, and where the value of each metavariable is copied from. It looks at the token tables,
+// at the numbers of the expressions' nodes and at the recorded faces alone. That its answer is document 01's is proofs/Meaning.
 use bodies::body_closed;
 use bodies::lowest;
 use bodies::suits;
@@ -22,6 +22,7 @@ ghost use mathlib.Core.Path.{_≡_};
 ghost use mathlib.Core.Bool.{true};
 ghost use Rattle.faces.specs.First.{listed};
 ghost use Rattle.meaning.specs.Basics.{All};
+ghost use Rattle.numbers.specs.Tests.{told};
 ghost use Rattle.sources.specs.Kept.{Kept, Answers};
 ghost use Rattle.fit.specs.Judging.{bodiesClosed, argumentKept, applicationKept, faceKept, facesKept, demandedAt, judgedAt, Judges};
 ghost use Rattle.fit.specs.Ready.{Tables, Bodies, Walkable, Applicable, Slots, Ready};
@@ -53,13 +54,15 @@ fn bodies_closed(es: &[u64], firsts: Firsts, row: [u64; MAX_FUNCTIONS]) -> bool
 fn argument_demanded(
     ps: &[u64],
     es: &[u64],
+    ns: &[u64],
     face: u64,
     mask: u64,
     kept: Sources,
     scratch: &mut [u64],
 ) -> Agreed
-    requires { ⌜ Tables (now ps) (now es) (now scratch) × Walkable (now ps) (now es) face mask × Kept (now es) (kept .nodes) ⌝ }
-    ensures { λ r. ⌜ Answers (argumentKept (now (ps .entry)) (now (es .entry)) face mask (kept .nodes)) r ⌝ }
+    requires { ⌜ Tables (now ps) (now es) (now ns) (now scratch) × Walkable (now ps) (now es) (now ns) face mask
+        × Kept (now ns) (kept .nodes) ⌝ }
+    ensures { λ r. ⌜ Answers (argumentKept (told (now (ns .entry))) (now (ps .entry)) (now (es .entry)) face mask (kept .nodes)) r ⌝ }
 {
     let i = (face % 65536) as usize;
     let x = ps[i];
@@ -76,7 +79,7 @@ fn argument_demanded(
             ok: false,
             sources: kept,
         },
-        Shapes::Faces(n) => all_demanded(ps, es, &scratch[..n], kept),
+        Shapes::Faces(n) => all_demanded(ps, ns, &scratch[..n], kept),
     }
 }
 
@@ -85,16 +88,19 @@ fn argument_demanded(
 fn application_demanded(
     ps: &[u64],
     es: &[u64],
+    ns: &[u64],
     face: u64,
     node: usize,
     mask: u64,
     kept: Sources,
     scratch: &mut [u64],
 ) -> Agreed
-    requires { ⌜ Tables (now ps) (now es) (now scratch) × Applicable (now ps) (now es) face node mask × Kept (now es) (kept .nodes) ⌝ }
-    ensures { λ r. ⌜ Answers (applicationKept (now (ps .entry)) (now (es .entry)) face node mask (kept .nodes)) r ⌝ }
+    requires { ⌜ Tables (now ps) (now es) (now ns) (now scratch) × Applicable (now ps) (now es) (now ns) face node mask
+        × Kept (now ns) (kept .nodes) ⌝ }
+    ensures { λ r. ⌜ Answers (applicationKept (told (now (ns .entry))) (now (ps .entry)) (now (es .entry))
+        face node mask (kept .nodes)) r ⌝ }
 {
-    if !suits(es, node, (face / 65536) as usize, mask) {
+    if !suits(es, ns, node, (face / 65536) as usize, mask) {
         return Agreed {
             ok: false,
             sources: kept,
@@ -106,13 +112,14 @@ fn application_demanded(
             sources: kept,
         };
     }
-    argument_demanded(ps, es, face, mask, kept, scratch)
+    argument_demanded(ps, es, ns, face, mask, kept, scratch)
 }
 
 // One recorded face: that of an application, by the rank of its function.
 fn face_demanded(
     ps: &[u64],
     es: &[u64],
+    ns: &[u64],
     face: u64,
     functions: u32,
     nodes: [usize; MAX_FUNCTIONS],
@@ -120,8 +127,10 @@ fn face_demanded(
     kept: Sources,
     scratch: &mut [u64],
 ) -> Agreed
-    requires { ⌜ Tables (now ps) (now es) (now scratch) × Slots (now ps) (now es) functions nodes row face × Kept (now es) (kept .nodes) ⌝ }
-    ensures { λ r. ⌜ Answers (faceKept (now (ps .entry)) (now (es .entry)) functions nodes row face (kept .nodes)) r ⌝ }
+    requires { ⌜ Tables (now ps) (now es) (now ns) (now scratch) × Slots (now ps) (now es) (now ns) functions nodes row face
+        × Kept (now ns) (kept .nodes) ⌝ }
+    ensures { λ r. ⌜ Answers (faceKept (told (now (ns .entry))) (now (ps .entry)) (now (es .entry))
+        functions nodes row face (kept .nodes)) r ⌝ }
 {
     let x = ps[(face % 65536) as usize];
     if tag(x) != 6 {
@@ -131,13 +140,14 @@ fn face_demanded(
         };
     }
     let k = rank(functions, payload(x) as u32);
-    application_demanded(ps, es, face, nodes[k], row[k], kept, scratch)
+    application_demanded(ps, es, ns, face, nodes[k], row[k], kept, scratch)
 }
 
 // All recorded faces in order, until one does not fit or its demands disagree.
 fn faces_demanded(
     ps: &[u64],
     es: &[u64],
+    ns: &[u64],
     faces: &[u64],
     functions: u32,
     nodes: [usize; MAX_FUNCTIONS],
@@ -145,13 +155,15 @@ fn faces_demanded(
     sources: Sources,
     scratch: &mut [u64],
 ) -> Agreed
-    requires { ⌜ Tables (now ps) (now es) (now scratch) × All (Slots (now ps) (now es) functions nodes row) (now faces) × Kept (now es) (sources .nodes) ⌝ }
-    ensures { λ r. ⌜ Answers (facesKept (now (ps .entry)) (now (es .entry)) functions nodes row (now (faces .entry)) (sources .nodes)) r ⌝ }
+    requires { ⌜ Tables (now ps) (now es) (now ns) (now scratch) × All (Slots (now ps) (now es) (now ns) functions nodes row) (now faces)
+        × Kept (now ns) (sources .nodes) ⌝ }
+    ensures { λ r. ⌜ Answers (facesKept (told (now (ns .entry))) (now (ps .entry)) (now (es .entry))
+        functions nodes row (now (faces .entry)) (sources .nodes)) r ⌝ }
 {
     let mut kept = sources;
     let mut k = 0;
     while k < faces.len() {
-        let next = face_demanded(ps, es, faces[k], functions, nodes, row, kept, scratch);
+        let next = face_demanded(ps, es, ns, faces[k], functions, nodes, row, kept, scratch);
         if !next.ok {
             return next;
         }
@@ -169,39 +181,44 @@ fn faces_demanded(
 fn all_faces(
     ps: &[u64],
     es: &[u64],
+    ns: &[u64],
     faces: &[u64],
     functions: u32,
     firsts: Firsts,
     row: [u64; MAX_FUNCTIONS],
     scratch: &mut [u64],
 ) -> Agreed
-    requires { ⌜ Ready (now ps) (now es) (now faces) functions firsts row (now scratch) × (bodiesClosed (now es) (listed firsts) row ≡ true) ⌝ }
-    ensures { λ r. ⌜ Answers (demandedAt (now (ps .entry)) (now (es .entry)) (now (faces .entry)) functions firsts row) r ⌝ }
+    requires { ⌜ Ready (now ps) (now es) (now ns) (now faces) functions firsts row (now scratch)
+        × (bodiesClosed (now es) (listed firsts) row ≡ true) ⌝ }
+    ensures { λ r. ⌜ Answers (demandedAt (told (now (ns .entry))) (now (ps .entry)) (now (es .entry))
+        (now (faces .entry)) functions firsts row) r ⌝ }
 {
     let none = Sources {
         nodes: [OPEN; METAVARIABLES as usize],
     };
-    let plain = all_demanded(ps, es, faces, none);
+    let plain = all_demanded(ps, ns, faces, none);
     if !plain.ok {
         return plain;
     }
     let nodes = firsts.nodes;
     let kept = plain.sources;
-    faces_demanded(ps, es, faces, functions, nodes, row, kept, scratch)
+    faces_demanded(ps, es, ns, faces, functions, nodes, row, kept, scratch)
 }
 
 // A row of an accepted problem that has rows. `scratch` is written over.
 pub fn judge(
     ps: &[u64],
     es: &[u64],
+    ns: &[u64],
     faces: &[u64],
     functions: u32,
     firsts: Firsts,
     row: [u64; MAX_FUNCTIONS],
     scratch: &mut [u64],
 ) -> Judged
-    requires { ⌜ Ready (now ps) (now es) (now faces) functions firsts row (now scratch) ⌝ }
-    ensures { λ r. ⌜ Judges (judgedAt (now (ps .entry)) (now (es .entry)) (now (faces .entry)) functions firsts row) r ⌝ }
+    requires { ⌜ Ready (now ps) (now es) (now ns) (now faces) functions firsts row (now scratch) ⌝ }
+    ensures { λ r. ⌜ Judges (judgedAt (told (now (ns .entry))) (now (ps .entry)) (now (es .entry))
+        (now (faces .entry)) functions firsts row) r ⌝ }
 {
     if !bodies_closed(es, firsts, row) {
         return Judged {
@@ -211,7 +228,7 @@ pub fn judge(
             },
         };
     }
-    let end = all_faces(ps, es, faces, functions, firsts, row, scratch);
+    let end = all_faces(ps, es, ns, faces, functions, firsts, row, scratch);
     let kept = end.sources;
     Judged {
         solves: end.ok,

@@ -1,15 +1,17 @@
--- T-02: two subexpressions compared node by node, and how far.
+-- T-02: two subexpressions compared node by node, and how far. T-08: a number for each node, which tells the same.
 --   preorder         a forest's labels from the top: the label of node k is the element k
 --   agree            two nodes agree: in "kind, number, binder [and] child count", of a bound variable in its binder
 --   pairs            "the number of node pairs compared"
 --   subexpressions   each node of a problem's expressions, as it is seen from outside it (`Choice`): the face is here all expressions, in
 --                    which nothing is bound outside, so that a binder outside a node is known by its own node
 --   Comparison       what a comparison of two subexpressions answers: yes or no, and with it the number of pairs
+--   Numbers          the nodes' numbers in a list, node by node; past the last node there is neither a number nor a subexpression
 use mathlib.Core.Path.{_≡_}
 use mathlib.Core.Logic.{_↔_}
 use Prim.Native.Nat.{ℕ, suc}
 use mathlib.Core.Bool.{Bool, true}
 use mathlib.Core.List.{List, [], _∷_, _++_}
+use lib.ListN.{getElem?}
 use Rattle.meaning.specs.Basics.{choose}
 use Rattle.meaning.specs.Term.{Forest, Label, cons, nil}
 use Rattle.meaning.specs.Equal.{Seen, View}
@@ -42,3 +44,7 @@ subexpressions p = viewsFrom [] 0 (expressions p)
 pub record Comparison (u v : View Owner) (equal : Bool) (n : ℕ) : Type 0 where
   pub verdict : (equal ≡ true) ↔ (u ≡ v)
   pub count : n ≡ pairsOf u v
+
+-- "a number, the same for two nodes exactly when their subexpressions are equal"
+abbrev pub Numbers : Problem → List ℕ → Type 0
+Numbers p ns = (a b : ℕ) → (getElem? ns a ≡ getElem? ns b) ↔ (getElem? (subexpressions p) a ≡ getElem? (subexpressions p) b)

@@ -106,18 +106,18 @@ module _ (p : Problem) (a : Accepted p) (ds : List ℕ) (hasRows : Bool) (told :
       go false e h = past-named h .isValue ∙ ap (λ (l : List Row). placeValue (placeOf l)) (sym (no-rows p (sym told ∙ e)))
 
 -- The answers of `start`
-module _ (s ps es fs ds : List ℕ) (prepared : Prepared) (h : Prepares (accept s) ps es fs ds prepared) where
+module _ (s ps es ns fs ds : List ℕ) (prepared : Prepared) (h : Prepares (accept s) ps es ns fs ds prepared) where
   pub starts-refused : (n : ℕ) (r : Started) → prepared .verdict ≡ verdicts.Refused n → r .answer ≡ starts.Refused n
       → Starts (startCall s) r
   unfolding startCall Starts
-  starts-refused n r e q = rw (prepared-refused (accept s) ps es fs ds prepared n h e) q
+  starts-refused n r e q = rw (prepared-refused (accept s) ps es ns fs ds prepared n h e) q
 
   module _ (a : Standing) (e : prepared .verdict ≡ verdicts.Accepted a) where
-    ready : Ready (accept s) ps es fs ds a (prepared .firsts)
-    ready = prepared-accepted (accept s) ps es fs ds prepared a h e
+    ready : Ready (accept s) ps es ns fs ds a (prepared .firsts)
+    ready = prepared-accepted (accept s) ps es ns fs ds prepared a h e
 
     pub starts-open : Openable (a .rows) ds
-    starts-open t = tabled-tables (ready .problem) ds (ready-tables (accept s) ps es fs ds a (prepared .firsts) ready t)
+    starts-open t = tabled-tables (ready .problem) ds (ready-tables (accept s) ps es ns fs ds a (prepared .firsts) ready t)
 
     pub starts-begins : (r : Started) → r .answer ≡ starts.Begins → Begins (a .rows) ds (r .place) → Starts (startCall s) r
     unfolding startCall Starts
@@ -125,5 +125,5 @@ module _ (s ps es fs ds : List ℕ) (prepared : Prepared) (h : Prepares (accept 
         rw (ready .answer) (
           q,
           begins-start (ready .problem) (ready .laid .accepted) ds (a .rows) (ready .laid .hasRows)
-              (ready-tables (accept s) ps es fs ds a (prepared .firsts) ready) (r .place) b,
+              (ready-tables (accept s) ps es ns fs ds a (prepared .firsts) ready) (r .place) b,
         )

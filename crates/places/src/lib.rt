@@ -95,9 +95,10 @@ impl Place {
     {
         let mut ps = [0u64; TABLE_ROOM];
         let mut es = [0u64; TABLE_ROOM];
+        let mut ns = [0u64; TABLE_ROOM];
         let mut fs = [0u64; TABLE_ROOM];
         let mut ds = [0u64; Place::MAX_FUNCTIONS * Place::MAX_FACE_NODES];
-        let prepared = prepare(problem, &mut ps, &mut es, &mut fs, &mut ds);
+        let prepared = prepare(problem, &mut ps, &mut es, &mut ns, &mut fs, &mut ds);
         let verdict = prepared.verdict;
         match verdict {
             Verdict::Refused(r) => Started {

@@ -6,7 +6,7 @@ use mathlib.Core.Option.{Option, none, some}
 use Prim.Native.Nat.{ℕ, suc, _*_, _<_, _≤_}
 use native.Mathlib.Omega.{arith}
 use lib.ListN.{length, take, drop, length-append, length-take, replicate, length-replicate}
-use lib.Seq.{take-at}
+use lib.Seq.{take-at, length-take-le}
 use Rattle.meaning.specs.Limits.{metavariableCount, maxFunctions}
 use Rattle.meaning.specs.Basics.{All, isSome}
 use Rattle.meaning.specs.Term.{Term}
@@ -19,6 +19,10 @@ use Rattle.meaning.proofs.Lists.{is-some}
 use Rattle.meaning.proofs.PlaceLaws.{few-functions}
 use Rattle.meaning.proofs.ProblemReading.{accept-accepted}
 use Rattle.tokens.specs.Token.{patternTokens, expressionTokens}
+use Rattle.numbers.specs.Tests.{Tests, Tells, told}
+use Rattle.numbers.specs.Numbering.{Numerable}
+use Rattle.numbers.proofs.Asked.{numbers-tell}
+use Rattle.numbers.proofs.ProblemTable.{table-numerable, table-short}
 use Rattle.metavariables.specs.Survey.{count}
 use Rattle.metavariables.proofs.SurveyMeaning.{function-count-means}
 use Rattle.lockstep.specs.Recorded.{RecordedBy}
@@ -75,12 +79,26 @@ module _ (p : Problem) (ps es fs : List ℕ) (a : Standing) (laid : Laid p ps es
         (problem-faces p (laid .accepted) found shapes (firsts .nodes) (firsts .count) (nodes .fits .count) (nodes .fits .array) nodes-mean)
 
     -- ... AND THE CLASS TABLES ARE THE PROBLEM'S
-    pub tables-mean : (ds : List ℕ) → TablesFrom (take (a .expressions) es) (firsts .nodes) (firsts .count) ds → classes.Tabled p ds
+    pub tables-mean : (q : Tests) → Tells (take (a .expressions) es) q → (ds : List ℕ)
+        → TablesFrom q (take (a .expressions) es) (firsts .nodes) (firsts .count) ds → classes.Tabled p ds
     unfolding maxFunctions
-    tables-mean ds t =
+    tables-mean q tells ds t =
         problem-tabled p (laid .accepted) found shapes (firsts .nodes) (firsts .count) (nodes .fits .count)
-        (nodes .fits .array) nodes-mean ds
-        (subst (λ (l : List ℕ). TablesFrom l (firsts .nodes) (firsts .count) ds) (laid .expressions) t)
+        (nodes .fits .array) nodes-mean q (subst (λ (l : List ℕ). Tells l q) (laid .expressions) tells) ds
+        (subst (λ (l : List ℕ). TablesFrom q l (firsts .nodes) (firsts .count) ds) (laid .expressions) t)
+
+  -- What `number_nodes` requires
+  pub table-numbers : Numerable (take (a .expressions) es)
+  table-numbers = subst Numerable (sym (laid .expressions)) (table-numerable p (laid .accepted .within))
+
+  pub table-few : a .expressions ≤ tableRoom
+  table-few =
+      omega (
+        arith,
+        table-short p (laid .accepted .within),
+        ap length (laid .expressions),
+        length-take-le (a .expressions) es (laid .expressionsInside),
+      )
 
   -- What `class_tables` requires
   pub faces-ready : (firsts : Firsts) → NodesOf (a .rows) (take (a .patterns) ps) (take (a .faces) fs) (a .occurring .functions) firsts
@@ -144,65 +162,80 @@ module _ (s ps ps′ es es′ fs′ : List ℕ) (bytes : All (λ b. b < 256) s) 
           (p, stands-laid p a e (subst (Stands p ps ps′ es es′ fs′) same (h .2)))
 
   -- The returns of `prepare`
-  pub prepares-refused : (ds : List ℕ) (n : ℕ) (r : Prepared) → Accepts (accept s) ps ps′ es es′ fs′ (verdicts.Refused n)
-      → r .verdict ≡ verdicts.Refused n → Prepares (accept s) ps′ es′ fs′ ds r
+  pub prepares-refused : (ns ds : List ℕ) (n : ℕ) (r : Prepared) → Accepts (accept s) ps ps′ es es′ fs′ (verdicts.Refused n)
+      → r .verdict ≡ verdicts.Refused n → Prepares (accept s) ps′ es′ ns fs′ ds r
   unfolding Accepts Prepares
-  prepares-refused ds n r h v = go (accept s) h
+  prepares-refused ns ds n r h v = go (accept s) h
     where
-      go : (x : Answer Problem) → Accepts x ps ps′ es es′ fs′ (verdicts.Refused n) → Prepares x ps′ es′ fs′ ds r
+      go : (x : Answer Problem) → Accepts x ps ps′ es es′ fs′ (verdicts.Refused n) → Prepares x ps′ es′ ns fs′ ds r
       go (refused m) h = v ∙ h
       go (got p) h = absurd (let q = h .1 in let z : _≡_ {A = ℕ} 0 1 = cc in omega arith)
 
-  pub prepares-accepted : (ds : List ℕ) (a : Standing) (r : Prepared) → Accepts (accept s) ps ps′ es es′ fs′ (verdicts.Accepted a)
-      → Tabling ps′ es′ fs′ ds a r → Prepares (accept s) ps′ es′ fs′ ds r
+  pub prepares-accepted : (ns ds : List ℕ) (a : Standing) (r : Prepared) → Accepts (accept s) ps ps′ es es′ fs′ (verdicts.Accepted a)
+      → Tabling ps′ es′ ns fs′ ds a r → Prepares (accept s) ps′ es′ ns fs′ ds r
   unfolding Accepts Prepares
-  prepares-accepted ds a r h t = go (accept s) refl h
+  prepares-accepted ns ds a r h t = go (accept s) refl h
     where
-      go : (x : Answer Problem) → accept s ≡ x → Accepts x ps ps′ es es′ fs′ (verdicts.Accepted a) → Prepares x ps′ es′ fs′ ds r
+      go : (x : Answer Problem) → accept s ≡ x → Accepts x ps ps′ es es′ fs′ (verdicts.Accepted a) → Prepares x ps′ es′ ns fs′ ds r
       go (refused n) e h = absurd (let z : _≡_ {A = ℕ} 0 1 = cc in omega arith)
       go (got p) e h =
           let same : h .0 ≡ a = let q = h .1 in cc in
           (a, stands-laid p a e (subst (Stands p ps ps′ es es′ fs′) same (h .2)), t)
 
 -- What the answer tells a caller
-pub prepared-refused : (x : Answer Problem) (ps es fs ds : List ℕ) (r : Prepared) (n : ℕ) → Prepares x ps es fs ds r
+pub prepared-refused : (x : Answer Problem) (ps es ns fs ds : List ℕ) (r : Prepared) (n : ℕ) → Prepares x ps es ns fs ds r
     → r .verdict ≡ verdicts.Refused n
     → x ≡ refused n
 unfolding Prepares
-prepared-refused (refused m) ps es fs ds r n h e = let z : m ≡ n = cc in ap refused z
-prepared-refused (got p) ps es fs ds r n h e = absurd (let v = h .2 .verdict in let z : _≡_ {A = ℕ} 0 1 = cc in omega arith)
+prepared-refused (refused m) ps es ns fs ds r n h e = let z : m ≡ n = cc in ap refused z
+prepared-refused (got p) ps es ns fs ds r n h e = absurd (let v = h .2 .verdict in let z : _≡_ {A = ℕ} 0 1 = cc in omega arith)
 
-pub prepared-accepted : (x : Answer Problem) (ps es fs ds : List ℕ) (r : Prepared) (a : Standing) → Prepares x ps es fs ds r
-    → r .verdict ≡ verdicts.Accepted a → Ready x ps es fs ds a (r .firsts)
+pub prepared-accepted : (x : Answer Problem) (ps es ns fs ds : List ℕ) (r : Prepared) (a : Standing) → Prepares x ps es ns fs ds r
+    → r .verdict ≡ verdicts.Accepted a → Ready x ps es ns fs ds a (r .firsts)
 unfolding Prepares
-prepared-accepted (refused m) ps es fs ds r a h e = absurd (let z : _≡_ {A = ℕ} 0 1 = cc in omega arith)
-prepared-accepted (got p) ps es fs ds r a h e =
+prepared-accepted (refused m) ps es ns fs ds r a h e = absurd (let z : _≡_ {A = ℕ} 0 1 = cc in omega arith)
+prepared-accepted (got p) ps es ns fs ds r a h e =
     let v = h .2 .verdict in
     let same : h .0 ≡ a = cc in
     record {
       problem = p;
       answer = refl;
       laid = subst (Laid p ps es fs) same (h .1);
-      tabled = subst (λ (b : Standing). Tabled ps es fs ds b (r .firsts)) same (h .2 .tabled);
+      tabled = subst (λ (b : Standing). Tabled ps es ns fs ds b (r .firsts)) same (h .2 .tabled);
     }
 
-module _ (x : Answer Problem) (ps es fs ds : List ℕ) (a : Standing) (firsts : Firsts) (ready : Ready x ps es fs ds a firsts) where
+module _ (x : Answer Problem) (ps es ns fs ds : List ℕ) (a : Standing) (firsts : Firsts) (ready : Ready x ps es ns fs ds a firsts) where
   -- Where there are rows: the faces, their nodes, the class tables
   pub ready-nodes : a .rows ≡ true → Listed (take (a .patterns) ps) (take (a .faces) fs) (a .occurring .functions) firsts
   unfolding NodesOf
   ready-nodes e =
       subst (λ (b : Bool). NodesOf b (take (a .patterns) ps) (take (a .faces) fs) (a .occurring .functions) firsts) e (ready .tabled .nodes)
 
+  -- The numbers tell what the table does
+  pub ready-tells : Tells (take (a .expressions) es) (told (take (a .expressions) ns))
+  ready-tells =
+      numbers-tell (take (a .expressions) es) (take (a .expressions) ns) (ready .tabled .numbers)
+      (table-numbers (ready .problem) ps es fs a (ready .laid) .small)
+
+  pub ready-numbers : length (take (a .expressions) ns) ≡ length (take (a .expressions) es)
+  ready-numbers =
+      length-take-le (a .expressions) ns (ready .tabled .numbersInside)
+      ∙ sym (length-take-le (a .expressions) es (ready .laid .expressionsInside))
+
   pub ready-tables : a .rows ≡ true → classes.Tabled (ready .problem) ds
   ready-tables e =
       let found = is-some (faces (ready .problem)) (sym (ready .laid .hasRows) ∙ e) in
-      tables-mean (ready .problem) ps es fs a (ready .laid) firsts (found .0) (found .1) (ready-nodes e) ds (ready .tabled .tables)
+      tables-mean (ready .problem) ps es fs a (ready .laid) firsts (found .0) (found .1) (ready-nodes e) (told (take (a .expressions) ns)) ready-tells ds
+      (ready .tabled .tables)
 
 -- Tables as the callers of `prepare` make them have room
 pub fresh-rooms : Rooms (replicate tableRoom 0) (replicate tableRoom 0) (replicate tableRoom 0)
 fresh-rooms =
     let l : length {A = ℕ} (replicate tableRoom 0) ≡ tableRoom = length-replicate {A = ℕ} tableRoom 0 in
     record { patterns = omega arith; expressions = omega arith; faces = omega arith }
+
+pub fresh-room : tableRoom ≤ length {A = ℕ} (replicate tableRoom 0)
+fresh-room = omega (arith, length-replicate {A = ℕ} tableRoom 0)
 
 pub fresh-long : Long (replicate (maxFunctions * width) 0)
 fresh-long = length-replicate {A = ℕ} (maxFunctions * width) 0

@@ -1,5 +1,5 @@
-// What happens once a call, whatever is asked: the problem is read and checked, and where it has rows the nodes of its functions'
-// faces and the class tables of these are looked up. Searching, writing and checking all begin with it.
+// What happens once a call, whatever is asked: the problem is read and checked, the nodes of its expressions are numbered, and where it has
+// rows the nodes of its functions' faces and the class tables of these are looked up. Searching and writing begin with it.
 use accept::Standing;
 use accept::Verdict;
 use accept::accept;
@@ -7,10 +7,15 @@ use classes::class_tables;
 use faces::first::Firsts;
 use faces::first::first_faces;
 use metavariables::MAX_FUNCTIONS;
+use numbers::make::number;
+use table::TABLE_ROOM;
 ghost use Prim.Native.Nat.{_≤_};
 ghost use Rattle.meaning.specs.Limits.{metavariableCount};
 ghost use Rattle.meaning.specs.Accept.{accept};
+ghost use lib.ListN.{length};
+ghost use Rattle.numbers.specs.Numbering.{Numbered, Numerable};
 ghost use Rattle.rows.specs.Rows.{Long};
+ghost use Rattle.table.specs.Whole.{tableRoom};
 ghost use Rattle.accept.specs.Acceptance.{Rooms};
 ghost use Rattle.metavariables.specs.Survey.{count};
 ghost use Rattle.prepare.specs.Prepared.{NoFaces, NodesOf, Ground, Tabling, Prepares};
@@ -42,10 +47,26 @@ fn nodes_of(rows: bool, ps: &[u64], fs: &[u64], functions: u32) -> Firsts
     no_faces()
 }
 
-// An accepted problem: the nodes of its functions' faces, and their class tables.
-fn with_tables(a: Standing, ps: &[u64], es: &[u64], fs: &[u64], ds: &mut [u64]) -> Prepared
-    requires { ⌜ Ground (now ps) (now es) (now fs) a ⌝ ∗ ⌜ Long (now ds) ⌝ }
-    ensures { λ r. ⌜ Tabling (now (ps .entry)) (now (es .entry)) (now (fs .entry)) (now (ds .exit)) a r ⌝ }
+// The numbers of all nodes of the expressions.
+fn number_nodes(es: &[u64], ns: &mut [u64])
+    requires { ⌜ Numerable (now es) × (length (now es) ≤ tableRoom) × (length (now es) ≤ length (now ns)) ⌝ }
+    ensures { λ _. ⌜ Numbered (now (es .entry)) (now (ns .exit)) ⌝ }
+{
+    let mut links = [0u64; TABLE_ROOM];
+    number(es, ns, &mut links);
+}
+
+// An accepted problem: its numbers, the nodes of its functions' faces, and their class tables.
+fn with_tables(
+    a: Standing,
+    ps: &[u64],
+    es: &[u64],
+    ns: &mut [u64],
+    fs: &[u64],
+    ds: &mut [u64],
+) -> Prepared
+    requires { ⌜ Ground (now ps) (now es) (now fs) a ⌝ ∗ ⌜ tableRoom ≤ length (now ns) ⌝ ∗ ⌜ Long (now ds) ⌝ }
+    ensures { λ r. ⌜ Tabling (now (ps .entry)) (now (es .entry)) (now (ns .exit)) (now (fs .entry)) (now (ds .exit)) a r ⌝ }
 {
     let p = a.patterns;
     let e = a.expressions;
@@ -53,7 +74,8 @@ fn with_tables(a: Standing, ps: &[u64], es: &[u64], fs: &[u64], ds: &mut [u64]) 
     let functions = a.occurring.functions;
     let firsts = nodes_of(a.rows, &ps[..p], &fs[..n], functions);
     let nodes = firsts.nodes;
-    class_tables(&es[..e], nodes, firsts.count, ds);
+    number_nodes(&es[..e], ns);
+    class_tables(&es[..e], &ns[..e], nodes, firsts.count, ds);
     Prepared {
         verdict: Verdict::Accepted(a),
         firsts: firsts,
@@ -66,11 +88,13 @@ pub fn prepare(
     problem: &[u8],
     ps: &mut [u64],
     es: &mut [u64],
+    ns: &mut [u64],
     fs: &mut [u64],
     ds: &mut [u64],
 ) -> Prepared
-    requires { ⌜ Rooms (now ps) (now es) (now fs) ⌝ ∗ ⌜ Long (now ds) ⌝ }
-    ensures { λ r. ⌜ Prepares (accept (now (problem .entry))) (now (ps .exit)) (now (es .exit)) (now (fs .exit)) (now (ds .exit)) r ⌝ }
+    requires { ⌜ Rooms (now ps) (now es) (now fs) ⌝ ∗ ⌜ tableRoom ≤ length (now ns) ⌝ ∗ ⌜ Long (now ds) ⌝ }
+    ensures { λ r. ⌜ Prepares (accept (now (problem .entry))) (now (ps .exit)) (now (es .exit)) (now (ns .exit)) (now (fs .exit))
+        (now (ds .exit)) r ⌝ }
 {
     let verdict = accept(problem, ps, es, fs);
     match verdict {
@@ -78,6 +102,6 @@ pub fn prepare(
             verdict: Verdict::Refused(r),
             firsts: no_faces(),
         },
-        Verdict::Accepted(a) => with_tables(a, ps, es, fs, ds),
+        Verdict::Accepted(a) => with_tables(a, ps, es, ns, fs, ds),
     }
 }

@@ -32,11 +32,12 @@ use Rattle.accept.specs.declared.Standing.{Standing}
 use Rattle.accept.specs.declared.Verdict.the-variants as verdicts
 use Rattle.prepare.specs.Prepared.{Prepares, Ready}
 use Rattle.prepare.specs.declared.Prepared.{Prepared}
-use Rattle.prepare.proofs.PreparedLaws.{nodes-mean, ready-nodes, ready-tables, prepared-refused, prepared-accepted}
+use Rattle.prepare.proofs.PreparedLaws.{nodes-mean, ready-nodes, ready-tells, ready-numbers, ready-tables, prepared-refused, prepared-accepted}
 use Rattle.places.specs.Places.{valueOf, IsRowOf, AtPast, Tells}
 use Rattle.places.specs.declared.Named.the-variants as named
 use Rattle.places.specs.declared.Place as code
 use Rattle.places.proofs.Naming.{row-value, past-value, same-value, row-named, past-named, nothing-named}
+use Rattle.numbers.specs.Tests.{Tests, told}
 use Rattle.fit.specs.Laid as fit
 use Rattle.fit.specs.Judging.{judgedAt}
 use Rattle.fit.proofs.Meaning.{judge-means}
@@ -50,12 +51,12 @@ use Rattle.seeking.specs.declared.Searched.{Searched}
 use Rattle.search.proofs.RowsBack.{placeTo, replyTo, keeps-back}
 
 -- The test of a row, as the code makes it, tells the solution rows
-judged-solves : (p : Problem) (ps es fs : List ℕ) (functions : ℕ) (firsts : Firsts) → fit.Laid p ps es fs functions firsts
-    → (r : Row) → r ∈ rows p → (isSome (judgedAt ps es fs functions firsts (masksOf r)) ≡ true) ↔ SolutionRow p r
-judged-solves p ps es fs functions firsts h r m =
-    let o : Option (List ℕ) = judgedAt ps es fs functions firsts (masksOf r) in
+judged-solves : (p : Problem) (q : Tests) (ps es fs : List ℕ) (functions : ℕ) (firsts : Firsts) → fit.Laid p q ps es fs functions firsts
+    → (r : Row) → r ∈ rows p → (isSome (judgedAt q ps es fs functions firsts (masksOf r)) ≡ true) ↔ SolutionRow p r
+judged-solves p q ps es fs functions firsts h r m =
+    let o : Option (List ℕ) = judgedAt q ps es fs functions firsts (masksOf r) in
     let same : isSome o ≡ solves p r =
-    judge-means p ps es fs functions firsts h (masksOf r) (record { choices = r; isRow = m; masks = refl })
+    judge-means p q ps es fs functions firsts h (masksOf r) (record { choices = r; isRow = m; masks = refl })
     (record { solves = isSome o; sources = record { nodes = orNone o } })
     (record { solves = refl; nodes = λ kept e. ap orNone e }) .solution in
     let right = solves-is-right p r (h .accepted) m in
@@ -131,7 +132,7 @@ module _ (p : Problem) (n : ℕ) (place : PlaceValue) where
       record { same = cc; leaves = refl }
 
 -- A prepared problem
-module _ (s : Bytes) (ps es fs ds : List ℕ) (a : Standing) (firsts : Firsts) (ready : Ready (accept s) ps es fs ds a firsts) where
+module _ (s : Bytes) (ps es ns fs ds : List ℕ) (a : Standing) (firsts : Firsts) (ready : Ready (accept s) ps es ns fs ds a firsts) where
   abbrev p : Problem
   p = ready .problem
 
@@ -141,19 +142,23 @@ module _ (s : Bytes) (ps es fs ds : List ℕ) (a : Standing) (firsts : Firsts) (
   abbrev es′ : List ℕ
   es′ = take (a .expressions) es
 
+  abbrev ns′ : List ℕ
+  ns′ = take (a .expressions) ns
+
   abbrev fs′ : List ℕ
   fs′ = take (a .faces) fs
 
   -- What `judge` is told
-  pub ready-laid : a .rows ≡ true → fit.Laid p ps′ es′ fs′ (a .occurring .functions) firsts
+  pub ready-laid : a .rows ≡ true → fit.Laid p (told ns′) ps′ es′ fs′ (a .occurring .functions) firsts
   ready-laid e =
       let laid = ready .laid in
       let (xs, shapes) = is-some (faces p) (sym (laid .hasRows) ∙ e) in
-      let nodes = ready-nodes (accept s) ps es fs ds a firsts ready e in
+      let nodes = ready-nodes (accept s) ps es ns fs ds a firsts ready e in
       record {
         accepted = laid .accepted;
         patterns = laid .patterns;
         expressions = laid .expressions;
+        tells = ready-tells (accept s) ps es ns fs ds a firsts ready;
         found = xs;
         agree = shapes;
         recorded = laid .recorded xs shapes;
@@ -166,13 +171,14 @@ module _ (s : Bytes) (ps es fs ds : List ℕ) (a : Standing) (firsts : Firsts) (
   pub ready-seekable : (fixed : Fixed) (v : code.Place) (scratch : List ℕ) → fixed .functions ≡ a .occurring .functions
       → fixed .firsts ≡ firsts
       → placeOf (maskRows ds) ≡ at (fixed .first) → IsRowOf v (a .rows) ds → length ps ≤ length scratch
-      → Seekable ps′ es′ fs′ ds fixed (v .masks) scratch
+      → Seekable ps′ es′ ns′ fs′ ds fixed (v .masks) scratch
   ready-seekable fixed v scratch f g first h room =
       record {
         grounded = record {
           problem = p;
           laid = rw (f, g) (ready-laid (h .someRows));
-          tabled = ready-tables (accept s) ps es fs ds a firsts ready (h .someRows);
+          numbers = ready-numbers (accept s) ps es ns fs ds a firsts ready;
+          tabled = ready-tables (accept s) ps es ns fs ds a firsts ready (h .someRows);
           first = first;
           room = omega (arith, length-take-le (a .patterns) ps (ready .laid .patternsInside), ready .laid .patternsInside);
         };
@@ -186,13 +192,13 @@ module _ (s : Bytes) (ps es fs ds : List ℕ) (a : Standing) (firsts : Firsts) (
         refuses-answers s place n 16 r h
         (onAccepted p (ready .answer) (noSuchPlace above
         (nothing-named p (ready .laid .accepted) ds (a .rows) (ready .laid .hasRows)
-        (ready-tables (accept s) ps es fs ds a firsts ready) place f g)))
+        (ready-tables (accept s) ps es ns fs ds a firsts ready) place f g)))
 
     -- Past the last there is nothing to find
     pub answers-past : AtPast place → Ended r → Answers s place n r
     answers-past h d =
         let named = past-named p (ready .laid .accepted) ds (a .rows) (ready .laid .hasRows)
-        (ready-tables (accept s) ps es fs ds a firsts ready) in
+        (ready-tables (accept s) ps es ns fs ds a firsts ready) in
         let w : valueOf (r .place) ≡ placeValue past = named (r .place) (d .place) .isValue in
         let e : hostReply r ≡ replyValue (end past) =
         ap (λ (x : Answer). replyWith x (r .row) (valueOf (r .place))) (d .answer) ∙ ap {B = HostReply} end w in
@@ -205,7 +211,7 @@ module _ (s : Bytes) (ps es fs ds : List ℕ) (a : Standing) (firsts : Firsts) (
         }
 
     -- From a row on
-    pub answers-row : IsRowOf place (a .rows) ds → Sought ps es fs ds a firsts (place .masks) n r → Answers s place n r
+    pub answers-row : IsRowOf place (a .rows) ds → Sought ps es ns fs ds a firsts (place .masks) n r → Answers s place n r
     answers-row h d =
         let (r₀, m, e, named) = row-named p (ready .laid .accepted) ds (a .rows) (ready .laid .hasRows) tables place h in
         let (before, later, split) = mem-split r₀ (rows p) m in
@@ -213,7 +219,7 @@ module _ (s : Bytes) (ps es fs ds : List ℕ) (a : Standing) (firsts : Firsts) (
         rows-listed p ds (ready .laid .accepted) (sym (ready .laid .hasRows) ∙ h .someRows) (tables (h .someRows))
         ∙ ap (map masksOf) split ∙ map-append masksOf before (r₀ ∷ later)
         ∙ ap (λ (x : MaskRow). map masksOf before ++ (x ∷ map masksOf later)) (sym e) in
-        let back = keeps-back masksOf (Judged ps′ es′ fs′ (d .fixed)) (SolutionRow p) (r₀ ∷ later) (alike h d before later r₀ split)
+        let back = keeps-back masksOf (Judged ps′ es′ ns′ fs′ (d .fixed)) (SolutionRow p) (r₀ ∷ later) (alike h d before later r₀ split)
         (ap (λ (x : MaskRow). x ∷ map masksOf later) (sym e)) (d .seeks .keeps (map masksOf before) (map masksOf later) listed) in
         let told = seen p n (valueOf place) (r .answer) (r .row) (r .place) (back .keeps) (d .seeks .clean) (back .same) in
         record {
@@ -225,67 +231,67 @@ module _ (s : Bytes) (ps es fs ds : List ℕ) (a : Standing) (firsts : Firsts) (
         }
       where
         tables : a .rows ≡ true → Tabled p ds
-        tables = ready-tables (accept s) ps es fs ds a firsts ready
+        tables = ready-tables (accept s) ps es ns fs ds a firsts ready
 
-        alike : IsRowOf place (a .rows) ds → (d : Sought ps es fs ds a firsts (place .masks) n r) → (before later : List Row) (r₀ : Row)
+        alike : IsRowOf place (a .rows) ds → (d : Sought ps es ns fs ds a firsts (place .masks) n r) → (before later : List Row) (r₀ : Row)
             → rows p ≡ before ++ (r₀ ∷ later) → (x : Row) → x ∈ r₀ ∷ later
-            → Judged ps′ es′ fs′ (d .fixed) (masksOf x) ↔ SolutionRow p x
+            → Judged ps′ es′ ns′ fs′ (d .fixed) (masksOf x) ↔ SolutionRow p x
         alike h d before later r₀ split x i =
             rw (d .functions, d .firstNodes)
-            (judged-solves p ps′ es′ fs′ (a .occurring .functions) firsts (ready-laid (h .someRows)) x
+            (judged-solves p (told ns′) ps′ es′ fs′ (a .occurring .functions) firsts (ready-laid (h .someRows)) x
             (subst (λ (l : List Row). x ∈ l) (sym split) (Memᴰ·append-right before i)))
 
 -- The answers of `from_place`
-module _ (ps es fs ds : List ℕ) (a : Standing) (firsts : Firsts) (place : code.Place) (n : ℕ) (r : Searched) where
-  pub placed-zero : n ≡ 0 → Refuses 15 place r → Placed ps es fs ds a firsts place n r
+module _ (ps es ns fs ds : List ℕ) (a : Standing) (firsts : Firsts) (place : code.Place) (n : ℕ) (r : Searched) where
+  pub placed-zero : n ≡ 0 → Refuses 15 place r → Placed ps es ns fs ds a firsts place n r
   unfolding Placed
   placed-zero e h s ready = refuses-answers s place n 15 r h (onAccepted (ready .problem) (ready .answer) (noAllowance e))
 
-  pub placed-nowhere : (n ≡ 0 → ⊥) → Tells place (a .rows) ds named.Nothing → Refuses 16 place r → Placed ps es fs ds a firsts place n r
+  pub placed-nowhere : (n ≡ 0 → ⊥) → Tells place (a .rows) ds named.Nothing → Refuses 16 place r → Placed ps es ns fs ds a firsts place n r
   unfolding Placed Tells
-  placed-nowhere e t h s ready = answers-nowhere s ps es fs ds a firsts ready place n (positive n e) r (t .0) (t .1) h
+  placed-nowhere e t h s ready = answers-nowhere s ps es ns fs ds a firsts ready place n (positive n e) r (t .0) (t .1) h
 
-  pub placed-past : (n ≡ 0 → ⊥) → Tells place (a .rows) ds named.Past → Ended r → Placed ps es fs ds a firsts place n r
+  pub placed-past : (n ≡ 0 → ⊥) → Tells place (a .rows) ds named.Past → Ended r → Placed ps es ns fs ds a firsts place n r
   unfolding Placed Tells
-  placed-past e t h s ready = answers-past s ps es fs ds a firsts ready place n (positive n e) r t h
+  placed-past e t h s ready = answers-past s ps es ns fs ds a firsts ready place n (positive n e) r t h
 
-  pub placed-row : (n ≡ 0 → ⊥) → Tells place (a .rows) ds named.Row → Sought ps es fs ds a firsts (place .masks) n r
-      → Placed ps es fs ds a firsts place n r
+  pub placed-row : (n ≡ 0 → ⊥) → Tells place (a .rows) ds named.Row → Sought ps es ns fs ds a firsts (place .masks) n r
+      → Placed ps es ns fs ds a firsts place n r
   unfolding Placed Tells
-  placed-row e t h s ready = answers-row s ps es fs ds a firsts ready place n (positive n e) r t h
+  placed-row e t h s ready = answers-row s ps es ns fs ds a firsts ready place n (positive n e) r t h
 
 pub tells-is-row : (place : code.Place) (hasRows : Bool) (ds : List ℕ) → Tells place hasRows ds named.Row → IsRowOf place hasRows ds
 unfolding Tells
 tells-is-row place hasRows ds t = t
 
 -- What `search` learns of a prepared problem
-pub prepared-callable : (s ps es fs ds scratch : List ℕ) (r : Prepared) (a : Standing) → Prepares (accept s) ps es fs ds r
-    → r .verdict ≡ verdicts.Accepted a → length ps ≤ length scratch → Callable ps es fs ds a (r .firsts) scratch
-prepared-callable s ps es fs ds scratch r a h e l =
-    record { bytes = s; ready = prepared-accepted (accept s) ps es fs ds r a h e; room = l }
+pub prepared-callable : (s ps es ns fs ds scratch : List ℕ) (r : Prepared) (a : Standing) → Prepares (accept s) ps es ns fs ds r
+    → r .verdict ≡ verdicts.Accepted a → length ps ≤ length scratch → Callable ps es ns fs ds a (r .firsts) scratch
+prepared-callable s ps es ns fs ds scratch r a h e l =
+    record { bytes = s; ready = prepared-accepted (accept s) ps es ns fs ds r a h e; room = l }
 
-pub search-refused : (s ps es fs ds : List ℕ) (place : code.Place) (n number : ℕ) (p : Prepared) (r : Searched)
-    → Prepares (accept s) ps es fs ds p
+pub search-refused : (s ps es ns fs ds : List ℕ) (place : code.Place) (n number : ℕ) (p : Prepared) (r : Searched)
+    → Prepares (accept s) ps es ns fs ds p
     → p .verdict ≡ verdicts.Refused number → Refuses number place r → Answers s place n r
-search-refused s ps es fs ds place n number p r h e q =
-    answers-refused s place n number r (prepared-refused (accept s) ps es fs ds p number h e) q
+search-refused s ps es ns fs ds place n number p r h e q =
+    answers-refused s place n number r (prepared-refused (accept s) ps es ns fs ds p number h e) q
 
-pub search-accepted : (s ps es fs ds : List ℕ) (place : code.Place) (n : ℕ) (p : Prepared) (a : Standing) (r : Searched)
-    → Prepares (accept s) ps es fs ds p → p .verdict ≡ verdicts.Accepted a → Placed ps es fs ds a (p .firsts) place n r
+pub search-accepted : (s ps es ns fs ds : List ℕ) (place : code.Place) (n : ℕ) (p : Prepared) (a : Standing) (r : Searched)
+    → Prepares (accept s) ps es ns fs ds p → p .verdict ≡ verdicts.Accepted a → Placed ps es ns fs ds a (p .firsts) place n r
     → Answers s place n r
 unfolding Placed
-search-accepted s ps es fs ds place n p a r h e q = q s (prepared-accepted (accept s) ps es fs ds p a h e)
+search-accepted s ps es ns fs ds place n p a r h e q = q s (prepared-accepted (accept s) ps es ns fs ds p a h e)
 
 -- What the calls of `from_row` require
-module _ (ps es fs ds : List ℕ) (a : Standing) (firsts : Firsts) (scratch : List ℕ) (h : Callable ps es fs ds a firsts scratch)
+module _ (ps es ns fs ds : List ℕ) (a : Standing) (firsts : Firsts) (scratch : List ℕ) (h : Callable ps es ns fs ds a firsts scratch)
     (place : code.Place) (row : IsRowOf place (a .rows) ds) where
   pub callable-tables : Tables ds
   callable-tables =
-      tabled-tables (h .ready .problem) ds (ready-tables (accept (h .bytes)) ps es fs ds a firsts (h .ready) (row .someRows))
+      tabled-tables (h .ready .problem) ds (ready-tables (accept (h .bytes)) ps es ns fs ds a firsts (h .ready) (row .someRows))
 
   pub callable-seekable : (first : MaskRow) → placeOf (maskRows ds) ≡ at first
-      → Seekable (take (a .patterns) ps) (take (a .expressions) es) (take (a .faces) fs) ds
+      → Seekable (take (a .patterns) ps) (take (a .expressions) es) (take (a .expressions) ns) (take (a .faces) fs) ds
       (record { functions = a .occurring .functions; firsts = firsts; first = first }) (place .masks) scratch
   callable-seekable first e =
-      ready-seekable (h .bytes) ps es fs ds a firsts (h .ready)
+      ready-seekable (h .bytes) ps es ns fs ds a firsts (h .ready)
       (record { functions = a .occurring .functions; firsts = firsts; first = first }) place scratch refl refl e row (h .room)

@@ -46,16 +46,16 @@ pub record Refuses (number : ℕ) (place : Place) (r : Searched) : Type 0 where
   pub stays : r .place ≡ place
 
 -- What a call on a prepared problem requires, and owes
-pub record Callable (ps es fs ds : List ℕ) (a : Standing) (firsts : Firsts) (scratch : List ℕ) : Type 0 where
+pub record Callable (ps es ns fs ds : List ℕ) (a : Standing) (firsts : Firsts) (scratch : List ℕ) : Type 0 where
   pub bytes : Bytes
-  pub ready : Ready (accept bytes) ps es fs ds a firsts
+  pub ready : Ready (accept bytes) ps es ns fs ds a firsts
   pub room : length ps ≤ length scratch
 
-pub record Sought (ps es fs ds : List ℕ) (a : Standing) (firsts : Firsts) (row : MaskRow) (n : ℕ) (r : Searched) : Type 0 where
+pub record Sought (ps es ns fs ds : List ℕ) (a : Standing) (firsts : Firsts) (row : MaskRow) (n : ℕ) (r : Searched) : Type 0 where
   pub fixed : Fixed
   pub functions : fixed .functions ≡ a .occurring .functions
   pub firstNodes : fixed .firsts ≡ firsts
-  pub seeks : Seeks (take (a .patterns) ps) (take (a .expressions) es) (take (a .faces) fs) ds fixed row n r
+  pub seeks : Seeks (take (a .patterns) ps) (take (a .expressions) es) (take (a .expressions) ns) (take (a .faces) fs) ds fixed row n r
 
-unfoldable pub Placed : List ℕ → List ℕ → List ℕ → List ℕ → Standing → Firsts → Place → ℕ → Searched → Type 0
-Placed ps es fs ds a firsts place n r = (s : Bytes) → Ready (accept s) ps es fs ds a firsts → Answers s place n r
+unfoldable pub Placed : List ℕ → List ℕ → List ℕ → List ℕ → List ℕ → Standing → Firsts → Place → ℕ → Searched → Type 0
+Placed ps es ns fs ds a firsts place n r = (s : Bytes) → Ready (accept s) ps es ns fs ds a firsts → Answers s place n r

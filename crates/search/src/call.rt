@@ -35,12 +35,13 @@ fn from_row(
     n: u32,
     ps: &[u64],
     es: &[u64],
+    ns: &[u64],
     fs: &[u64],
     ds: &[u64],
     scratch: &mut [u64],
 ) -> Searched
-    requires { ⌜ Callable (now ps) (now es) (now fs) (now ds) a firsts (now scratch) ⌝ ∗ ⌜ IsRowOf place (a .rows) (now ds) ⌝ }
-    ensures { λ r. ⌜ Sought (now (ps .entry)) (now (es .entry)) (now (fs .entry)) (now (ds .entry)) a firsts (place .masks) n r ⌝ }
+    requires { ⌜ Callable (now ps) (now es) (now ns) (now fs) (now ds) a firsts (now scratch) ⌝ ∗ ⌜ IsRowOf place (a .rows) (now ds) ⌝ }
+    ensures { λ r. ⌜ Sought (now (ps .entry)) (now (es .entry)) (now (ns .entry)) (now (fs .entry)) (now (ds .entry)) a firsts (place .masks) n r ⌝ }
 {
     let p = a.patterns;
     let e = a.expressions;
@@ -52,7 +53,17 @@ fn from_row(
         firsts: firsts,
         first: first,
     };
-    seek(&ps[..p], &es[..e], &fs[..k], ds, fixed, row, n, scratch)
+    seek(
+        &ps[..p],
+        &es[..e],
+        &ns[..e],
+        &fs[..k],
+        ds,
+        fixed,
+        row,
+        n,
+        scratch,
+    )
 }
 
 // "15 n is 0; 16 no such place", and else from the place on.
@@ -63,12 +74,13 @@ fn from_place(
     n: u32,
     ps: &[u64],
     es: &[u64],
+    ns: &[u64],
     fs: &[u64],
     ds: &[u64],
     scratch: &mut [u64],
 ) -> Searched
-    requires { ⌜ Callable (now ps) (now es) (now fs) (now ds) a firsts (now scratch) ⌝ }
-    ensures { λ r. ⌜ Placed (now (ps .entry)) (now (es .entry)) (now (fs .entry)) (now (ds .entry)) a firsts place n r ⌝ }
+    requires { ⌜ Callable (now ps) (now es) (now ns) (now fs) (now ds) a firsts (now scratch) ⌝ }
+    ensures { λ r. ⌜ Placed (now (ps .entry)) (now (es .entry)) (now (ns .entry)) (now (fs .entry)) (now (ds .entry)) a firsts place n r ⌝ }
 {
     if n == 0 {
         return refused(15, place);
@@ -77,7 +89,7 @@ fn from_place(
     match named {
         Named::Nothing => refused(16, place),
         Named::Past => ended(),
-        Named::Row => from_row(a, firsts, place, n, ps, es, fs, ds, scratch),
+        Named::Row => from_row(a, firsts, place, n, ps, es, ns, fs, ds, scratch),
     }
 }
 
@@ -87,14 +99,26 @@ pub fn search(problem: &[u8], place: Place, n: u32) -> Searched
 {
     let mut ps = [0u64; TABLE_ROOM];
     let mut es = [0u64; TABLE_ROOM];
+    let mut ns = [0u64; TABLE_ROOM];
     let mut fs = [0u64; TABLE_ROOM];
     let mut ds = [0u64; Place::MAX_FUNCTIONS * Place::MAX_FACE_NODES];
     let mut scratch = [0u64; TABLE_ROOM];
-    let prepared = prepare(problem, &mut ps, &mut es, &mut fs, &mut ds);
+    let prepared = prepare(problem, &mut ps, &mut es, &mut ns, &mut fs, &mut ds);
     let firsts = prepared.firsts;
     let verdict = prepared.verdict;
     match verdict {
         Verdict::Refused(r) => refused(r, place),
-        Verdict::Accepted(a) => from_place(a, firsts, place, n, &ps, &es, &fs, &ds, &mut scratch),
+        Verdict::Accepted(a) => from_place(
+            a,
+            firsts,
+            place,
+            n,
+            &ps,
+            &es,
+            &ns,
+            &fs,
+            &ds,
+            &mut scratch,
+        ),
     }
 }

@@ -23,16 +23,16 @@ use Rattle.seeking.specs.declared.Turn.{Turn}
 use Rattle.seeking.specs.declared.Answer.the-variants as answers
 use Rattle.seeking.specs.declared.Searched.{Searched}
 
-module _ (ps es fs ds : List ℕ) (fixed : Fixed) (row : MaskRow) (scratch : List ℕ) (h : Seekable ps es fs ds fixed row scratch) where
-  abbrev ground : Grounded ps es fs ds fixed scratch
+module _ (ps es ns fs ds : List ℕ) (fixed : Fixed) (row : MaskRow) (scratch : List ℕ) (h : Seekable ps es ns fs ds fixed row scratch) where
+  abbrev ground : Grounded ps es ns fs ds fixed scratch
   ground = h .grounded
 
   -- What `judge` requires
-  pub seekable-ready : fit.Ready ps es fs (fixed .functions) (fixed .firsts) row scratch
+  pub seekable-ready : fit.Ready ps es ns fs (fixed .functions) (fixed .firsts) row scratch
   seekable-ready =
       let laid = ground .laid in
       let (r, m, e) = row-masks (ground .problem) ds (laid .accepted) (ap isSome (laid .agree)) (ground .tabled) row .0 (h .isRow) in
-      laid-ready (ground .problem) ps es fs (fixed .functions) (fixed .firsts) laid row
+      laid-ready (ground .problem) ps es ns fs (fixed .functions) (fixed .firsts) laid (ground .numbers) row
       (record { choices = r; isRow = m; masks = e }) scratch
       (ground .room)
 
@@ -58,11 +58,11 @@ later-place t row r ds before later s p e = go (t .more) refl
     go true q = at-place (r .place) (t .next) (p .more q) ∙ sym (s before later e .goes q)
     go false q = past-place (r .place) (p .last q) ∙ sym (s before later e .ends q)
 
-module _ (ps es fs ds : List ℕ) (fixed : Fixed) (row : MaskRow) where
+module _ (ps es ns fs ds : List ℕ) (fixed : Fixed) (row : MaskRow) where
   abbrev Solves : MaskRow → Type 0
-  Solves r = Judged ps es fs fixed r
+  Solves r = Judged ps es ns fs fixed r
 
-  no-solution : (t : Turn) → Turned ps es fs ds fixed row t → t .solves ≡ false → Solves row → ⊥
+  no-solution : (t : Turn) → Turned ps es ns fs ds fixed row t → t .solves ≡ false → Solves row → ⊥
   no-solution t h s q = true≢false (sym q ∙ sym (h .solves) ∙ s)
 
   abbrev KeepsFrom : ℕ → Searched → Type 0
@@ -71,15 +71,15 @@ module _ (ps es fs ds : List ℕ) (fixed : Fixed) (row : MaskRow) where
       → Keeps Solves n (row ∷ later) (maskReply (r .answer) (r .row) (r .place))
 
   -- A Found
-  keeps-found : (n : ℕ) (t : Turn) (r : Searched) → 0 < n → Turned ps es fs ds fixed row t → t .solves ≡ true → Passed row t r
+  keeps-found : (n : ℕ) (t : Turn) (r : Searched) → 0 < n → Turned ps es ns fs ds fixed row t → t .solves ≡ true → Passed row t r
       → KeepsFrom n r
   keeps-found n t r l h s p before later e =
       let reply : maskReply (r .answer) (r .row) (r .place) ≡ found row (placeOf later) =
       rw (p .answer, p .here, later-place t row r ds before later (h .steps) p e) in
       subst (Keeps Solves n (row ∷ later)) (sym reply) (finds [] row later tt (sym (h .solves) ∙ s) l)
 
-  pub seeks-found : (n : ℕ) (t : Turn) (r : Searched) → 0 < n → Turned ps es fs ds fixed row t → t .solves ≡ true → Passed row t r
-      → Seeks ps es fs ds fixed row n r
+  pub seeks-found : (n : ℕ) (t : Turn) (r : Searched) → 0 < n → Turned ps es ns fs ds fixed row t → t .solves ≡ true → Passed row t r
+      → Seeks ps es ns fs ds fixed row n r
   seeks-found n t r l h s p = record { keeps = keeps-found n t r l h s p; clean = λ q. clean (t .more) refl q }
     where
       clean : (b : Bool) → t .more ≡ b → r .place .past ≡ true → r .place .masks ≡ replicate maxFunctions 0
@@ -94,9 +94,9 @@ module _ (ps es fs ds : List ℕ) (fixed : Fixed) (row : MaskRow) where
   no-later t before [] s m e = refl
   no-later t before (x ∷ xs) s m e = never (let z = s before (x ∷ xs) e .ends m in cc)
 
-  pub seeks-ended : (n : ℕ) (t : Turn) (r : Searched) → 0 < n → Turned ps es fs ds fixed row t → t .solves ≡ false → t .more ≡ false
+  pub seeks-ended : (n : ℕ) (t : Turn) (r : Searched) → 0 < n → Turned ps es ns fs ds fixed row t → t .solves ≡ false → t .more ≡ false
       → Ended r
-      → Seeks ps es fs ds fixed row n r
+      → Seeks ps es ns fs ds fixed row n r
   seeks-ended n t r l h s m d = record {
     keeps = λ before later e.
         let none = no-later t before later (h .steps) m e in
@@ -108,7 +108,7 @@ module _ (ps es fs ds : List ℕ) (fixed : Fixed) (row : MaskRow) where
   }
 
   -- A pause, where no allowance is left
-  pub seeks-paused : (n : ℕ) (r : Searched) → n ≡ 0 → Paused row r → Seeks ps es fs ds fixed row n r
+  pub seeks-paused : (n : ℕ) (r : Searched) → n ≡ 0 → Paused row r → Seeks ps es ns fs ds fixed row n r
   seeks-paused n r z d = record {
     keeps = λ before later e.
         let reply : maskReply (r .answer) (r .row) (r .place) ≡ paused (at row) = rw (d .answer, at-place (r .place) row (d .place)) in
@@ -121,8 +121,8 @@ module _ (ps es fs ds : List ℕ) (fixed : Fixed) (row : MaskRow) where
   begins-with next [] e = never (cc)
   begins-with next (x ∷ xs) e = (xs, let z : x ≡ next = cc in ap {B = List MaskRow} (λ y. y ∷ xs) z)
 
-  pub seeks-on : (n m : ℕ) (t : Turn) (r : Searched) → n ≡ suc m → Turned ps es fs ds fixed row t → t .solves ≡ false → t .more ≡ true
-      → Seeks ps es fs ds fixed (t .next) m r → Seeks ps es fs ds fixed row n r
+  pub seeks-on : (n m : ℕ) (t : Turn) (r : Searched) → n ≡ suc m → Turned ps es ns fs ds fixed row t → t .solves ≡ false → t .more ≡ true
+      → Seeks ps es ns fs ds fixed (t .next) m r → Seeks ps es ns fs ds fixed row n r
   unfolding Steps
   seeks-on n m t r z h s g k = record {
     keeps = λ before later e.
@@ -135,7 +135,7 @@ module _ (ps es fs ds : List ℕ) (fixed : Fixed) (row : MaskRow) where
   }
 
   -- ... and the next is again one of the tables
-  pub next-member : (t : Turn) → Turned ps es fs ds fixed row t → t .more ≡ true → row ∈ maskRows ds → t .next ∈ maskRows ds
+  pub next-member : (t : Turn) → Turned ps es ns fs ds fixed row t → t .more ≡ true → row ∈ maskRows ds → t .next ∈ maskRows ds
   unfolding Steps
   next-member t h g m =
       let (before, later, e) = mem-split row (maskRows ds) m in
@@ -143,8 +143,8 @@ module _ (ps es fs ds : List ℕ) (fixed : Fixed) (row : MaskRow) where
       subst (λ (l : List MaskRow). t .next ∈ l) (sym (e ∙ ap (λ (l : List MaskRow). before ++ (row ∷ l)) q))
       (Memᴰ·append-right before (List·Memᴰ·tail (List·Memᴰ·head refl)))
 
-  pub seekable-next : (scratch scratch′ : List ℕ) (t : Turn) → Seekable ps es fs ds fixed row scratch → Turned ps es fs ds fixed row t
-      → t .more ≡ true → length scratch′ ≡ length scratch → Seekable ps es fs ds fixed (t .next) scratch′
+  pub seekable-next : (scratch scratch′ : List ℕ) (t : Turn) → Seekable ps es ns fs ds fixed row scratch → Turned ps es ns fs ds fixed row t
+      → t .more ≡ true → length scratch′ ≡ length scratch → Seekable ps es ns fs ds fixed (t .next) scratch′
   seekable-next scratch scratch′ t h d g l =
       let ground = h .grounded in
       let room = ground .room in
@@ -152,6 +152,7 @@ module _ (ps es fs ds : List ℕ) (fixed : Fixed) (row : MaskRow) where
         grounded = record {
           problem = ground .problem;
           laid = ground .laid;
+          numbers = ground .numbers;
           tabled = ground .tabled;
           first = ground .first;
           room = omega arith;

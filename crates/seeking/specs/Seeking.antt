@@ -14,6 +14,7 @@ use Rattle.meaning.specs.Basics.{choose, isSome, _∈_}
 use Rattle.meaning.specs.Problem.{Problem}
 use Rattle.meaning.specs.Search.{at, past, placeOf, Reply, found, end, paused, refusedCall, Keeps}
 use Rattle.meaning.specs.Search as meant
+use Rattle.numbers.specs.Tests.{told}
 use Rattle.rows.specs.Rows.{MaskRow, maskRows, Steps}
 use Rattle.classes.specs.Tabled.{Tabled}
 use Rattle.places.specs.Places.{AtRow, AtPast}
@@ -26,27 +27,28 @@ use Rattle.seeking.specs.declared.Answer.{Answer}
 use Rattle.seeking.specs.declared.Answer.the-variants as answers
 use Rattle.seeking.specs.declared.Searched.{Searched}
 
-abbrev pub judged : List ℕ → List ℕ → List ℕ → Fixed → MaskRow → Bool
-judged ps es fs fixed row = isSome (judgedAt ps es fs (fixed .functions) (fixed .firsts) row)
+abbrev pub judged : List ℕ → List ℕ → List ℕ → List ℕ → Fixed → MaskRow → Bool
+judged ps es ns fs fixed row = isSome (judgedAt (told ns) ps es fs (fixed .functions) (fixed .firsts) row)
 
-abbrev pub Judged : List ℕ → List ℕ → List ℕ → Fixed → MaskRow → Type 0
-Judged ps es fs fixed row = judged ps es fs fixed row ≡ true
+abbrev pub Judged : List ℕ → List ℕ → List ℕ → List ℕ → Fixed → MaskRow → Type 0
+Judged ps es ns fs fixed row = judged ps es ns fs fixed row ≡ true
 
 -- The tables are those of an accepted problem that has rows, and the first row is theirs
-pub record Grounded (ps es fs ds : List ℕ) (fixed : Fixed) (scratch : List ℕ) : Type 0 where
+pub record Grounded (ps es ns fs ds : List ℕ) (fixed : Fixed) (scratch : List ℕ) : Type 0 where
   pub problem : Problem
-  pub laid : Laid problem ps es fs (fixed .functions) (fixed .firsts)
+  pub laid : Laid problem (told ns) ps es fs (fixed .functions) (fixed .firsts)
+  pub numbers : length ns ≡ length es
   pub tabled : Tabled problem ds
   pub first : placeOf (maskRows ds) ≡ at (fixed .first)
   pub room : length ps ≤ length scratch
 
 -- ... and the row is one of theirs
-pub record Seekable (ps es fs ds : List ℕ) (fixed : Fixed) (row : MaskRow) (scratch : List ℕ) : Type 0 where
-  pub grounded : Grounded ps es fs ds fixed scratch
+pub record Seekable (ps es ns fs ds : List ℕ) (fixed : Fixed) (row : MaskRow) (scratch : List ℕ) : Type 0 where
+  pub grounded : Grounded ps es ns fs ds fixed scratch
   pub isRow : row ∈ maskRows ds
 
-pub record Turned (ps es fs ds : List ℕ) (fixed : Fixed) (row : MaskRow) (r : Turn) : Type 0 where
-  pub solves : r .solves ≡ judged ps es fs fixed row
+pub record Turned (ps es ns fs ds : List ℕ) (fixed : Fixed) (row : MaskRow) (r : Turn) : Type 0 where
+  pub solves : r .solves ≡ judged ps es ns fs fixed row
   pub steps : Steps ds row (r .more) (r .next)
 
 -- The answers of a search from a row on
@@ -78,7 +80,7 @@ maskReply answers.Paused row v = paused (maskPlace v)
 abbrev pub Clean : Place → Type 0
 Clean v = v .past ≡ true → v .masks ≡ replicate maxFunctions 0
 
-pub record Seeks (ps es fs ds : List ℕ) (fixed : Fixed) (row : MaskRow) (n : ℕ) (r : Searched) : Type 0 where
+pub record Seeks (ps es ns fs ds : List ℕ) (fixed : Fixed) (row : MaskRow) (n : ℕ) (r : Searched) : Type 0 where
   pub keeps : (before later : List MaskRow) → maskRows ds ≡ before ++ (row ∷ later)
-      → Keeps (Judged ps es fs fixed) n (row ∷ later) (maskReply (r .answer) (r .row) (r .place))
+      → Keeps (Judged ps es ns fs fixed) n (row ∷ later) (maskReply (r .answer) (r .row) (r .place))
   pub clean : Clean (r .place)

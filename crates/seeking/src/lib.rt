@@ -38,18 +38,19 @@ pub struct Searched {
 fn look_at(
     ps: &[u64],
     es: &[u64],
+    ns: &[u64],
     fs: &[u64],
     ds: &[u64],
     fixed: Fixed,
     row: [u64; Place::MAX_FUNCTIONS],
     scratch: &mut [u64],
 ) -> Turn
-    requires { ⌜ Seekable (now ps) (now es) (now fs) (now ds) fixed row (now scratch) ⌝ }
-    ensures { λ r. ⌜ Turned (now (ps .entry)) (now (es .entry)) (now (fs .entry)) (now (ds .entry)) fixed row r ⌝ }
+    requires { ⌜ Seekable (now ps) (now es) (now ns) (now fs) (now ds) fixed row (now scratch) ⌝ }
+    ensures { λ r. ⌜ Turned (now (ps .entry)) (now (es .entry)) (now (ns .entry)) (now (fs .entry)) (now (ds .entry)) fixed row r ⌝ }
 {
     let firsts = fixed.firsts;
     let first = fixed.first;
-    let judged = judge(ps, es, fs, fixed.functions, firsts, row, scratch);
+    let judged = judge(ps, es, ns, fs, fixed.functions, firsts, row, scratch);
     let stepped = next_row(ds, first, row);
     let next = stepped.row;
     Turn {
@@ -100,6 +101,7 @@ fn pause_at(row: [u64; Place::MAX_FUNCTIONS]) -> Searched
 pub fn seek(
     ps: &[u64],
     es: &[u64],
+    ns: &[u64],
     fs: &[u64],
     ds: &[u64],
     fixed: Fixed,
@@ -107,13 +109,13 @@ pub fn seek(
     n: u32,
     scratch: &mut [u64],
 ) -> Searched
-    requires { ⌜ Seekable (now ps) (now es) (now fs) (now ds) fixed row (now scratch) ⌝ }
-    ensures { λ r. ⌜ Seeks (now (ps .entry)) (now (es .entry)) (now (fs .entry)) (now (ds .entry)) fixed row n r ⌝ }
+    requires { ⌜ Seekable (now ps) (now es) (now ns) (now fs) (now ds) fixed row (now scratch) ⌝ }
+    ensures { λ r. ⌜ Seeks (now (ps .entry)) (now (es .entry)) (now (ns .entry)) (now (fs .entry)) (now (ds .entry)) fixed row n r ⌝ }
 {
     let mut at = row;
     let mut left = n;
     while 0 < left {
-        let t = look_at(ps, es, fs, ds, fixed, at, scratch);
+        let t = look_at(ps, es, ns, fs, ds, fixed, at, scratch);
         if t.solves {
             return found_at(at, t);
         }

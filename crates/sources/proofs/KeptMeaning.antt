@@ -1,12 +1,13 @@
 -- What demands on the table mean: they agree exactly when `demands` says so, and the nodes kept are those of the first of each
 -- metavariable.
+--   q        what is asked of the nodes, which says what the table does
 --   MovedAt  what stands at a node is a term moved under more binders, which it does not use
 --   Says     a demand on the table is a source
 --   Firsts   the nodes kept are those of the first of each metavariable, and the terms there are closed
 --   Told     what the demands ds, after those that gave the sources ks, lead to
 use mathlib.Core.Path.{_≡_, refl, ap, ap₂, sym, _∙_, subst}
 use mathlib.Core.Logic.{_↔_, _⊎_, inl, inr}
-use mathlib.Core.Bool.{Bool, true, false, _&&_}
+use mathlib.Core.Bool.{Bool, true, false, _&&_, not, Bool·not-not}
 use mathlib.Core.List.{List, [], _∷_, _++_, append-assoc, append-nil}
 use mathlib.Core.Option.{Option, none, some}
 use Prim.Native.Nat.{ℕ, _<_, _≤_}
@@ -34,8 +35,9 @@ use Rattle.meaning.proofs.Candidate.{lookup-cases}
 use Rattle.demands.specs.Agreeing.{agreesWith, agreeAfter}
 use Rattle.demands.proofs.Agreement.{lookup-append, lookup-earlier, lookup-later, lookup-own, lookup-only}
 use Rattle.masks.proofs.Cases.{same-truth}
-use Rattle.tokens.specs.Key.{at, levelFrom, sameAt, closedAt}
+use Rattle.tokens.specs.Key.{at, levelFrom, sameAt, usesAt, closedAt}
 use Rattle.tokens.proofs.KeyLaws.{closed-means, same-means}
+use Rattle.numbers.specs.Tests.{Tests, closedBy, Tells}
 use Rattle.faces.proofs.NodeTokens.{AtNode, node-inside}
 use Rattle.sources.specs.Demand.{Demand, openNode, agreesAt, keptWith, keptAfter}
 
@@ -92,6 +94,9 @@ AllSay es (d ∷ ds) [] = ⊥
 AllSay es (d ∷ ds) (s ∷ ss) = Says es d s × AllSay es ds ss
 
 module _ (es : List ℕ) (d : Demand) (s : Source) (w : Says es d s) where
+  pub said-inside : d .1 < length es
+  said-inside = node-inside es (d .1) (w .at .whole) (w .at .stands)
+
   said-closed : (closedAt es (d .1) ≡ true) ↔ ClosedTerm (s .term)
   said-closed =
       let n = node-closed es (d .1) (w .at .whole) (w .at .stands) in (
@@ -120,6 +125,17 @@ pub record Firsts (es kept : List ℕ) (ks : List Source) : Type 0 where
   pub nodes : (m : ℕ) → m < metavariableCount → at kept m ≡ nodeOf (lookup m ks)
   pub said : (m : ℕ) (s : Source) → lookup m ks ≡ some s → Says es (m, s .node) s × ClosedTerm (s .term)
 
+-- What is asked of the nodes, as the table says it
+module _ (es : List ℕ) (q : Tests) (tells : Tells es q) where
+  told-closed : (a : ℕ) → a < length es → closedBy q a ≡ closedAt es a
+  unfolding closedAt
+  told-closed a h = ap not (tells .uses a 0 h)
+
+  -- A node that is closed uses no binder outside it, whatever it is compared with
+  told-same : (a b : ℕ) → a < length es → b < length es → closedAt es a ≡ true → q .same a b ≡ sameAt es a b
+  unfolding closedAt
+  told-same a b h g c = tells .same 0 a b h g (λ y l r. omega arith) (sym (Bool·not-not (usesAt es a 0)) ∙ ap not c)
+
 -- One demand more
 module _ (es : List ℕ) (few : length es ≤ 65536) (kept : List ℕ) (ks : List Source) (f : Firsts es kept ks) (d : Demand) (s : Source)
     (w : Says es d s) where
@@ -132,26 +148,28 @@ module _ (es : List ℕ) (few : length es ≤ 65536) (kept : List ℕ) (ks : Lis
   -- A node that is kept is one of the table
   kept-here : (k : Source) → lookup (s .number) ks ≡ some k → eqb (at kept (d .0)) openNode ≡ false
   kept-here k e =
-      let small : k .node < length es =
-      node-inside es (k .node) (f .said (s .number) k e .0 .at .whole) (f .said (s .number) k e .0 .at .stands) in
+      let small : k .node < length es = said-inside es (s .number, k .node) k (f .said (s .number) k e .0) in
       let q : at kept (d .0) ≡ k .node = here ∙ ap nodeOf e in
       ne-eqb (at kept (d .0)) openNode (λ o. omega arith)
 
-  test-said : (o : Option Source) → lookup (s .number) ks ≡ o → agreesAt es kept d ≡ agreesWith o s
+  test-said : (q : Tests) → Tells es q → (o : Option Source) → lookup (s .number) ks ≡ o → agreesAt q kept d ≡ agreesWith o s
   unfolding agreesAt
-  test-said none e =
+  test-said q tells none e =
       let c = said-closed es d s w in
       choose-true _ _ (open-here e)
+      ∙ told-closed es q tells (d .1) (said-inside es d s w)
       ∙ same-truth (closedAt es (d .1)) (isClosed 0 (one (s .term)))
-      (λ q. T-true (closed-test 0 (one (s .term)) (c .0 q))) (λ q. c .1 (test-closed 0 (one (s .term)) (true-T q)))
-  test-said (some k) e =
+      (λ t. T-true (closed-test 0 (one (s .term)) (c .0 t))) (λ t. c .1 (test-closed 0 (one (s .term)) (true-T t)))
+  test-said q tells (some k) e =
       let (v, c) = f .said (s .number) k e in
       let n = said-same es (s .number, k .node) k v d s w c in
       choose-false _ _ (kept-here k e)
-      ∙ ap (λ (j : ℕ). sameAt es j (d .1)) (here ∙ ap nodeOf e)
+      ∙ ap (λ (j : ℕ). q .same j (d .1)) (here ∙ ap nodeOf e)
+      ∙ told-same es q tells (k .node) (d .1) (said-inside es (s .number, k .node) k v) (said-inside es d s w)
+      (said-closed es (s .number, k .node) k v .1 c)
       ∙ same-truth (sameAt es (k .node) (d .1)) (sameTerms (one (k .term)) (one (s .term)))
-      (λ q. T-true (subst (λ (t : Term). T (sameTerms (one (k .term)) (one t))) (n .0 q) (sameTerms-refl (one (k .term)))))
-      (λ q. n .1 (one-injective (k .term) (s .term) (sameTerms-eq (one (k .term)) (one (s .term)) (true-T q))))
+      (λ t. T-true (subst (λ (u : Term). T (sameTerms (one (k .term)) (one u))) (n .0 t) (sameTerms-refl (one (k .term)))))
+      (λ t. n .1 (one-injective (k .term) (s .term) (sameTerms-eq (one (k .term)) (one (s .term)) (true-T t))))
 
   -- Looking up in what there is then
   abbrev after : List Source
@@ -218,33 +236,33 @@ pub record Told (es : List ℕ) (o : Option (List ℕ)) (ks ss : List Source) : 
   pub nodes : (kept : List ℕ) → o ≡ some kept → Firsts es kept (ks ++ ss)
 
 -- THE THEOREM: one demand after the other, from what those before have left
-pub kept-means : (es : List ℕ) → length es ≤ 65536 → (kept : List ℕ) (ks : List Source) (ds : List Demand) (ss : List Source)
-    → Firsts es kept ks
-    → AllSay es ds ss → Told es (keptAfter es kept ds) ks ss
+pub kept-means : (es : List ℕ) → length es ≤ 65536 → (q : Tests) → Tells es q
+    → (kept : List ℕ) (ks : List Source) (ds : List Demand) (ss : List Source) → Firsts es kept ks
+    → AllSay es ds ss → Told es (keptAfter q kept ds) ks ss
 unfolding keptAfter
-kept-means es few kept ks [] [] f w =
+kept-means es few q tells kept ks [] [] f w =
     record {
       test =
           refl;
       nodes =
-          λ l e. subst (λ (x : List ℕ). Firsts es x (ks ++ [])) (let q : kept ≡ l = cc in q)
+          λ l e. subst (λ (x : List ℕ). Firsts es x (ks ++ [])) (let i : kept ≡ l = cc in i)
           (subst (Firsts es kept) (sym (append-nil ks)) f);
     }
-kept-means es few kept ks [] (s ∷ ss) f w = absurd w
-kept-means es few kept ks (d ∷ ds) [] f w = absurd w
-kept-means es few kept ks (d ∷ ds) (s ∷ ss) f w =
-    go (agreesWith (lookup (s .number) ks) s) refl (test-said es few kept ks f d s (w .0) (lookup (s .number) ks) refl)
-    (λ t. kept-means es few (keptWith kept d) (ks ++ (s ∷ [])) ds ss
+kept-means es few q tells kept ks [] (s ∷ ss) f w = absurd w
+kept-means es few q tells kept ks (d ∷ ds) [] f w = absurd w
+kept-means es few q tells kept ks (d ∷ ds) (s ∷ ss) f w =
+    go (agreesWith (lookup (s .number) ks) s) refl (test-said es few kept ks f d s (w .0) q tells (lookup (s .number) ks) refl)
+    (λ t. kept-means es few q tells (keptWith kept d) (ks ++ (s ∷ [])) ds ss
     (firsts-after es few kept ks f d s (w .0) (lookup (s .number) ks) refl t) (w .1))
   where
-    go : (b : Bool) → agreesWith (lookup (s .number) ks) s ≡ b → agreesAt es kept d ≡ agreesWith (lookup (s .number) ks) s
-        → (agreesWith (lookup (s .number) ks) s ≡ true → Told es (keptAfter es (keptWith kept d) ds) (ks ++ (s ∷ [])) ss)
-        → Told es (guard (agreesAt es kept d) (keptAfter es (keptWith kept d) ds)) ks (s ∷ ss)
+    go : (b : Bool) → agreesWith (lookup (s .number) ks) s ≡ b → agreesAt q kept d ≡ agreesWith (lookup (s .number) ks) s
+        → (agreesWith (lookup (s .number) ks) s ≡ true → Told es (keptAfter q (keptWith kept d) ds) (ks ++ (s ∷ [])) ss)
+        → Told es (guard (agreesAt q kept d) (keptAfter q (keptWith kept d) ds)) ks (s ∷ ss)
     go true t e next =
         let r = next t in
         rw (e, t) (record {
           test = r .test ∙ sym (ap (λ (b : Bool). b && agreeAfter (ks ++ (s ∷ [])) ss) t);
-          nodes = λ l q. subst (Firsts es l) (append-assoc ks (s ∷ []) ss) (r .nodes l q);
+          nodes = λ l i. subst (Firsts es l) (append-assoc ks (s ∷ []) ss) (r .nodes l i);
         })
     go false t e next =
-        rw (e, t) (record { test = sym (ap (λ (b : Bool). b && agreeAfter (ks ++ (s ∷ [])) ss) t); nodes = λ l q. never (cc) })
+        rw (e, t) (record { test = sym (ap (λ (b : Bool). b && agreeAfter (ks ++ (s ∷ [])) ss) t); nodes = λ l i. never (cc) })

@@ -6,6 +6,8 @@ use mathlib.Core.Path.{_≡_, refl, ap, ap₂, sym, subst}
 use mathlib.Core.List.{List, [], _∷_, _++_}
 use mathlib.Core.Option.{Option, some}
 use Prim.Native.Nat.{ℕ, zero, suc, _<_}
+use native.Mathlib.Omega.{arith}
+use lib.ListN.{length}
 use lib.Dec.{eqb}
 use Rattle.meaning.specs.Limits.{metavariableCount}
 use Rattle.meaning.specs.Basics.{All, choose, each}
@@ -19,13 +21,12 @@ use Rattle.meaning.specs.Field.{tagOf}
 use Rattle.meaning.specs.Value.{Source, sourceAt, sourceOf}
 use Rattle.tokens.specs.Token.{payloadOf}
 use Rattle.tokens.specs.Key.{at}
-use Rattle.tokens.proofs.KeyLaws.{stands-inside}
 use Rattle.lockstep.specs.Walk.{patternNode, expressionNode}
 use Rattle.lockstep.specs.Recorded.{Records, RecordedBy}
 use Rattle.faces.proofs.NodeTokens.{AtNode, node-inside, node-tag, node-payload}
 use Rattle.sources.specs.Demand.{Demand, demandAt, demandsIn}
 use Rattle.sources.specs.Kept.{Askable, Demandable}
-use Rattle.sources.proofs.KeptMeaning.{MovedAt, Says, AllSay}
+use Rattle.sources.proofs.KeptMeaning.{MovedAt, Says, AllSay, said-inside}
 
 -- A slot of a table has the number of a metavariable, and a function application one argument
 abbrev pub FitSlot : Slot → Type 0
@@ -54,19 +55,18 @@ append-say es [] ds′ (s ∷ ss) ss′ a b = absurd a
 append-say es (d ∷ ds) ds′ [] ss′ a b = absurd a
 append-say es (d ∷ ds) ds′ (s ∷ ss) ss′ a b = (a .0, append-say es ds ds′ ss ss′ (a .1) b)
 
-said-asks : (es : List ℕ) (ds : List Demand) (ss : List Source) → AllSay es ds ss → All (Askable es) ds
-said-asks es [] [] a = tt
-said-asks es [] (s ∷ ss) a = absurd a
-said-asks es (d ∷ ds) [] a = absurd a
-said-asks es (d ∷ ds) (s ∷ ss) a = (one (a .0), said-asks es ds ss (a .1))
+-- Where each node has a number
+said-asks : (es ks : List ℕ) → length ks ≡ length es → (ds : List Demand) (ss : List Source) → AllSay es ds ss → All (Askable ks) ds
+said-asks es ks long [] [] a = tt
+said-asks es ks long [] (s ∷ ss) a = absurd a
+said-asks es ks long (d ∷ ds) [] a = absurd a
+said-asks es ks long (d ∷ ds) (s ∷ ss) a = (one (a .0), said-asks es ks long ds ss (a .1))
   where
-    one : Says es d s → Askable es d
-    one w =
-        let n = w .at .stands in
-        record {
-          number = subst (λ (m : ℕ). m < metavariableCount) (sym (w .number)) (w .small);
-          inside = stands-inside (n .levels) (n .context) es (d .1) (n .scope) (n .named) (n .held) (n .stands);
-        }
+    one : Says es d s → Askable ks d
+    one w = record {
+      number = subst (λ (m : ℕ). m < metavariableCount) (sym (w .number)) (w .small);
+      inside = omega (arith, long, said-inside es d s w);
+    }
 
 -- What a face faces stands at its node
 abbrev pub MovedFace : List ℕ → Face → Type 0
@@ -104,15 +104,16 @@ module _ (ps es : List ℕ) (P E : ℕ → Option Term) (D : ℕ → ℕ) (patte
       append-say es (demandAt ps n) (demandsIn ps ns) (sourceOf x) (each sourceOf xs) (face-says n x (r .0) (moved .0))
       (recorded-say ns xs (r .1) (moved .1))
 
-  -- What the code asks of recorded faces
-  pub recorded-reads : (ns : List ℕ) (xs : List Face) → RecordedBy P E D ns xs → All (MovedFace es) xs → All (Demandable ps es) ns
-  recorded-reads [] [] r moved = tt
-  recorded-reads [] (x ∷ xs) r moved = absurd r
-  recorded-reads (n ∷ ns) [] r moved = absurd r
-  recorded-reads (n ∷ ns) (x ∷ xs) r moved = (
+  -- What the code asks of recorded faces, where ks has a number for each node
+  pub recorded-reads : (ks : List ℕ) → length ks ≡ length es → (ns : List ℕ) (xs : List Face) → RecordedBy P E D ns xs
+      → All (MovedFace es) xs → All (Demandable ps ks) ns
+  recorded-reads ks long [] [] r moved = tt
+  recorded-reads ks long [] (x ∷ xs) r moved = absurd r
+  recorded-reads ks long (n ∷ ns) [] r moved = absurd r
+  recorded-reads ks long (n ∷ ns) (x ∷ xs) r moved = (
     record {
       slot = node-inside ps (patternNode n) (slot (x .what), x .children) (slotAt n x (r .0));
-      asks = said-asks es (demandAt ps n) (sourceOf x) (face-says n x (r .0) (moved .0));
+      asks = said-asks es ks long (demandAt ps n) (sourceOf x) (face-says n x (r .0) (moved .0));
     },
-    recorded-reads ns xs (r .1) (moved .1),
+    recorded-reads ks long ns xs (r .1) (moved .1),
   )

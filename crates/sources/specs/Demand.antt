@@ -1,7 +1,7 @@
 -- Demands on the metavariables, on the token tables.
 --   Demand      a metavariable, and a node of the expressions: the subexpression there is what it must stand for
 --   kept        one node for each metavariable: that of its first demand, or `openNode` where there was none
---   keptAfter   one demand after the other; none where one disagrees
+--   keptAfter   one demand after the other; none where one disagrees. What is asked of the nodes are the tests q
 use Prim.Native.Nat.{ℕ}
 use mathlib.Core.Bool.{Bool}
 use mathlib.Core.List.{List, [], _∷_}
@@ -10,7 +10,8 @@ use lib.ListN.{set}
 use lib.Dec.{eqb}
 use Rattle.meaning.specs.Basics.{choose, each, guard}
 use Rattle.tokens.specs.Token.{tagIn, payloadIn}
-use Rattle.tokens.specs.Key.{at, sameAt, closedAt}
+use Rattle.tokens.specs.Key.{at}
+use Rattle.numbers.specs.Tests.{Tests, closedBy}
 use Rattle.lockstep.specs.Walk.{patternNode, expressionNode}
 
 abbrev pub Demand : Type 0
@@ -29,13 +30,13 @@ demandsIn ps ns = each (demandAt ps) ns
 
 -- "Values and bodies have no variable bound outside themselves": the first demand of a metavariable must be closed; a later one must be
 -- the same as the first
-unfoldable pub agreesAt : List ℕ → List ℕ → Demand → Bool
-agreesAt es kept d = choose (eqb (at kept (d .0)) openNode) (closedAt es (d .1)) (sameAt es (at kept (d .0)) (d .1))
+unfoldable pub agreesAt : Tests → List ℕ → Demand → Bool
+agreesAt q kept d = choose (eqb (at kept (d .0)) openNode) (closedBy q (d .1)) (q .same (at kept (d .0)) (d .1))
 
 -- "A value comes from the metavariable's first occurrence": the first demand is kept
 unfoldable pub keptWith : List ℕ → Demand → List ℕ
 keptWith kept d = choose (eqb (at kept (d .0)) openNode) (set kept (d .0) (d .1)) kept
 
-unfoldable pub keptAfter : List ℕ → List ℕ → List Demand → Option (List ℕ)
-keptAfter es kept [] = some kept
-keptAfter es kept (d ∷ ds) = guard (agreesAt es kept d) (keptAfter es (keptWith kept d) ds)
+unfoldable pub keptAfter : Tests → List ℕ → List Demand → Option (List ℕ)
+keptAfter q kept [] = some kept
+keptAfter q kept (d ∷ ds) = guard (agreesAt q kept d) (keptAfter q (keptWith kept d) ds)

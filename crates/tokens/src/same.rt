@@ -1,13 +1,12 @@
-// Two subterms compared up to bound names, and which outer binders a subterm uses.
+// Two subterms compared up to bound names, and whether a variable is bound outside.
 use crate::token::depth;
 use crate::token::payload;
 use crate::token::size;
 use crate::token::tag;
 ghost use mathlib.Core.Path.{_≡_};
-ghost use Prim.Native.Nat.{_+_, _-_, _*_, _<_, _≤_, min};
-ghost use lib.ListN.{length};
-ghost use Rattle.tokens.specs.Key.{keyOfVariable, keyOfPayload, keyOf, nodes, sameKeys, sameAcross, sameAt, Inside, reaches, anyReaches};
-ghost use Rattle.tokens.specs.Key.{agreeUnder, comparedBy, comparedAcross, usesAt, closedAt};
+ghost use Prim.Native.Nat.{_+_, _-_, _*_, _<_, min};
+ghost use Rattle.tokens.specs.Key.{keyOfVariable, keyOfPayload, keyOf, sameKeys, sameAcross, sameAt, Inside, reaches};
+ghost use Rattle.tokens.specs.Key.{agreeUnder, comparedBy, comparedAcross};
 
 // What a comparison answers: whether the two are equal, and how many pairs of nodes it compared.
 pub struct Compared {
@@ -148,36 +147,4 @@ pub fn same(t: &[u64], a: usize, b: usize) -> bool
     ensures { λ r. ⌜ r ≡ sameAt (now (t .entry)) a b ⌝ }
 {
     same_across(t, a, t, b)
-}
-
-// Whether `reaches` holds of one of n nodes in a row.
-fn reaches_run(t: &[u64], a: usize, n: usize, d: u64, r: u64) -> bool
-    requires { ⌜ a + n ≤ length (now t) ⌝ }
-    ensures { λ b. ⌜ b ≡ anyReaches d r (nodes (now (t .entry)) a n) ⌝ }
-{
-    let mut i = 0;
-    while i < n {
-        if reaches(d, r, t[a + i]) {
-            return true;
-        }
-        i += 1;
-    }
-    false
-}
-
-// Whether the subterm at node a uses a variable that is bound above it inside the face, whose root has binder depth d.
-pub fn uses_between(t: &[u64], a: usize, d: u64) -> bool
-    requires { ⌜ Inside (now t) a ⌝ }
-    ensures { λ r. ⌜ r ≡ usesAt (now (t .entry)) a d ⌝ }
-{
-    let x = t[a];
-    reaches_run(t, a, size(x) as usize, d, depth(x))
-}
-
-// Whether no variable of the subterm at node a is bound outside it.
-pub fn closed(t: &[u64], a: usize) -> bool
-    requires { ⌜ Inside (now t) a ⌝ }
-    ensures { λ r. ⌜ r ≡ closedAt (now (t .entry)) a ⌝ }
-{
-    !uses_between(t, a, 0)
 }

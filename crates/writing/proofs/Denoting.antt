@@ -38,6 +38,7 @@ use Rattle.faces.specs.declared.first.Firsts.{Firsts}
 use Rattle.sources.specs.Demand.{openNode}
 use Rattle.sources.specs.declared.Sources.{Sources}
 use Rattle.sources.proofs.KeptMeaning.{nodeOf}
+use Rattle.numbers.specs.Tests.{Tests}
 use Rattle.fit.specs.Laid.{Laid}
 use Rattle.fit.proofs.Ranks.{first-at, rank-at}
 use Rattle.fit.proofs.Functions.{function-at, laid-own}
@@ -50,14 +51,14 @@ use Rattle.composing.specs.declared.entry.Entry.{Entry}
 use Rattle.composing.specs.declared.entry.Entry.the-variants as entries
 use Rattle.composing.proofs.FieldLaws.{entryOr}
 
-module _ (p : Problem) (ps es ns : List ℕ) (o : Occurring) (firsts : Firsts) (l : Laid p ps es ns (o .functions) firsts)
+module _ (p : Problem) (tests : Tests) (ps es ns : List ℕ) (o : Occurring) (firsts : Firsts) (l : Laid p tests ps es ns (o .functions) firsts)
     (survey : Surveyed (patternTokens p) o) (r : Row) (i : r ∈ rows p) (solved : solves p r ≡ true) (kept : Sources)
     (source : (m : ℕ) → m < metavariableCount → at (kept .nodes) m ≡ nodeOf (lookup m (sources p r))) where
   abbrev pub plan : Plan
   plan = record { occurring = o; nodes = firsts .nodes; row = masksOf r; sources = kept }
 
-  own : Laid p (patternTokens p) (expressionTokens p) ns (o .functions) firsts
-  own = laid-own p ps es ns (o .functions) firsts l
+  own : Laid p tests (patternTokens p) (expressionTokens p) ns (o .functions) firsts
+  own = laid-own p tests ps es ns (o .functions) firsts l
 
   function-in : (m : ℕ) → isFunction p m ≡ true → m ∈ functions p
   function-in m e =
@@ -66,7 +67,7 @@ module _ (p : Problem) (ps es ns : List ℕ) (o : Occurring) (firsts : Firsts) (
   -- Each function has its place
   pub plan-planned : Planned plan
   plan-planned = record {
-    rank = λ m small e. function-at p ns (o .functions) firsts own r i (count m (o .functions)) m
+    rank = λ m small e. function-at p tests ns (o .functions) firsts own r i (count m (o .functions)) m
         (rank-at p (o .functions) (l .set) m
         (function-in m (sym (survey-functions p (l .accepted .within) o survey m small) ∙ e))) .few;
   }
@@ -87,7 +88,7 @@ module _ (p : Problem) (ps es ns : List ℕ) (o : Occurring) (firsts : Firsts) (
     body-entry =
         let (first, small) = first-at p (l .found) (functions p) (listed firsts) k m (l .nodes)
         (rank-at p (o .functions) (l .set) m (function-in m e)) in
-        let a = function-at p ns (o .functions) firsts own r i k m (rank-at p (o .functions) (l .set) m (function-in m e)) in
+        let a = function-at p tests ns (o .functions) firsts own r i k m (rank-at p (o .functions) (l .set) m (function-in m e)) in
         let node : faceNode (firstFace m (orNone (faces p))) ≡ at (firsts .nodes) k =
         ap (λ (x : Option (List Face)). faceNode (firstFace m (orNone x))) (l .agree) ∙ ap faceNode (first .isFirst) ∙ sym (first .node)
         ∙ getD-take (firsts .count) (firsts .nodes) k 0 (a .place) in
@@ -97,7 +98,7 @@ module _ (p : Problem) (ps es ns : List ℕ) (o : Occurring) (firsts : Firsts) (
     body-denotes : Denotes (expressionTokens p) (bodyAt plan k) (entryOf p r m)
     unfolding bodyAt
     body-denotes =
-        let a = function-at p ns (o .functions) firsts own r i k m (rank-at p (o .functions) (l .set) m (function-in m e)) in
+        let a = function-at p tests ns (o .functions) firsts own r i k m (rank-at p (o .functions) (l .set) m (function-in m e)) in
         let there = copied p (at (firsts .nodes) k) (faceOf p m) (a .face) .there in (
           face,
           punchTerm marks face,

@@ -37,14 +37,14 @@ abbrev pub Writes : Bytes → Place → Bytes → Bytes → Written → Type 0
 Writes s row before after r = WriteCall s (valueOf row) before (answerOf r) after
 
 -- On a prepared problem: of a row of it, whatever its class tables, and of any row
-pub record RowWritten (ps es fs : List ℕ) (a : Standing) (firsts : Firsts) (row : Place) (before after : Bytes) (r : Written) : Type 0 where
-  pub answer : (s : Bytes) (ds : List ℕ) → Ready (accept s) ps es fs ds a firsts → IsRowOf row (a .rows) ds → Writes s row before after r
+pub record RowWritten (ps es ns fs : List ℕ) (a : Standing) (firsts : Firsts) (row : Place) (before after : Bytes) (r : Written) : Type 0 where
+  pub answer : (s : Bytes) (ds : List ℕ) → Ready (accept s) ps es ns fs ds a firsts → IsRowOf row (a .rows) ds → Writes s row before after r
 
-pub record RowCallable (ps es fs : List ℕ) (a : Standing) (firsts : Firsts) (row : Place) (scratch : List ℕ) : Type 0 where
+pub record RowCallable (ps es ns fs : List ℕ) (a : Standing) (firsts : Firsts) (row : Place) (scratch : List ℕ) : Type 0 where
   pub tables : List ℕ
-  pub callable : Callable ps es fs tables a firsts scratch
+  pub callable : Callable ps es ns fs tables a firsts scratch
   pub isRow : IsRowOf row (a .rows) tables
 
-pub record NamedWritten (ps es fs ds : List ℕ) (a : Standing) (firsts : Firsts) (row : Place) (before after : Bytes) (r : Written) : Type 0
+pub record NamedWritten (ps es ns fs ds : List ℕ) (a : Standing) (firsts : Firsts) (row : Place) (before after : Bytes) (r : Written) : Type 0
   where
-    pub answer : (s : Bytes) → Ready (accept s) ps es fs ds a firsts → Writes s row before after r
+    pub answer : (s : Bytes) → Ready (accept s) ps es ns fs ds a firsts → Writes s row before after r

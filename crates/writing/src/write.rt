@@ -41,12 +41,13 @@ fn write_row(
     row: Place,
     ps: &[u64],
     es: &[u64],
+    ns: &[u64],
     fs: &[u64],
     scratch: &mut [u64],
     out: &mut [u8],
 ) -> Written
-    requires { ⌜ RowCallable (now ps) (now es) (now fs) a firsts row (now scratch) ⌝ }
-    ensures { λ r. ⌜ RowWritten (now (ps .entry)) (now (es .entry)) (now (fs .entry)) a firsts row (now (out .entry))
+    requires { ⌜ RowCallable (now ps) (now es) (now ns) (now fs) a firsts row (now scratch) ⌝ }
+    ensures { λ r. ⌜ RowWritten (now (ps .entry)) (now (es .entry)) (now (ns .entry)) (now (fs .entry)) a firsts row (now (out .entry))
         (now (out .exit)) r ⌝ }
 {
     let p = a.patterns;
@@ -57,6 +58,7 @@ fn write_row(
     let judged = judge(
         &ps[..p],
         &es[..e],
+        &ns[..e],
         &fs[..k],
         occurring.functions,
         firsts,
@@ -84,20 +86,21 @@ fn write_named(
     row: Place,
     ps: &[u64],
     es: &[u64],
+    ns: &[u64],
     fs: &[u64],
     ds: &[u64],
     scratch: &mut [u64],
     out: &mut [u8],
 ) -> Written
-    requires { ⌜ Callable (now ps) (now es) (now fs) (now ds) a firsts (now scratch) ⌝ }
-    ensures { λ r. ⌜ NamedWritten (now (ps .entry)) (now (es .entry)) (now (fs .entry)) (now (ds .entry)) a firsts row (now (out .entry))
+    requires { ⌜ Callable (now ps) (now es) (now ns) (now fs) (now ds) a firsts (now scratch) ⌝ }
+    ensures { λ r. ⌜ NamedWritten (now (ps .entry)) (now (es .entry)) (now (ns .entry)) (now (fs .entry)) (now (ds .entry)) a firsts row (now (out .entry))
         (now (out .exit)) r ⌝ }
 {
     let named = named_by(row, a.rows, ds);
     match named {
         Named::Nothing => Written::Refused(16),
         Named::Past => Written::Refused(16),
-        Named::Row => write_row(a, firsts, row, ps, es, fs, scratch, out),
+        Named::Row => write_row(a, firsts, row, ps, es, ns, fs, scratch, out),
     }
 }
 
@@ -107,14 +110,26 @@ pub fn write(problem: &[u8], row: Place, out: &mut [u8]) -> Written
 {
     let mut ps = [0u64; TABLE_ROOM];
     let mut es = [0u64; TABLE_ROOM];
+    let mut ns = [0u64; TABLE_ROOM];
     let mut fs = [0u64; TABLE_ROOM];
     let mut ds = [0u64; Place::MAX_FUNCTIONS * Place::MAX_FACE_NODES];
     let mut scratch = [0u64; TABLE_ROOM];
-    let prepared = prepare(problem, &mut ps, &mut es, &mut fs, &mut ds);
+    let prepared = prepare(problem, &mut ps, &mut es, &mut ns, &mut fs, &mut ds);
     let firsts = prepared.firsts;
     let verdict = prepared.verdict;
     match verdict {
         Verdict::Refused(r) => Written::Refused(r),
-        Verdict::Accepted(a) => write_named(a, firsts, row, &ps, &es, &fs, &ds, &mut scratch, out),
+        Verdict::Accepted(a) => write_named(
+            a,
+            firsts,
+            row,
+            &ps,
+            &es,
+            &ns,
+            &fs,
+            &ds,
+            &mut scratch,
+            out,
+        ),
     }
 }

@@ -1,8 +1,9 @@
 -- `bodies::suits` meets its contract. The loop's invariant is `Walking`; the measure is the number of nodes left of the face.
 use mathlib.Core.Path.{sym, _∙_}
-use Prim.Native.Nat.{_+_, _-_}
+use Prim.Native.Nat.{_-_}
 use native.Mathlib.Omega.{arith}
 use borrow.Author.Tests.{not-true, not-false}
+use Rattle.numbers.specs.Tests.{told}
 use Rattle.bodies.proofs.SuitsLaws.{lowest-room, Walking, suits-begins, suits-ends, suits-out, node-counted, lowest-inside}
 use Rattle.bodies.proofs.SuitsLaws.{hole-stops, hole-goes-on, node-stops, node-goes-on}
 use borrow.Author.Needs.{needs}
@@ -10,10 +11,10 @@ use Rattle.bodies.proofs.suits.Statement.{statement}
 use Rattle.bodies.proofs.suits.Tie as tie
 
 abbrev Inv-loop : tie.InvT-loop
-Inv-loop es face faced mask root n d e low i₀ j₀ i j = Walking es face faced mask n d e low i j
+Inv-loop es ns face faced mask root n d e low i₀ j₀ i j = Walking (told ns) es face faced mask n d e low i j
 
 abbrev μ-loop : tie.MeasureT-loop
-μ-loop es face faced mask root n d e low i₀ j₀ i j = n - i
+μ-loop es ns face faced mask root n d e low i₀ j₀ i j = n - i
 
 mul-root : tie.Need-mul-root Inv-loop μ-loop
 mul-root c = search needs
@@ -41,12 +42,12 @@ lowest-requires c κs = search needs
 
 add-low : tie.Need-add-low Inv-loop μ-loop
 add-low c =
-    let s = c .before .before .before .before .before .before .before in
-    omega (arith, lowest-room (s .args .mask), c .lowest .ensures, s .pre .0 .small, s .pre .1 .1 .1)
+    let s = c .before .before .before .before .before .before .before .before in
+    omega (arith, lowest-room (s .args .mask), c .lowest .ensures, s .pre .0 .small, s .pre .1 .1 .1 .0)
 
 loop-holds : tie.Need-loop-holds Inv-loop μ-loop
 loop-holds c =
-    let s = c .before .before .before .before .before .before .before in
+    let s = c .before .before .before .before .before .before .before .before in
     suits-begins (s .args .faced) (s .args .mask) (s .pre .0) (s .pre .1 .0 (s .args .face) (s .pre .1 .1 .0))
     (c .before .before .before .before .size .ensures)
     (c .before .before .before .depth .ensures) (c .before .depth2 .ensures) (c .lowest .ensures)
@@ -62,7 +63,7 @@ mul-x c = search needs
 
 shared-slice-read-x : tie.Need-shared-slice-read-x Inv-loop μ-loop
 shared-slice-read-x c =
-    let s = c .before .before .before .before .before .before .before .before .before .before .before in
+    let s = c .before .before .before .before .before .before .before .before .before .before .before .before in
     omega (arith, s .pre .1 .0 (s .args .face) (s .pre .1 .1 .0) .ends, c .before .before .before .loop .inv .isSize)
 
 mul-y : tie.Need-mul-y Inv-loop μ-loop
@@ -76,15 +77,12 @@ marked-requires c κs = search needs
 
 hole-fits-requires : tie.Need-hole-fits-requires Inv-loop μ-loop
 hole-fits-requires c κs =
-    let s = c .before .before .before .before .before .before .before .before .before .before .before .before .before .before in
+    let s = c .before .before .before .before .before .before .before .before .before .before .before .before .before .before .before in
     let l = c .before .before .before .before .before .before .loop in
     let low =
     lowest-inside (l .inv) (c .before .before .before .before .before .loop-test .taken) (omega arith)
-    (sym (c .before .marked .ensures) ∙ c .if2 .taken) in (
-      s .pre .1 .0 (s .args .faced + c .before .before .before .before .before .before .before .lowest .result) low,
-      s .pre .1 .0 (l .j)
-          (omega arith),
-    )
+    (sym (c .before .marked .ensures) ∙ c .if2 .taken) in
+    (omega (arith, low, s .pre .1 .1 .1 .1), omega (arith, s .pre .1 .1 .1 .1))
 
 returns-2 : tie.Need-returns-2 Inv-loop μ-loop
 returns-2 c =

@@ -4,6 +4,7 @@ use native.Mathlib.Omega.{arith}
 use Prim.Native.Nat.{ℕ, _-_, _≤_}
 use mathlib.Core.Path.{_≡_, ap, _∙_}
 use mathlib.Core.List.{List}
+use Rattle.numbers.specs.Tests.{told}
 use Rattle.masks.specs.Mask.{width, marks, join}
 use Rattle.masks.specs.Face.{Grown}
 use Rattle.masks.proofs.Build.{grown-none, grown-join}
@@ -12,10 +13,10 @@ use Rattle.classes.proofs.class_of.Statement.{statement}
 use Rattle.classes.proofs.class_of.Tie as tie
 
 abbrev Inv-loop : tie.InvT-loop
-Inv-loop es root i n class₀ k₀ class k = (i ≤ k) × (k ≤ n) × (n ≡ sizeFrom es root) × Grown width (sameFrom es root) i k class
+Inv-loop es ns root i n class₀ k₀ class k = (i ≤ k) × (k ≤ n) × (n ≡ sizeFrom es root) × Grown width (sameFrom (told ns) root) i k class
 
 abbrev μ-loop : tie.MeasureT-loop
-μ-loop es root i n class₀ k₀ class k = n - k
+μ-loop es ns root i n class₀ k₀ class k = n - k
 
 mul-size : tie.Need-mul-size Inv-loop μ-loop
 mul-size c = search needs
@@ -28,11 +29,11 @@ size-requires c κs = search needs
 
 loop-holds : tie.Need-loop-holds Inv-loop μ-loop
 loop-holds c =
-    let s = c .before .before .before in (
+    let s = c .before .before .before .before in (
       omega arith,
       omega (arith, c .size .ensures),
       c .size .ensures,
-      grown-none width (sameFrom (s .args .es .now) (s .args .root)) (s .args .i),
+      grown-none width (sameFrom (told (s .args .ns .now)) (s .args .root)) (s .args .i),
     )
 
 add-same : tie.Need-add-same Inv-loop μ-loop
@@ -44,8 +45,8 @@ add-same-2 c = search needs
 same-requires : tie.Need-same-requires Inv-loop μ-loop
 same-requires c κs =
     let at = c .before in
-    let s = at .before .before .before .before in
-    (s .pre .0 .inside (s .args .i) (s .pre .1), s .pre .0 .inside (at .loop .k) (omega (arith, at .loop .inv .2)))
+    let s = at .before .before .before .before .before in
+    (omega (arith, s .pre .0 .ends, s .pre .1 .0, s .pre .1 .1), omega (arith, s .pre .0 .ends, s .pre .1 .0, at .loop .inv .2))
 
 join-equal-requires : tie.Need-join-equal-requires Inv-loop μ-loop
 join-equal-requires c κs = search needs
@@ -60,22 +61,22 @@ loop-again : tie.Need-loop-again Inv-loop μ-loop
 unfolding sameFrom
 loop-again c =
     let at = c .before .before .before in
-    let s = at .before .before .before .before in
-    let es : List ℕ = s .args .es .now in
+    let s = at .before .before .before .before .before in
+    let ns : List ℕ = s .args .ns .now in
     let k : ℕ = at .loop .k in
-    let e : marks width (c .join-equal .result) ≡ join (marks width (at .loop .class)) k (sameFrom es (s .args .root) (s .args .i) k) =
+    let e : marks width (c .join-equal .result) ≡ join (marks width (at .loop .class)) k (sameFrom (told ns) (s .args .root) (s .args .i) k) =
     c .join-equal .ensures ∙ ap (join (marks width (at .loop .class)) k) (c .before .same .ensures) in (
       omega arith,
       omega arith,
       at .loop .inv .2,
-      grown-join width (sameFrom es (s .args .root)) (s .args .i) k (at .loop .class) (c .join-equal .result) (omega arith)
+      grown-join width (sameFrom (told ns) (s .args .root)) (s .args .i) k (at .loop .class) (c .join-equal .result) (omega arith)
           (omega (arith, at .loop .inv .2, s .pre .0 .fits)) (omega (arith, c .join-equal .ok)) (at .loop .inv .3) e,
     )
 
 returns : tie.Need-returns Inv-loop μ-loop
 returns c =
     let at = c .before in
-    let e : at .loop .k ≡ sizeFrom (at .before .before .before .before .args .es .now) (at .before .before .before .before .args .root) =
+    let e : at .loop .k ≡ sizeFrom (at .before .before .before .before .before .args .es .now) (at .before .before .before .before .before .args .root) =
     omega (arith, at .loop .inv .2) in
     rw e at (at .loop .inv .3)
 

@@ -5,22 +5,22 @@ use Prim.Native.Nat.{_+_}
 use mathlib.Core.Path.{_≡_, ap, sym, _∙_}
 use lib.ListN.{getD}
 use Rattle.tokens.specs.Token.{depthIn}
-use Rattle.tokens.specs.Key.{usesAt}
+use Rattle.numbers.specs.Tests.{told}
 use Rattle.classes.proofs.Entries.{entry-past, entry-bound, entry-free}
 use Rattle.classes.proofs.entry_of.Statement.{statement}
 use Rattle.classes.proofs.entry_of.Tie as tie
 
 -- what the test of binders in between finds
-found : (c : tie.After-uses-between)
-    → c .uses-between .result
-    ≡ usesAt (c .before .before .before .before .before .before .args .es .now)
-    (c .before .before .before .before .before .before .args .root + c .before .before .before .before .before .before .args .i)
+found : (c : tie.After-uses)
+    → c .uses .result
+    ≡ told (c .before .before .before .before .before .before .before .args .ns .now) .uses
+    (c .before .before .before .before .before .before .before .args .root + c .before .before .before .before .before .before .before .args .i)
     (depthIn
-    (getD (c .before .before .before .before .before .before .args .es .now)
-    (c .before .before .before .before .before .before .args .root) 0))
+    (getD (c .before .before .before .before .before .before .before .args .es .now)
+    (c .before .before .before .before .before .before .before .args .root) 0))
 found c =
-    let s = c .before .before .before .before .before .before .args in
-    c .uses-between .ensures ∙ ap (usesAt (s .es .now) (s .root + s .i)) (c .before .depth .ensures)
+    let s = c .before .before .before .before .before .before .before .args in
+    c .uses .ensures ∙ ap (told (s .ns .now) .uses (s .root + s .i)) (c .before .depth .ensures)
 
 mul-x : tie.Need-mul-x
 mul-x c = search needs
@@ -33,32 +33,32 @@ size-requires c κs = search needs
 
 returns : tie.Need-returns
 returns c =
-    let s = c .before .before .before .before in
-    entry-past (s .args .es .now) (s .args .root) (s .args .i) (omega (arith, c .before .size .ensures))
+    let s = c .before .before .before .before .before in
+    entry-past (told (s .args .ns .now)) (s .args .es .now) (s .args .root) (s .args .i) (omega (arith, c .before .size .ensures))
 
-add-uses-between : tie.Need-add-uses-between
-add-uses-between c = search needs
+add-uses : tie.Need-add-uses
+add-uses c = search needs
 
 depth-requires : tie.Need-depth-requires
 depth-requires c κs = search needs
 
-uses-between-requires : tie.Need-uses-between-requires
-uses-between-requires c κs =
-    let s = c .before .before .before .before .before in
-    s .pre .inside (s .args .i) (omega (arith, c .before .before .size .ensures))
+uses-requires : tie.Need-uses-requires
+uses-requires c κs =
+    let s = c .before .before .before .before .before .before in
+    omega (arith, s .pre .0 .ends, s .pre .1, c .before .before .size .ensures)
 
 returns-2 : tie.Need-returns-2
 returns-2 c =
-    let s = c .before .before .before .before .before .before .before in
-    entry-bound (s .args .es .now) (s .args .root) (s .args .i) (sym (found (c .before)) ∙ c .if2 .taken)
+    let s = c .before .before .before .before .before .before .before .before in
+    entry-bound (told (s .args .ns .now)) (s .args .es .now) (s .args .root) (s .args .i) (sym (found (c .before)) ∙ c .if2 .taken)
 
 class-of-requires : tie.Need-class-of-requires
 class-of-requires c κs = search needs
 
 returns-3 : tie.Need-returns-3
 returns-3 c =
-    let s = c .before .before .before .before .before .before .before .before in
-    entry-free (s .args .es .now) (s .args .root) (s .args .i) (c .class-of .result)
+    let s = c .before .before .before .before .before .before .before .before .before in
+    entry-free (told (s .args .ns .now)) (s .args .es .now) (s .args .root) (s .args .i) (c .class-of .result)
     (omega (arith, c .before .before .before .before .before .size .ensures)) (sym (found (c .before .before)) ∙ c .before .if2 .left)
     (c .class-of .ensures)
 
@@ -70,9 +70,9 @@ entry-of-spec =
     shared-slice-read-x
     size-requires
     returns
-    add-uses-between
+    add-uses
     depth-requires
-    uses-between-requires
+    uses-requires
     returns-2
     class-of-requires
     returns-3)

@@ -1,6 +1,4 @@
 -- `application_demanded` meets its contract: one law for each return.
-use mathlib.Core.Path.{ap, sym, _∙_}
-use mathlib.Core.Bool.{not}
 use borrow.Author.Needs.{needs}
 use Rattle.fit.proofs.CodeLaws.{application-unsuited, application-suited, application-open, application-filled}
 use Rattle.fit.proofs.application_demanded.Statement.{statement}
@@ -11,23 +9,24 @@ suits-requires c κs = search needs
 
 returns : tie.Need-returns
 returns c =
-    let a = c .before .before .before .before .before .args in
-    application-unsuited (a .ps .now) (a .es .now) (a .face) (a .node) (a .mask) (a .kept .nodes)
-    (ap not (sym (c .before .suits .ensures)) ∙ c .if1 .taken)
+    let a = c .before .before .before .before .before .before .args in
+    application-unsuited (a .ps .now) (a .es .now) (a .ns .now) (a .face) (a .node) (a .mask) (a .kept .nodes)
+    (c .before .suits .result) (c .before .suits .ensures) (c .if1 .taken)
 
 returns-2 : tie.Need-returns-2
 returns-2 c =
-    let a = c .before .before .before .before .before .before .args in
-    application-open (a .ps .now) (a .es .now) (a .face) (a .node) (a .mask) (a .kept .nodes)
-    (ap not (sym (c .before .before .suits .ensures)) ∙ c .before .if1 .left) (c .if2 .taken)
+    let a = c .before .before .before .before .before .before .before .args in
+    application-open (a .ps .now) (a .es .now) (a .ns .now) (a .face) (a .node) (a .mask) (a .kept .nodes)
+    (c .before .before .suits .result) (c .before .before .suits .ensures) (c .before .if1 .left) (c .if2 .taken)
 
 argument-demanded-requires : tie.Need-argument-demanded-requires
 argument-demanded-requires c κs =
-    let s = c .before .before .before .before .before .before .before in
+    let s = c .before .before .before .before .before .before .before .before in
     let a = s .args in (
       s .pre .0,
-      s .pre .1 .walks (application-suited (a .ps .now) (a .es .now) (a .face) (a .node) (a .mask) (a .kept .nodes)
-          (ap not (sym (c .before .before .before .suits .ensures)) ∙ c .before .before .if1 .left)) (c .before .if2 .left),
+      s .pre .1 .walks (application-suited (a .ps .now) (a .es .now) (a .ns .now) (a .face) (a .node) (a .mask) (a .kept .nodes)
+          (c .before .before .before .suits .result) (c .before .before .before .suits .ensures) (c .before .before .if1 .left))
+          (c .before .if2 .left),
       s .pre .2,
     )
 
@@ -36,11 +35,12 @@ same-length c = search needs
 
 returns-3 : tie.Need-returns-3
 returns-3 c =
-    let a = c .before .before .before .before .before .before .before .before .before .before .args in
+    let a = c .before .before .before .before .before .before .before .before .before .before .before .args in
+    let s = c .before .before .before .before .before .before .suits in
     let r = c .before .before .argument-demanded in
-    application-filled (a .ps .now) (a .es .now) (a .face) (a .node) (a .mask) (a .kept .nodes)
-    (ap not (sym (c .before .before .before .before .before .before .suits .ensures))
-    ∙ c .before .before .before .before .before .if1 .left) (c .before .before .before .before .if2 .left) (r .result) (r .ensures)
+    application-filled (a .ps .now) (a .es .now) (a .ns .now) (a .face) (a .node) (a .mask) (a .kept .nodes)
+    (s .result) (s .ensures) (c .before .before .before .before .before .if1 .left) (c .before .before .before .before .if2 .left)
+    (r .result) (r .ensures)
 
 pub application-demanded-spec : {M : Type 1} → statement M
 application-demanded-spec =

@@ -48,14 +48,14 @@ lowest-requires c κs = search needs
 add-at : tie.Need-add-at
 add-at c = search needs
 
-add-t13 : tie.Need-add-t13
-add-t13 c = search needs
+add-t14 : tie.Need-add-t14
+add-t14 c = search needs
 
 size-requires : tie.Need-size-requires
 size-requires c κs = search needs
 
-add-t16 : tie.Need-add-t16
-add-t16 c = search needs
+add-t17 : tie.Need-add-t17
+add-t17 c = search needs
 
 depth-requires : tie.Need-depth-requires
 depth-requires c κs = search needs
@@ -71,24 +71,27 @@ depth-requires-2 c κs = search needs
 
 walk-at-requires : tie.Need-walk-at-requires
 walk-at-requires c κs =
-    let s = c .before .before .before .before .before .before .before .before .before .before in
+    let s = c .before .before .before .before .before .before .before .before .before .before .before in
     let a = s .args in
     subst (Lent (a .ps .now) (a .es .now) (a .scratch .now))
     (sym (span-is (a .ps .now) (a .es .now) (a .face) (a .mask) (c .before .before .before .before .before .lowest .result)
     (c .before .before .before .before .size .result)
     (c .before .before .before .depth .result) (c .before .depth2 .result) (c .before .before .before .before .before .lowest .ensures)
     (c .before .before .before .before .size .ensures) (c .before .before .before .depth .ensures) (c .before .depth2 .ensures)))
-    (argument-lent (a .ps .now) (a .es .now) (a .scratch .now) (a .face) (a .mask) (s .pre .0) (s .pre .1))
+    (argument-lent (a .ps .now) (a .es .now) (a .ns .now) (a .scratch .now) (a .face) (a .mask) (s .pre .0) (s .pre .1))
 
 module _ (c : lts.After-walk-at callees reads.Pre reads.Post) where
   abbrev start : lts.Start callees reads.Pre reads.Post
-  start = c .before .before .before .before .before .before .before .before .before .before .before
+  start = c .before .before .before .before .before .before .before .before .before .before .before .before
 
   abbrev ps : List ℕ
   ps = start .args .ps .now
 
   abbrev es : List ℕ
   es = start .args .es .now
+
+  abbrev ns : List ℕ
+  ns = start .args .ns .now
 
   abbrev new : List ℕ
   new = c .walk-at .last .1 .1 .1 .0
@@ -136,7 +139,7 @@ all-demanded-requires c κs =
     let n = c .before .before .n .given in
     let s = start w in (
       s .pre .2,
-      argument-reads (ps w) (es w) (new w) (s .args .face) (s .args .mask) (n .0 .0) (s .pre .1) (recorded w (n .0 .0) (n .1)),
+      argument-reads (ps w) (es w) (ns w) (new w) (s .args .face) (s .args .mask) (n .0 .0) (s .pre .1) (recorded w (n .0 .0) (n .1)),
     )
 
 same-length : tie.Need-same-length
@@ -146,7 +149,7 @@ returns : tie.Need-returns
 returns c =
     let w = c .before .before .before .before in
     let a = start w .args in
-    argument-disagrees (ps w) (es w) (a .face) (a .mask) (a .kept .nodes) (failed w (c .enum-told .given .1))
+    argument-disagrees (ps w) (es w) (ns w) (a .face) (a .mask) (a .kept .nodes) (failed w (c .enum-told .given .1))
 
 same-length-2 : tie.Need-same-length-2
 same-length-2 c = search needs
@@ -156,7 +159,7 @@ returns-2 c =
     let w = c .before .before .before .before .before .before .before in
     let n = c .before .before .before .n .given in
     let a = start w .args in
-    argument-demands (ps w) (es w) (a .face) (a .mask) (a .kept .nodes) (new w) (n .0 .0) (recorded w (n .0 .0) (n .1))
+    argument-demands (ps w) (es w) (ns w) (a .face) (a .mask) (a .kept .nodes) (new w) (n .0 .0) (recorded w (n .0 .0) (n .1))
     (c .all-demanded .result) (c .all-demanded .ensures)
 
 pub argument-demanded-spec : {M : Type 1} → statement M
@@ -167,9 +170,9 @@ argument-demanded-spec =
     shared-slice-read-x
     lowest-requires
     add-at
-    add-t13
+    add-t14
     size-requires
-    add-t16
+    add-t17
     depth-requires
     mul-depth
     shared-slice-read-depth

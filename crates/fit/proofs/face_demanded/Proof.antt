@@ -22,8 +22,8 @@ tag-requires c κs = search needs
 
 returns : tie.Need-returns
 returns c =
-    let a = c .before .before .before .before .before .before .args in
-    face-plain (a .ps .now) (a .es .now) (a .functions) (a .t5) (a .t6) (a .face) (a .kept .nodes) (c .before .tag .result)
+    let a = c .before .before .before .before .before .before .before .args in
+    face-plain (a .ps .now) (a .es .now) (a .ns .now) (a .functions) (a .t6) (a .t7) (a .face) (a .kept .nodes) (c .before .tag .result)
     (c .before .tag .ensures) (c .if1 .taken)
 
 payload-requires : tie.Need-payload-requires
@@ -32,21 +32,21 @@ payload-requires c κs = search needs
 cast-rank : tie.Need-cast-rank
 unfolding metavariableCount
 cast-rank c =
-    let s = c .before .before .before .before .before .before .before in
+    let s = c .before .before .before .before .before .before .before .before in
     let few = s .pre .1 .number (sym (c .before .before .tag .ensures) ∙ c .before .if1 .left) in
     omega (arith, few, c .payload .ensures)
 
 rank-requires : tie.Need-rank-requires
 unfolding metavariableCount
 rank-requires c κs =
-    let s = c .before .before .before .before .before .before .before in
+    let s = c .before .before .before .before .before .before .before .before in
     let few = s .pre .1 .number (sym (c .before .before .tag .ensures) ∙ c .before .if1 .left) in
     omega (arith, few, c .payload .ensures)
 
 mul-application-demanded : tie.Need-mul-application-demanded
 unfolding maxFunctions
 mul-application-demanded c =
-    let s = c .before .before .before .before .before .before .before .before in
+    let s = c .before .before .before .before .before .before .before .before .before in
     let a = s .args in
     let few = s .pre .1 .rank (sym (c .before .before .before .tag .ensures) ∙ c .before .before .if1 .left) in
     omega (arith, few, (c .rank .ensures ∙ ap (λ (m : ℕ). count m (a .functions)) (c .before .payload .ensures)))
@@ -54,7 +54,7 @@ mul-application-demanded c =
 array-read-application-demanded : tie.Need-array-read-application-demanded
 unfolding maxFunctions
 array-read-application-demanded c =
-    let s = c .before .before .before .before .before .before .before .before in
+    let s = c .before .before .before .before .before .before .before .before .before in
     let a = s .args in
     let few = s .pre .1 .rank (sym (c .before .before .before .tag .ensures) ∙ c .before .before .if1 .left) in
     omega (arith, few, (c .rank .ensures ∙ ap (λ (m : ℕ). count m (a .functions)) (c .before .payload .ensures)))
@@ -62,7 +62,7 @@ array-read-application-demanded c =
 mul-application-demanded-2 : tie.Need-mul-application-demanded-2
 unfolding maxFunctions
 mul-application-demanded-2 c =
-    let s = c .before .before .before .before .before .before .before .before in
+    let s = c .before .before .before .before .before .before .before .before .before in
     let a = s .args in
     let few = s .pre .1 .rank (sym (c .before .before .before .tag .ensures) ∙ c .before .before .if1 .left) in
     omega (arith, few, (c .rank .ensures ∙ ap (λ (m : ℕ). count m (a .functions)) (c .before .payload .ensures)))
@@ -70,18 +70,18 @@ mul-application-demanded-2 c =
 array-read-application-demanded-2 : tie.Need-array-read-application-demanded-2
 unfolding maxFunctions
 array-read-application-demanded-2 c =
-    let s = c .before .before .before .before .before .before .before .before in
+    let s = c .before .before .before .before .before .before .before .before .before in
     let a = s .args in
     let few = s .pre .1 .rank (sym (c .before .before .before .tag .ensures) ∙ c .before .before .if1 .left) in
     omega (arith, few, (c .rank .ensures ∙ ap (λ (m : ℕ). count m (a .functions)) (c .before .payload .ensures)))
 
 application-demanded-requires : tie.Need-application-demanded-requires
 application-demanded-requires c κs =
-    let s = c .before .before .before .before .before .before .before .before .before in
+    let s = c .before .before .before .before .before .before .before .before .before .before in
     let a = s .args in
     let e = (c .before .rank .ensures ∙ ap (λ (m : ℕ). count m (a .functions)) (c .before .before .payload .ensures)) in (
       s .pre .0,
-      subst (λ (k : ℕ). Applicable (a .ps .now) (a .es .now) (a .face) (at (a .t5) k) (at (a .t6) k)) (sym e)
+      subst (λ (k : ℕ). Applicable (a .ps .now) (a .es .now) (a .ns .now) (a .face) (at (a .t6) k) (at (a .t7) k)) (sym e)
           (s .pre .1 .applies (sym (c .before .before .before .before .tag .ensures) ∙ c .before .before .before .if1 .left)),
       s .pre .2,
     )
@@ -91,9 +91,9 @@ same-length c = search needs
 
 returns-2 : tie.Need-returns-2
 returns-2 c =
-    let a = c .before .before .before .before .before .before .before .before .before .before .before .before .args in
+    let a = c .before .before .before .before .before .before .before .before .before .before .before .before .before .args in
     let r = c .before .before .application-demanded in
-    face-applies (a .ps .now) (a .es .now) (a .functions) (a .t5) (a .t6) (a .face) (a .kept .nodes)
+    face-applies (a .ps .now) (a .es .now) (a .ns .now) (a .functions) (a .t6) (a .t7) (a .face) (a .kept .nodes)
     (c .before .before .before .before .before .before .before .tag .result)
     (c .before .before .before .before .before .before .before .tag .ensures) (c .before .before .before .before .before .before .if1 .left)
     (c .before .before .before .before .rank .result)

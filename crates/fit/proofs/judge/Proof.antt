@@ -11,16 +11,16 @@ bodies-closed-requires c κs = search needs
 
 returns : tie.Need-returns
 returns c =
-    let a = c .before .before .before .before .before .before .args in
-    judges-open (a .ps .now) (a .es .now) (a .faces .now) (a .functions) (a .firsts) (a .row)
+    let a = c .before .before .before .before .before .before .before .args in
+    judges-open (a .ps .now) (a .es .now) (a .ns .now) (a .faces .now) (a .functions) (a .firsts) (a .row)
     (ap not (sym (c .before .bodies-closed .ensures)) ∙ c .if1 .taken) _
 
 all-faces-requires : tie.Need-all-faces-requires
 all-faces-requires c κs =
-    let s = c .before .before .before .before .before .before .before in
+    let s = c .before .before .before .before .before .before .before .before in
     let a = s .args in (
       s .pre,
-      closed-all (a .ps .now) (a .es .now) (a .faces .now) (a .functions) (a .firsts) (a .row)
+      closed-all (a .ps .now) (a .es .now) (a .ns .now) (a .faces .now) (a .functions) (a .firsts) (a .row)
           (ap not (sym (c .before .before .bodies-closed .ensures)) ∙ c .before .if1 .left),
     )
 
@@ -29,10 +29,10 @@ same-length c = search needs
 
 returns-2 : tie.Need-returns-2
 returns-2 c =
-    let a = c .before .before .before .before .before .before .before .before .before .before .before .args in
+    let a = c .before .before .before .before .before .before .before .before .before .before .before .before .args in
     let r = c .before .before .before .all-faces in
-    judges-closed (a .ps .now) (a .es .now) (a .faces .now) (a .functions) (a .firsts) (a .row)
-    (closed-all (a .ps .now) (a .es .now) (a .faces .now) (a .functions) (a .firsts) (a .row)
+    judges-closed (a .ps .now) (a .es .now) (a .ns .now) (a .faces .now) (a .functions) (a .firsts) (a .row)
+    (closed-all (a .ps .now) (a .es .now) (a .ns .now) (a .faces .now) (a .functions) (a .firsts) (a .row)
     (ap not (sym (c .before .before .before .before .before .before .bodies-closed .ensures))
     ∙ c .before .before .before .before .before .if1 .left)) (r .result) (r .ensures)
 

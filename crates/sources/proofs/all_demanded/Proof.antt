@@ -4,16 +4,17 @@ use mathlib.Core.Path.{refl}
 use Prim.Native.Nat.{_-_}
 use lib.ListN.{length}
 use borrow.Author.Needs.{needs}
+use Rattle.numbers.specs.Tests.{told}
 use Rattle.sources.specs.Demand.{demandsIn, keptAfter}
 use Rattle.sources.proofs.KeptLaws.{Going, going-reads, going-on, going-fails, going-ends}
 use Rattle.sources.proofs.all_demanded.Statement.{statement}
 use Rattle.sources.proofs.all_demanded.Tie as tie
 
 abbrev Inv-loop : tie.InvT-loop
-Inv-loop ps es faces kept₀ k₀ kept k = Going ps es faces (keptAfter es (kept₀ .nodes) (demandsIn ps faces)) k (kept .nodes)
+Inv-loop ps ns faces kept₀ k₀ kept k = Going ps ns faces (keptAfter (told ns) (kept₀ .nodes) (demandsIn ps faces)) k (kept .nodes)
 
 abbrev μ-loop : tie.MeasureT-loop
-μ-loop ps es faces kept₀ k₀ kept k = length faces - k
+μ-loop ps ns faces kept₀ k₀ kept k = length faces - k
 
 loop-holds : tie.Need-loop-holds Inv-loop μ-loop
 loop-holds c =
@@ -31,7 +32,7 @@ demanded-at-requires c κs =
     let a = c .before .before in
     let s = a .before .before .before .before in (
       a .loop .inv .nodes,
-      going-reads (s .args .ps .now) (s .args .es .now) (s .args .faces .now) _ (a .loop .k) (a .loop .kept .nodes)
+      going-reads (s .args .ps .now) (s .args .ns .now) (s .args .faces .now) _ (a .loop .k) (a .loop .kept .nodes)
           (a .loop .inv) (c .before .loop-test .taken),
     )
 
@@ -40,7 +41,7 @@ returns c =
     let a = c .before .before .before .before .before in
     let s = a .before .before .before .before in
     let n = c .before .before .demanded-at in
-    going-fails (s .args .ps .now) (s .args .es .now) (s .args .faces .now) _ (a .loop .k) (a .loop .kept .nodes) (a .loop .inv)
+    going-fails (s .args .ps .now) (s .args .ns .now) (s .args .faces .now) _ (a .loop .k) (a .loop .kept .nodes) (a .loop .inv)
     (c .before .before .before .before .loop-test .taken) (n .result) (n .ensures) (c .if1 .taken)
 
 add-k : tie.Need-add-k Inv-loop μ-loop
@@ -54,14 +55,14 @@ loop-again c =
     let a = c .before .before .before .before .before .before in
     let s = a .before .before .before .before in
     let n = c .before .before .before .demanded-at in
-    going-on (s .args .ps .now) (s .args .es .now) (s .args .faces .now) _ (a .loop .k) (a .loop .kept .nodes) (a .loop .inv)
+    going-on (s .args .ps .now) (s .args .ns .now) (s .args .faces .now) _ (a .loop .k) (a .loop .kept .nodes) (a .loop .inv)
     (c .before .before .before .before .before .loop-test .taken) (n .result) (n .ensures) (c .before .if1 .left)
 
 returns-2 : tie.Need-returns-2 Inv-loop μ-loop
 returns-2 c =
     let a = c .before in
     let s = a .before .before .before .before in
-    going-ends (s .args .ps .now) (s .args .es .now) (s .args .faces .now) _ (a .loop .k) (a .loop .kept .nodes) (a .loop .inv)
+    going-ends (s .args .ps .now) (s .args .ns .now) (s .args .faces .now) _ (a .loop .k) (a .loop .kept .nodes) (a .loop .inv)
     (c .loop-test .left)
 
 pub all-demanded-spec : {M : Type 1} → statement M

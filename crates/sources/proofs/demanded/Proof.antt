@@ -1,6 +1,7 @@
 -- `demanded` meets its contract: a demand that is not the first is compared with the first, one that is, is kept.
 use borrow.Author.Needs.{needs}
 use Rattle.meaning.specs.Limits.{metavariableCount}
+use Rattle.numbers.specs.Tests.{told}
 use Rattle.sources.proofs.KeptLaws.{answers-first, answers-later}
 use Rattle.sources.proofs.demanded.Statement.{statement}
 use Rattle.sources.proofs.demanded.Tie as tie
@@ -21,7 +22,7 @@ same-requires c κs =
 returns : tie.Need-returns
 returns c =
     let a = c .before .before .before .before .args in
-    answers-later (a .es .now) (a .t2 .nodes) (a .m, a .node) (c .before .if1 .taken) (c .same .result) (c .same .ensures)
+    answers-later (told (a .ns .now)) (a .t2 .nodes) (a .m, a .node) (c .before .if1 .taken) (c .same .result) (c .same .ensures)
 
 mul-kept : tie.Need-mul-kept
 unfolding metavariableCount
@@ -37,7 +38,7 @@ closed-requires c κs = search needs
 returns-2 : tie.Need-returns-2
 returns-2 c =
     let a = c .before .before .before .before .args in
-    answers-first (a .es .now) (a .t2 .nodes) (a .m, a .node) (c .before .if1 .left) (c .closed .result) (c .closed .ensures)
+    answers-first (told (a .ns .now)) (a .t2 .nodes) (a .m, a .node) (c .before .if1 .left) (c .closed .result) (c .closed .ensures)
 
 pub demanded-spec : {M : Type 1} → statement M
 demanded-spec =

@@ -16,7 +16,7 @@ tag-requires c κs = search needs
 returns : tie.Need-returns
 returns c =
     let a = c .before .before .before .before .before .args in
-    face-none (a .ps .now) (a .es .now) (a .sources .nodes) (a .face) (c .before .tag .result) (c .before .tag .ensures) (c .if1 .taken)
+    face-none (a .ps .now) (a .ns .now) (a .sources .nodes) (a .face) (c .before .tag .result) (c .before .tag .ensures) (c .if1 .taken)
 
 payload-requires : tie.Need-payload-requires
 payload-requires c κs = search needs
@@ -26,7 +26,7 @@ demanded-requires c κs =
     let s = c .before .before .before .before .before .before in
     let t = c .before .before .tag in (
       s .pre .0,
-      face-asks (s .args .ps .now) (s .args .es .now) (s .args .sources .nodes) (s .args .face) (t .result) (t .ensures)
+      face-asks (s .args .ps .now) (s .args .ns .now) (s .args .sources .nodes) (s .args .face) (t .result) (t .ensures)
           (c .before .if1 .left)
           (c .payload .result) (c .payload .ensures) (s .pre .1),
     )
@@ -35,7 +35,7 @@ returns-2 : tie.Need-returns-2
 returns-2 c =
     let a = c .before .before .before .before .before .before .before .args in
     let t = c .before .before .before .tag in
-    face-one (a .ps .now) (a .es .now) (a .sources .nodes) (a .face) (t .result) (t .ensures) (c .before .before .if1 .left)
+    face-one (a .ps .now) (a .ns .now) (a .sources .nodes) (a .face) (t .result) (t .ensures) (c .before .before .if1 .left)
     (c .before .payload .result) (c .before .payload .ensures) (c .demanded .result) (c .demanded .ensures)
 
 pub demanded-at-spec : {M : Type 1} → statement M

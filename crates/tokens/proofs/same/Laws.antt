@@ -1,14 +1,12 @@
 -- What the functions of `same` owe: the law of each return and of each turn of a loop, over the numbers that the code holds.
---   left        what a loop has yet to look at: of n nodes in a row all but the first k
---   ..From k    the same of two lists of nodes that are compared: whether those from k on are alike, and how many pairs are compared there
+--   ..From k    of two lists of nodes that are compared: whether those from k on are alike, and how many pairs are compared there
 use mathlib.Core.Path.{_≡_, refl, ap, ap₂, sym, _∙_}
-use mathlib.Core.Bool.{Bool, true, false, _&&_, _||_, not, and-true, and-false}
+use mathlib.Core.Bool.{Bool, true, false, _&&_, not, and-true, and-false}
 use mathlib.Core.List.{List, [], _∷_}
 use Prim.Native.Nat.{ℕ, suc, _+_, _*_, _-_, _<_, _≤_, min}
 use native.Mathlib.Omega.{arith}
-use native.Mathlib.Nat.{add-zero, sub-zero}
 use native.Mathlib.Decide.{decLt}
-use lib.ListN.{length, take, drop, length-drop}
+use lib.ListN.{length, drop, length-drop}
 use lib.Seq.{drop-cons}
 use lib.Dec.{eqb, ltb, leb}
 use borrow.Author.Tests.{eq-eqb, ne-eqb, lt-ltb, le-ltb, lt-leb, eqb-true, not-true, not-false}
@@ -18,7 +16,7 @@ use Rattle.meaning.specs.Compare.{pairs}
 use Rattle.meaning.proofs.Lists.{choose-true, choose-false, T-true, true-T, and-T}
 use Rattle.tokens.specs.Token.{tagIn, depthIn, sizeIn, payloadIn}
 use Rattle.tokens.specs.Key.{upperHalf, lowerHalf, keyOfVariable, keyOfPayload, keyOf, keys, at, nodes, part, sameKeys, sameAcross}
-use Rattle.tokens.specs.Key.{reaches, agreeUnder, comparedBy, comparedAcross, anyReaches, usesAt}
+use Rattle.tokens.specs.Key.{reaches, agreeUnder, comparedBy, comparedAcross}
 use Rattle.tokens.specs.declared.same.Compared.{Compared}
 
 -- The three keys of a variable, and the keys of a payload
@@ -116,46 +114,6 @@ all-shared d e (x ∷ xs) (y ∷ ys) = ap₂ _&&_ (one x y) (all-shared d e xs y
     one : (x y : ℕ) → agreeUnder d d e x y ≡ sameKeys d e x y
     one x y = agree-both d d e x y ∙ ap (λ (c : Bool). sameKeys d e x y && not c) (reaches-none d x) ∙ and-true _
 
--- What is left of n nodes in a row after the first k
-abbrev pub left : List ℕ → ℕ → ℕ → ℕ → List ℕ
-left t a n k = nodes t (a + k) (n - k)
-
-left-all : (t : List ℕ) (a n : ℕ) → left t a n 0 ≡ nodes t a n
-left-all t a n = rw (add-zero, sub-zero)
-
-left-next : (t : List ℕ) (a n k : ℕ) → a + n ≤ length t → k < n → left t a n k ≡ at t (a + k) ∷ left t a n (k + 1)
-left-next t a n k h g =
-    let more : n - k ≡ suc (n - (k + 1)) = omega arith in
-    let next : suc (a + k) ≡ a + (k + 1) = omega arith in
-    ap₂ take more (drop-cons t (a + k) 0 (omega arith)) ∙ ap (λ (i : ℕ). at t (a + k) ∷ take (n - (k + 1)) (drop i t)) next
-
-left-none : (t : List ℕ) (a n k : ℕ) → n ≤ k → left t a n k ≡ []
-left-none t a n k h = let z : n - k ≡ 0 = omega arith in rw z
-
--- The loop over the nodes of one subterm
-module _ (d r : ℕ) (t : List ℕ) (a n : ℕ) where
-  abbrev pub leftReaches : ℕ → Bool
-  leftReaches k = anyReaches d r (left t a n k)
-
-  pub reaches-begins : leftReaches 0 ≡ anyReaches d r (nodes t a n)
-  reaches-begins = rw (left-all t a n)
-
-  pub reaches-ends : (k : ℕ) → n ≤ k → false ≡ leftReaches k
-  unfolding anyReaches
-  reaches-ends k h = rw (left-none t a n k h)
-
-  module _ (fits : a + n ≤ length t) (k : ℕ) (h : k < n) where
-    reaches-step : leftReaches k ≡ reaches d r (at t (a + k)) || leftReaches (k + 1)
-    unfolding anyReaches
-    reaches-step = ap (anyReaches d r) (left-next t a n k fits h)
-
-    module _ (found : Bool) (is-found : found ≡ reaches d r (at t (a + k))) where
-      pub reaches-goes-on : found ≡ false → leftReaches (k + 1) ≡ leftReaches k
-      reaches-goes-on q = sym (reaches-step ∙ ap (λ (c : Bool). c || leftReaches (k + 1)) (sym is-found ∙ q))
-
-      pub reaches-stops : found ≡ true → true ≡ leftReaches k
-      reaches-stops q = sym (reaches-step ∙ ap (λ (c : Bool). c || leftReaches (k + 1)) (sym is-found ∙ q))
-
 -- Lists of nodes compared by a test f: what a turn of the loop, and its end, make of those from k on
 module _ (f : ℕ → ℕ → Bool) (xs ys : List ℕ) where
   abbrev pub alikeFrom : ℕ → Bool
@@ -214,12 +172,6 @@ same-judged t a u b d r is-d is-r =
     ap (λ (c : Compared). c .equal) is-r
     ∙ ap (λ (i : ℕ). allAlike (agreeUnder i (depthIn (at t a)) (depthIn (at u b))) (part t a) (part u b)) is-d
     ∙ all-shared (depthIn (at t a)) (depthIn (at u b)) (part t a) (part u b)
-
--- Which outer binders a subterm uses, by its size m and its depth r as the code has them
-pub uses-judged : (t : List ℕ) (a d m r : ℕ) (found : Bool) → m ≡ sizeIn (at t a) → r ≡ depthIn (at t a)
-    → found ≡ anyReaches d r (nodes t a m) → found ≡ usesAt t a d
-unfolding usesAt
-uses-judged t a d m r found is-m is-r is-found = is-found ∙ ap₂ (λ (j i : ℕ). anyReaches d j (nodes t a i)) is-r is-m
 
 -- A token's key out of its parts
 pub key-judged : (d x kind depth load key : ℕ) → kind ≡ tagIn x → depth ≡ depthIn x → load ≡ payloadIn x

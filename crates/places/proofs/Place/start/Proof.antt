@@ -2,7 +2,7 @@
 use mathlib.Core.Path.{refl}
 use borrow.Author.Needs.{needs}
 use Rattle.meaning.specs.Limits.{maxFunctions}
-use Rattle.prepare.proofs.PreparedLaws.{fresh-rooms, fresh-long}
+use Rattle.prepare.proofs.PreparedLaws.{fresh-rooms, fresh-room, fresh-long}
 use Rattle.places.proofs.Naming.{starts-refused, starts-open, starts-begins}
 use Rattle.places.proofs.Place.start.Statement.{statement}
 use Rattle.places.proofs.Place.start.Tie as tie
@@ -19,9 +19,12 @@ slice-aggregate-prepare-3 c = search needs
 slice-aggregate-prepare-4 : tie.Need-slice-aggregate-prepare-4
 slice-aggregate-prepare-4 c = search needs
 
+slice-aggregate-prepare-5 : tie.Need-slice-aggregate-prepare-5
+slice-aggregate-prepare-5 c = search needs
+
 prepare-requires : tie.Need-prepare-requires
 unfolding maxFunctions
-prepare-requires c κs = (fresh-rooms, fresh-long)
+prepare-requires c κs = (fresh-rooms, (fresh-room, fresh-long))
 
 enum-known-verdict : tie.Need-enum-known-verdict
 enum-known-verdict c = search needs
@@ -38,18 +41,18 @@ slice-aggregate-first c = search needs
 first-requires : tie.Need-first-requires
 first-requires c κs =
     let v = c .before .before in
-    starts-open _ _ _ _ _ _ (v .before .before .before .before .before .before .prepare .ensures) (v .verdict2 .given .0 .0)
+    starts-open _ _ _ _ _ _ _ (v .before .before .before .before .before .before .before .prepare .ensures) (v .verdict2 .given .0 .0)
     (v .verdict2 .given .1)
 
 returns : tie.Need-returns
 returns c =
     let v = c .before .before in
-    starts-refused _ _ _ _ _ _ (v .before .before .before .before .before .before .prepare .ensures) _ _ (v .verdict .given .1) refl
+    starts-refused _ _ _ _ _ _ _ (v .before .before .before .before .before .before .before .prepare .ensures) _ _ (v .verdict .given .1) refl
 
 returns-2 : tie.Need-returns-2
 returns-2 c =
     let v = c .before .before .before in
-    starts-begins _ _ _ _ _ _ (v .before .before .before .before .before .before .prepare .ensures) (v .verdict2 .given .0 .0)
+    starts-begins _ _ _ _ _ _ _ (v .before .before .before .before .before .before .before .prepare .ensures) (v .verdict2 .given .0 .0)
     (v .verdict2 .given .1) _ refl
     (c .first .ensures)
 
@@ -61,6 +64,7 @@ start-spec =
     slice-aggregate-prepare-2
     slice-aggregate-prepare-3
     slice-aggregate-prepare-4
+    slice-aggregate-prepare-5
     prepare-requires
     enum-known-verdict
     past-last-requires

@@ -10,10 +10,10 @@ refused-requires : tie.Need-refused-requires
 refused-requires c κs = search needs
 
 returns : tie.Need-returns
-returns c = placed-zero _ _ _ _ _ _ _ _ _ (c .before .if1 .taken) (c .refused .ensures)
+returns c = placed-zero _ _ _ _ _ _ _ _ _ _ (c .before .if1 .taken) (c .refused .ensures)
 
 named-by-requires : tie.Need-named-by-requires
-named-by-requires c κs = c .before .before .before .before .before .before .pre .ready .tabled .tables .long
+named-by-requires c κs = c .before .before .before .before .before .before .before .pre .ready .tabled .tables .long
 
 enum-told : tie.Need-enum-told
 enum-told c = search needs
@@ -33,19 +33,19 @@ enum-told-3 c = search needs
 from-row-requires : tie.Need-from-row-requires
 from-row-requires c κs =
     let told = c .before in (
-      c .before .before .before .before .before .before .before .before .before .before .pre,
+      c .before .before .before .before .before .before .before .before .before .before .before .pre,
       tells-is-row _ _ _ (subst (Tells _ _ _) (told .enum-told3 .given .1) (c .before .before .before .named-by .ensures)),
     )
 
 returns-2 : tie.Need-returns-2
 returns-2 c =
-    placed-nowhere _ _ _ _ _ _ _ _ _ (c .before .before .before .before .if1 .left)
+    placed-nowhere _ _ _ _ _ _ _ _ _ _ (c .before .before .before .before .if1 .left)
     (subst (Tells _ _ _) (c .before .enum-told .given .1) (c .before .before .before .named-by .ensures))
     (c .refused2 .ensures)
 
 returns-3 : tie.Need-returns-3
 returns-3 c =
-    placed-past _ _ _ _ _ _ _ _ _ (c .before .before .before .before .if1 .left)
+    placed-past _ _ _ _ _ _ _ _ _ _ (c .before .before .before .before .if1 .left)
     (subst (Tells _ _ _) (c .before .enum-told2 .given .1) (c .before .before .before .named-by .ensures))
     (c .ended .ensures)
 
@@ -54,7 +54,7 @@ same-length c = search needs
 
 returns-4 : tie.Need-returns-4
 returns-4 c =
-    placed-row _ _ _ _ _ _ _ _ _ (c .before .before .before .before .before .before .before .if1 .left)
+    placed-row _ _ _ _ _ _ _ _ _ _ (c .before .before .before .before .before .before .before .if1 .left)
     (subst (Tells _ _ _) (c .before .before .before .before .enum-told3 .given .1)
     (c .before .before .before .before .before .before .named-by .ensures))
     (c .before .before .from-row .ensures)

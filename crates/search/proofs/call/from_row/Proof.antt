@@ -8,28 +8,33 @@ use Rattle.search.proofs.call.from_row.Tie as tie
 
 first-row-requires : tie.Need-first-row-requires
 first-row-requires c κs =
-    let s = c .before .before .before .before .before in
-    callable-tables _ _ _ _ _ _ _ (s .pre .0) _ (s .pre .1)
+    let s = c .before .before .before .before .before .before in
+    callable-tables _ _ _ _ _ _ _ _ (s .pre .0) _ (s .pre .1)
 
 slice-aggregate-seek : tie.Need-slice-aggregate-seek
 slice-aggregate-seek c =
-    let s = c .before .before .before .before .before .before .before .before in
+    let s = c .before .before .before .before .before .before .before .before .before in
     sym (length-take-le _ _ (s .pre .0 .ready .laid .patternsInside))
 
 slice-aggregate-seek-2 : tie.Need-slice-aggregate-seek-2
 slice-aggregate-seek-2 c =
-    let s = c .before .before .before .before .before .before .before .before .before in
+    let s = c .before .before .before .before .before .before .before .before .before .before in
     sym (length-take-le _ _ (s .pre .0 .ready .laid .expressionsInside))
 
 slice-aggregate-seek-3 : tie.Need-slice-aggregate-seek-3
 slice-aggregate-seek-3 c =
-    let s = c .before .before .before .before .before .before .before .before .before .before in
+    let s = c .before .before .before .before .before .before .before .before .before .before .before in
+    sym (length-take-le _ _ (s .pre .0 .ready .tabled .numbersInside))
+
+slice-aggregate-seek-4 : tie.Need-slice-aggregate-seek-4
+slice-aggregate-seek-4 c =
+    let s = c .before .before .before .before .before .before .before .before .before .before .before .before in
     sym (length-take-le _ _ (s .pre .0 .ready .laid .facesInside))
 
 seek-requires : tie.Need-seek-requires
 seek-requires c κs =
-    let s = c .before .before .before .before .before .before .before .before .before .before .before in
-    callable-seekable _ _ _ _ _ _ _ (s .pre .0) _ (s .pre .1) _ (c .before .before .before .before .before .first-row .ensures)
+    let s = c .before .before .before .before .before .before .before .before .before .before .before .before .before in
+    callable-seekable _ _ _ _ _ _ _ _ (s .pre .0) _ (s .pre .1) _ (c .before .before .before .before .before .before .first-row .ensures)
 
 same-length : tie.Need-same-length
 same-length c = search needs
@@ -45,6 +50,7 @@ from-row-spec =
     slice-aggregate-seek
     slice-aggregate-seek-2
     slice-aggregate-seek-3
+    slice-aggregate-seek-4
     seek-requires
     same-length
     returns)

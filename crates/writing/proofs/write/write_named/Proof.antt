@@ -5,7 +5,7 @@ use Rattle.writing.proofs.write.write_named.Statement.{statement}
 use Rattle.writing.proofs.write.write_named.Tie as tie
 
 named-by-requires : tie.Need-named-by-requires
-named-by-requires c κs = c .before .before .before .before .before .before .pre .ready .tabled .tables .long
+named-by-requires c κs = c .before .before .before .before .before .before .before .pre .ready .tabled .tables .long
 
 enum-told : tie.Need-enum-told
 enum-told c = search needs
@@ -19,7 +19,7 @@ enum-told-3 c = search needs
 write-row-requires : tie.Need-write-row-requires
 write-row-requires c κs =
     let named-by = c .before .before .before .before in
-    let start = named-by .before .before .before .before .before .before .before in
+    let start = named-by .before .before .before .before .before .before .before .before in
     named-callable _ (named-by .named-by .ensures) (c .before .before .enum-told3 .given .1) (start .pre)
 
 returns : tie.Need-returns

@@ -8,21 +8,26 @@ use Rattle.writing.proofs.write.write_row.Tie as tie
 
 slice-aggregate-judge : tie.Need-slice-aggregate-judge
 slice-aggregate-judge c =
-    let start = c .before .before .before .before .before .before .before .before in
+    let start = c .before .before .before .before .before .before .before .before .before in
     sym (length-take-le _ _ (start .pre .callable .ready .laid .patternsInside))
 
 slice-aggregate-judge-2 : tie.Need-slice-aggregate-judge-2
 slice-aggregate-judge-2 c =
-    let start = c .before .before .before .before .before .before .before .before .before in
+    let start = c .before .before .before .before .before .before .before .before .before .before in
     sym (length-take-le _ _ (start .pre .callable .ready .laid .expressionsInside))
 
 slice-aggregate-judge-3 : tie.Need-slice-aggregate-judge-3
 slice-aggregate-judge-3 c =
-    let start = c .before .before .before .before .before .before .before .before .before .before in
+    let start = c .before .before .before .before .before .before .before .before .before .before .before in
+    sym (length-take-le _ _ (start .pre .callable .ready .tabled .numbersInside))
+
+slice-aggregate-judge-4 : tie.Need-slice-aggregate-judge-4
+slice-aggregate-judge-4 c =
+    let start = c .before .before .before .before .before .before .before .before .before .before .before .before in
     sym (length-take-le _ _ (start .pre .callable .ready .laid .facesInside))
 
 judge-requires : tie.Need-judge-requires
-judge-requires c κs = row-judgeable (c .before .before .before .before .before .before .before .before .before .before .before .pre)
+judge-requires c κs = row-judgeable (c .before .before .before .before .before .before .before .before .before .before .before .before .before .pre)
 
 same-length : tie.Need-same-length
 same-length c = search needs
@@ -32,14 +37,14 @@ returns c = row-seventeen _ (c .before .before .before .before .judge .ensures) 
 
 slice-aggregate-write-text : tie.Need-slice-aggregate-write-text
 slice-aggregate-write-text c =
-    let start = c .before .before .before .before .before .before .before .before .before .before .before .before .before .before .before .before .before .before .before in
+    let start = c .before .before .before .before .before .before .before .before .before .before .before .before .before .before .before .before .before .before .before .before .before in
     sym (length-take-le _ _ (start .pre .callable .ready .laid .expressionsInside))
 
 write-text-requires : tie.Need-write-text-requires
 write-text-requires c κs =
     let if1 = c .before .before .before .before in
     let judge = if1 .before .before .before .before in
-    let start = judge .before .before .before .before .before .before .before .before .before .before .before .before in
+    let start = judge .before .before .before .before .before .before .before .before .before .before .before .before .before .before in
     row-planned _ (judge .judge .ensures) (if1 .if1 .left) (start .pre)
 
 same-length-2 : tie.Need-same-length-2
@@ -61,6 +66,7 @@ write-row-spec =
     slice-aggregate-judge
     slice-aggregate-judge-2
     slice-aggregate-judge-3
+    slice-aggregate-judge-4
     judge-requires
     same-length
     returns
