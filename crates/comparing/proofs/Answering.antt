@@ -65,7 +65,7 @@ module _ (s o p x y new : List ℕ) (bytes : All (λ b. b < 256) s) (v : Verdict
     pub table-numbers : Numerable (take (st .expressions) y)
     table-numbers = subst Numerable (sym front) (problem.table-numerable (accepted .0) (accepted .2 .within))
 
-    pub table-short : st .expressions ≤ tableRoom
+    pub table-short : st .expressions < tableRoom
     table-short = omega (arith, accepted .3 .expressions, problem.table-short (accepted .0) (accepted .2 .within))
 
     pub answers-numbered : (ns : List ℕ) (r : Numbering) → tableRoom ≤ length ns → NumbersMade (take (st .expressions) y) (st .expressions) ns r

@@ -5,13 +5,13 @@ use mathlib.Core.Bool.{Bool, true, false, _&&_, true≢false}
 use mathlib.Core.List.{List}
 use native.Mathlib.Omega.{arith}
 use native.Mathlib.Decide.{decLt}
-use lib.ListN.{length, take}
-use lib.Seq.{getD-take}
+use lib.ListN.{length, take, drop, length-map, length-drop}
+use lib.Seq.{getD-take, length-take-le}
 use lib.Dec.{eqb}
 use borrow.Author.Tests.{eq-eqb, eqb-true}
 use Rattle.meaning.proofs.Lists.{T-true, true-T, and-T}
-use Rattle.tokens.specs.Token.{depthIn}
-use Rattle.tokens.specs.Key.{at, part, sameAcross, sameAt}
+use Rattle.tokens.specs.Token.{depthIn, sizeIn}
+use Rattle.tokens.specs.Key.{at, keyOf, part, Inside, sameAcross, sameAt}
 use Rattle.tokens.proofs.same.Laws.{alike-keys, keys-alike}
 use Rattle.numbers.specs.Alike.{keysAt, levelOfKeys, levelAt, labelAt, alike}
 use Rattle.numbers.specs.Numbering.{First, NumberOf, Numbered}
@@ -25,6 +25,15 @@ module _ (t : List ℕ) where
   pub keys-same : (a b : ℕ) → keysAt t a ≡ keysAt t b → sameAt t a b ≡ true
   unfolding sameAcross
   keys-same a b e = keys-alike (depthIn (at t a)) (depthIn (at t b)) (part t a) (part t b) e
+
+  -- Subterms of different sizes have other keys
+  pub keys-long : (a b : ℕ) → Inside t a → Inside t b → keysAt t a ≡ keysAt t b → sizeIn (at t a) ≡ sizeIn (at t b)
+  keys-long a b h g e = sym (long a h) ∙ ap length e ∙ long b g
+    where
+      long : (a : ℕ) → Inside t a → length (keysAt t a) ≡ sizeIn (at t a)
+      long a h =
+          length-map (part t a) (keyOf (depthIn (at t a)))
+          ∙ length-take-le (sizeIn (at t a)) (drop a t) (omega (arith, length-drop a t, h .ends))
 
   pub alike-parts : (a b : ℕ) → alike t a b ≡ true → (labelAt t a ≡ labelAt t b) × (keysAt t a ≡ keysAt t b)
   unfolding alike

@@ -12,7 +12,7 @@ use Rattle.meaning.proofs.Lists.{choose-true, choose-false, by-test, never}
 use Rattle.tokens.specs.Token.{depthIn}
 use Rattle.tokens.specs.Key.{at, sameAt}
 use Rattle.numbers.specs.Tests.{Beneath, Tells, levelIn, told}
-use Rattle.numbers.specs.Alike.{keysAt, levelOfKeys, levelAt, lastAt, binderAt, mixed, hashOfKeys, hashAt, labelAt, alike}
+use Rattle.numbers.specs.Alike.{keysAt, levelOfKeys, levelAt, lastAt, binderAt, mixed, sumOfKeys, hashAt, labelAt, alike}
 use Rattle.numbers.specs.Numbering.{Numbered}
 use Rattle.numbers.proofs.KeyLevels.{level-uses}
 use Rattle.numbers.proofs.AlikeLaws.{same-keys, keys-same, alike-parts, parts-alike, numbers-alike, alike-numbers}
@@ -61,7 +61,7 @@ module _ (t : List ℕ) where
     unfolding labelAt hashAt
     beneath-alike =
         parts-alike t a b
-        (ap₂ (λ (i h : ℕ). i + 65536 * mixed h i) binders (ap (hashOfKeys 0) same)) same
+        (ap₂ (λ (i h : ℕ). i + 65536 * mixed h i) binders (ap sumOfKeys same)) same
 
   module _ (ns : List ℕ) (made : Numbered t ns) (small : length t < 65536) where
     number-level : (a : ℕ) → a < length t → levelIn (at ns a) ≡ levelAt t a

@@ -12,15 +12,12 @@ use lib.Dec.{eqb}
 use borrow.Author.Tests.{eq-eqb, ne-eqb}
 use Rattle.meaning.specs.Basics.{choose}
 use Rattle.meaning.proofs.Lists.{choose-true, choose-false}
-use Rattle.tokens.specs.Token.{depthIn}
-use Rattle.tokens.specs.Key.{at, sameAt}
-use Rattle.numbers.specs.Alike.{levelAt, lastAt, binderAt, mixed, hashAt, labelAt, alike}
+use Rattle.tokens.specs.Token.{depthIn, sizeIn}
+use Rattle.tokens.specs.Key.{at, sameAt, Inside}
+use Rattle.numbers.specs.Alike.{levelAt, lastAt, binderAt, hashAt, labelAt, alike}
 use Rattle.numbers.specs.Numbering.{NumberOf, NumbersTo, bucketAt, Points, linkIn, labelIn, Linked, Chained, Lasts, Sought}
-use Rattle.numbers.proofs.AlikeLaws.{alike-parts, alike-self, number-later, number-own}
-
-pub mixed-small : (h k : ℕ) → mixed h k < 4294967296
-unfolding mixed
-mixed-small h k = omega arith
+use Rattle.numbers.proofs.Sums.{mixed-small}
+use Rattle.numbers.proofs.AlikeLaws.{keys-long, alike-parts, alike-self, number-later, number-own}
 
 choose-few : (b : Bool) (m n a : ℕ) → m ≤ a → n ≤ a → choose b m n ≤ a
 choose-few true m n a h g = h
@@ -58,10 +55,17 @@ module _ (t : List ℕ) where
       go true e = absurd (n (alike-bucket a b h g e))
       go false e = e
 
-  -- The test of two nodes, by their labels first
+  -- The test of two nodes, by their labels and their sizes first
   pub unlike-label : (a b : ℕ) → (labelAt t a ≡ labelAt t b → ⊥) → alike t a b ≡ false
   unfolding alike
   unlike-label a b n = ap (λ (c : Bool). c && sameAt t a b) (ne-eqb (labelAt t a) (labelAt t b) n)
+
+  pub unlike-size : (a b : ℕ) → Inside t a → Inside t b → (sizeIn (at t a) ≡ sizeIn (at t b) → ⊥) → alike t a b ≡ false
+  unlike-size a b h g n = go (alike t a b) refl
+    where
+      go : (c : Bool) → alike t a b ≡ c → alike t a b ≡ false
+      go true e = absurd (n (keys-long t a b h g (alike-parts t a b e .1)))
+      go false e = e
 
   pub alike-label : (a b : ℕ) → labelAt t a ≡ labelAt t b → alike t a b ≡ sameAt t a b
   unfolding alike

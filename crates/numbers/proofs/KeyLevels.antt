@@ -2,12 +2,12 @@
 -- that level is above d.
 use mathlib.Core.Path.{_≡_, refl, ap, ap₂, sym, _∙_}
 use Prim.Native.Nat.{ℕ, _+_, _*_, _/_, _%_, _<_, _≤_, max}
-use mathlib.Core.Bool.{Bool, false, _&&_, _||_, and-true, and-false}
+use mathlib.Core.Bool.{Bool, true, false, _&&_, _||_, and-true, and-false, true≢false}
 use mathlib.Core.List.{List, [], _∷_}
 use native.Mathlib.Omega.{arith}
 use native.Mathlib.Decide.{decLt, ℕ-discrete}
 use lib.Dec.{ltb, leb}
-use borrow.Author.Tests.{eq-eqb, ne-eqb, lt-ltb, le-ltb, le-leb, lt-leb}
+use borrow.Author.Tests.{eq-eqb, ne-eqb, lt-ltb, le-ltb, le-leb, lt-leb, ltb-false}
 use Rattle.meaning.proofs.Lists.{choose-true, choose-false}
 use Rattle.tokens.specs.Token.{tagIn, depthIn, payloadIn}
 use Rattle.tokens.specs.Key.{keyOfVariable, keyOf, keys, at, part, lowerHalf, upperHalf, reaches, anyReaches, usesAt}
@@ -15,7 +15,7 @@ use Rattle.tokens.proofs.same.Laws.{key-free, key-inside, key-outside, key-vari
 use Rattle.numbers.specs.Alike.{levelOfKey, levelOfKeys, levelAt}
 
 module _ (k : ℕ) where
-  pub level-told : k % 1024 ≡ 514 → levelOfKey k ≡ k / 1024
+  level-told : k % 1024 ≡ 514 → levelOfKey k ≡ k / 1024
   unfolding levelOfKey
   level-told h = choose-true _ _ (eq-eqb (k % 1024) 514 h)
 
@@ -63,6 +63,19 @@ module _ (r x : ℕ) where
       go (yes e) = variable e (ℕ-discrete level 0) (decLt r level)
       go (no n) = none (no-variable n) (λ d. reaches-no-variable d r x n)
 
+  -- The same by the token's own test
+  pub reached-level : reaches 0 r x ≡ true → payloadIn x / 65536 ≡ levelOfKey (keyOf r x)
+  reached-level h = elim token-told [
+    | none e f ↦ absurd (true≢false (sym h ∙ f 0))
+    | some e l f ↦ sym e
+  ]
+
+  pub unreached-level : reaches 0 r x ≡ false → 0 ≡ levelOfKey (keyOf r x)
+  unreached-level h = elim token-told [
+    | none e f ↦ sym e
+    | some e l f ↦ omega (arith, ltb-false 0 level (sym (f 0) ∙ h))
+  ]
+
   token-level : levelOfKey (keyOf r x) ≤ r
   token-level = elim token-told [
     | none e f ↦ omega arith
@@ -89,7 +102,7 @@ levels-reach d r [] = sym (le-ltb d 0 (omega arith))
 levels-reach d r (x ∷ xs) =
     ap₂ _||_ (token-reaches r x d) (levels-reach d r xs) ∙ sym (below-max d (levelOfKey (keyOf r x)) (levelOfKeys (keys r xs)))
 
-levels-few : (r : ℕ) (xs : List ℕ) → levelOfKeys (keys r xs) ≤ r
+pub levels-few : (r : ℕ) (xs : List ℕ) → levelOfKeys (keys r xs) ≤ r
 unfolding levelOfKeys
 levels-few r [] = omega arith
 levels-few r (x ∷ xs) = omega (arith, token-level r x, levels-few r xs)

@@ -3,64 +3,77 @@ use mathlib.Core.Path.{_≡_, ap, ap₂, sym, _∙_, subst}
 use Prim.Native.Nat.{ℕ, _+_, _*_, _-_, _/_, _<_, _≤_}
 use mathlib.Core.List.{List, [], _∷_}
 use native.Mathlib.Omega.{arith}
-use native.Mathlib.Decide.{ℕ-discrete}
+use native.Mathlib.Decide.{decLt, ℕ-discrete}
 use lib.ListN.{length, set, replicate, length-set, length-replicate, getD-replicate}
+use lib.Seq.{getD-set-same, getD-set-other}
 use lib.Dec.{eqb}
 use borrow.Author.Tests.{eq-eqb, ne-eqb}
 use Rattle.meaning.specs.Basics.{choose}
 use Rattle.meaning.proofs.Lists.{choose-true, choose-false}
 use Rattle.tokens.specs.Token.{depthIn, sizeIn}
-use Rattle.tokens.specs.Key.{at, keys, nodes}
-use Rattle.numbers.specs.Alike.{keysAt, levelAt, lastAt, binderAt, mixed, hashOfKeys, hashAt, labelAt}
-use Rattle.numbers.specs.Numbering.{NumberOf, Numerable, bucketAt, Points, Chained, Lasts, Scanned, Known, Passed}
-use Rattle.numbers.specs.declared.make.Scan.{Scan}
+use Rattle.tokens.specs.Key.{at, keys, nodes, Inside}
+use Rattle.numbers.specs.Alike.{keysAt, levelOfKeys, levelAt, lastAt, binderAt, mixed, sumOfKeys, sumTo, hashAt, labelAt}
+use Rattle.numbers.specs.Numbering.{NumberOf, Numerable, bucketAt, Points, Chained, Lasts, Summed, Known, Passed}
 use Rattle.numbers.specs.declared.make.Node.{Node}
 use Rattle.numbers.proofs.KeyLevels.{level-deep}
-use Rattle.numbers.proofs.Buckets.{mixed-small, hash-small, binder-few, numbers-more, chained-more}
+use Rattle.numbers.proofs.Sums.{sum-none, sum-part, sum-rises}
+use Rattle.numbers.proofs.Buckets.{hash-small, binder-few, numbers-more, chained-more}
 
-hash-keys-small : (h : ℕ) (ks : List ℕ) → h < 4294967296 → hashOfKeys h ks < 4294967296
-unfolding hashOfKeys
-hash-keys-small h [] l = l
-hash-keys-small h (k ∷ ks) l = hash-keys-small (mixed h k) ks (mixed-small h k)
-
--- One node, by its size n and its depth d as the code has them
-module _ (t : List ℕ) (k n d : ℕ) (is-n : n ≡ sizeIn (at t k)) (is-d : d ≡ depthIn (at t k)) (r : Scan)
-    (scanned : Scanned (keys d (nodes t k n)) r) where
-  keys-are : keys d (nodes t k n) ≡ keysAt t k
-  keys-are = ap₂ (λ (e m : ℕ). keys e (nodes t k m)) is-d is-n
-
-  level-is : r .level ≡ levelAt t k
+-- One node, by its size n and its end e as the code has them
+module _ (t : List ℕ) (k : ℕ) (inside : Inside t k) where
+  -- The level that is found in its subterm
+  pub level-found : (n d e level : ℕ) → n ≡ sizeIn (at t k) → d ≡ depthIn (at t k) → e ≡ k + n → level ≡ levelOfKeys (keys d (nodes t k (e - k)))
+      → level ≡ levelAt t k
   unfolding levelAt
-  level-is = subst (λ (ks : List ℕ). Scanned ks r) keys-are scanned .level
+  level-found n d e level is-n is-d is-e is-level =
+      let m : e - k ≡ sizeIn (at t k) = omega arith in
+      is-level ∙ ap₂ (λ (i j : ℕ). levelOfKeys (keys i (nodes t k j))) is-d m
 
-  hash-is : r .hash ≡ hashOfKeys 0 (keysAt t k)
-  hash-is = subst (λ (ks : List ℕ). Scanned ks r) keys-are scanned .hash
+  pub level-few : (level : ℕ) → level ≡ levelAt t k → level ≤ 256
+  level-few level is = omega (arith, level-deep t k)
 
-  pub scan-few : r .level ≤ 256
-  scan-few = omega (arith, level-is, level-deep t k)
+  -- The sum of its subterm
+  module _ (n e : ℕ) (is-n : n ≡ sizeIn (at t k)) (is-e : e ≡ k + n) (sums : List ℕ) (summed : Summed t sums) where
+    sums-are : (at sums k ≡ sumTo t k) × (at sums e ≡ sumTo t e)
+    sums-are = (summed .are k (omega (arith, inside .starts)), summed .are e (omega (arith, inside .ends)))
 
-  pub scan-small : r .hash < 4294967296
-  scan-small = omega (arith, hash-is, hash-keys-small 0 (keysAt t k) (omega arith))
+    pub sums-rise : at sums k ≤ at sums e
+    sums-rise = omega (arith, sums-are .0, sums-are .1, sum-rises t k n e is-n is-e)
 
-  module _ (last : List ℕ) (lasts : Lasts t k last) (binder hash : ℕ) (is-binder : binder ≡ choose (eqb (r .level) 0) 0 (at last (r .level - 1)))
-      (is-hash : hash ≡ mixed (r .hash) binder) where
+    pub sum-found : at sums e - at sums k ≡ sumOfKeys (keysAt t k)
+    sum-found = ap₂ _-_ (sums-are .1) (sums-are .0) ∙ sum-part t k n e is-n is-e
+
+  module _ (last : List ℕ) (lasts : Lasts t k last) (sum level binder hash : ℕ) (is-sum : sum ≡ sumOfKeys (keysAt t k))
+      (is-level : level ≡ levelAt t k) (is-binder : binder ≡ choose (eqb level 0) 0 (at last (level - 1))) (is-hash : hash ≡ mixed sum binder) where
     binder-is : binder ≡ binderAt t k
     unfolding binderAt
-    binder-is = is-binder ∙ ap (λ (l : ℕ). choose (eqb l 0) 0 (at last (l - 1))) level-is ∙ go (ℕ-discrete (levelAt t k) 0)
+    binder-is = is-binder ∙ ap (λ (l : ℕ). choose (eqb l 0) 0 (at last (l - 1))) is-level ∙ go (ℕ-discrete (levelAt t k) 0)
       where
         go : Dec (levelAt t k ≡ 0) → choose (eqb (levelAt t k) 0) 0 (at last (levelAt t k - 1)) ≡ binderAt t k
-        go (yes z) = let e = eq-eqb (levelAt t k) 0 z in choose-true _ _ e ∙ sym (choose-true _ _ e)
+        go (yes z) = let q = eq-eqb (levelAt t k) 0 z in choose-true _ _ q ∙ sym (choose-true _ _ q)
         go (no z) =
-            let e = ne-eqb (levelAt t k) 0 z in
-            choose-false _ _ e ∙ lasts .are (levelAt t k - 1) (omega (arith, level-deep t k)) ∙ sym (choose-false _ _ e)
+            let q = ne-eqb (levelAt t k) 0 z in
+            choose-false _ _ q ∙ lasts .are (levelAt t k - 1) (omega (arith, level-deep t k)) ∙ sym (choose-false _ _ q)
 
-    pub node-known : Known t k (record { level = r .level; binder = binder; hash = hash })
+    pub node-known : Known t k (record { level = level; binder = binder; hash = hash })
     unfolding hashAt
-    node-known = record {
-      level = level-is;
-      binder = binder-is;
-      hash = is-hash ∙ ap₂ mixed hash-is binder-is;
-    }
+    node-known = record { level = is-level; binder = binder-is; hash = is-hash ∙ ap₂ mixed is-sum binder-is }
+
+-- The sums, one node more
+pub summing-begins : (t sums : List ℕ) → 0 < length sums → (n : ℕ) → n ≤ 0 → at (set sums 0 0) n ≡ sumTo t n
+summing-begins t sums h n l =
+    let e : 0 ≡ n = omega arith in
+    subst (λ (m : ℕ). at (set sums 0 0) m ≡ sumTo t m) e (getD-set-same sums 0 0 0 h ∙ sum-none t)
+
+pub summing-more : (t sums : List ℕ) (k s : ℕ) → k < length t → k + 1 < length sums → s ≡ sumTo t (k + 1)
+    → ((n : ℕ) → n ≤ k → at sums n ≡ sumTo t n)
+    → (n : ℕ) → n ≤ k + 1 → at (set sums (k + 1) s) n ≡ sumTo t n
+summing-more t sums k s h room is are n l = elim (decLt n (k + 1)) [
+  | yes g ↦ getD-set-other sums (k + 1) n s 0 (λ e. omega arith) ∙ are n (omega arith)
+  | no g ↦
+      let e : k + 1 ≡ n = omega arith in
+      subst (λ (m : ℕ). at (set sums (k + 1) s) m ≡ sumTo t m) e (getD-set-same sums (k + 1) s 0 room ∙ is)
+]
 
 -- Before the first node: tables of n zeros
 module _ (t : List ℕ) (n : ℕ) where

@@ -5,7 +5,7 @@
 --   Points     where the search for a node of bucket b among the first n begins: past it none of these is in the bucket. Nodes are counted
 --              from 1, and 0 is the end
 --   link       of a node: where the search goes on among the nodes before it; stored beside its label
---   Chained    the buckets of the first k nodes; Lasts, the last node at each depth among these
+--   Chained    the buckets of the first k nodes; Lasts, the last node at each depth among these; Summed, the sums from the first node on
 --   Sought     the node that the search ends with: an earlier one that is alike, or the node itself where there is none
 use mathlib.Core.Path.{_≡_}
 use Prim.Native.Nat.{ℕ, suc, _+_, _*_, _/_, _%_, _<_, _≤_}
@@ -13,8 +13,7 @@ use mathlib.Core.Bool.{true, false}
 use mathlib.Core.List.{List}
 use lib.ListN.{length}
 use Rattle.tokens.specs.Key.{at, Inside}
-use Rattle.numbers.specs.Alike.{levelOfKeys, levelAt, lastAt, binderAt, hashOfKeys, hashAt, labelAt, alike}
-use Rattle.numbers.specs.declared.make.Scan.{Scan}
+use Rattle.numbers.specs.Alike.{levelAt, lastAt, binderAt, sumTo, hashAt, labelAt, alike}
 use Rattle.numbers.specs.declared.make.Node.{Node}
 
 pub record First (t : List ℕ) (a r : ℕ) : Type 0 where
@@ -38,6 +37,12 @@ Numbered t ns = NumbersTo t (length t) ns
 pub record Numerable (t : List ℕ) : Type 0 where
   pub inside : (a : ℕ) → a < length t → Inside t a
   pub small : length t < 65536
+
+-- Tables that have room for them, and for what is kept beside them
+pub record Rooms (t ns links sums : List ℕ) : Type 0 where
+  pub forNumbers : length t ≤ length ns
+  pub forLinks : length t ≤ length links
+  pub forSums : length t < length sums
 
 abbrev pub bucketAt : List ℕ → ℕ → ℕ
 bucketAt t a = hashAt t a / 4194304
@@ -65,11 +70,11 @@ pub record Lasts (t : List ℕ) (k : ℕ) (last : List ℕ) : Type 0 where
   pub long : length last ≡ 256
   pub are : (d : ℕ) → d < 256 → at last d ≡ lastAt t d k
 
--- What is found of keys, and of a node
-pub record Scanned (ks : List ℕ) (r : Scan) : Type 0 where
-  pub level : r .level ≡ levelOfKeys ks
-  pub hash : r .hash ≡ hashOfKeys 0 ks
+pub record Summed (t sums : List ℕ) : Type 0 where
+  pub long : length t < length sums
+  pub are : (n : ℕ) → n ≤ length t → at sums n ≡ sumTo t n
 
+-- What is found of a node
 pub record Known (t : List ℕ) (a : ℕ) (r : Node) : Type 0 where
   pub level : r .level ≡ levelAt t a
   pub binder : r .binder ≡ binderAt t a

@@ -1,18 +1,20 @@
 // The numbers of all nodes of a table, in one pass. Each node is looked for among the earlier ones of its bucket only, so that the time
-// grows with the nodes (times the depth of terms, since each subterm is gone through) and not with their pairs. Two nodes get one number
-// when they were compared and are equal: a hash only says where to look.
+// grows with the nodes (times the depth of terms, where a subterm has to be gone through) and not with their pairs. Two nodes get one
+// number when they were compared and are equal: a hash only says where to look.
 use tokens::same::key_of;
+use tokens::same::reaches;
 use tokens::same::same;
 use tokens::token::depth;
+use tokens::token::payload;
 use tokens::token::size;
 ghost use mathlib.Core.Path.{_≡_};
 ghost use Prim.Native.Nat.{_+_, _*_, _-_, _<_, _≤_, max};
 ghost use lib.ListN.{length};
 ghost use lib.Dec.{eqb};
 ghost use Rattle.meaning.specs.Basics.{choose};
-ghost use Rattle.tokens.specs.Key.{at, keys, Inside};
-ghost use Rattle.numbers.specs.Alike.{levelOfKey, mixed, labelAt, alike};
-ghost use Rattle.numbers.specs.Numbering.{Scanned, Lasts, Known, Numerable, Linked, Points, bucketAt, labelIn, Sought, Passed, Numbered};
+ghost use Rattle.tokens.specs.Key.{at, keyOf, keys, Inside};
+ghost use Rattle.numbers.specs.Alike.{keysAt, levelOfKey, levelOfKeys, levelAt, mixed, spread, weightOfKey, sumOfKeys, labelAt, alike};
+ghost use Rattle.numbers.specs.Numbering.{Summed, Lasts, Known, Numerable, Rooms, Linked, Points, bucketAt, labelIn, Sought, Passed, Numbered};
 
 // Hashes are below this, and the upper part of one is its bucket.
 const HASHES: u64 = 4294967296;
@@ -24,33 +26,67 @@ const IN_BUCKET: u64 = HASHES / BUCKETS as u64;
 // A token has 8 bits for the depth.
 const DEPTHS: usize = 256;
 
-// Of the keys of a subterm: the innermost level of a binder outside that they tell of, or 0, and a hash.
-pub struct Scan {
-    pub level: u64,
-    pub hash: u64,
-}
+// The weight of a bound variable: more than that of 65536 nodes of any other kind.
+const HEAVY: u64 = 281474976710656;
 
-// Of a node: that level, the binder itself (counted from 1, or 0), and a hash of all.
+// Of a node: the level of the innermost binder outside that it uses, or 0, the binder itself (counted from 1, or 0), and a hash of its
+// subterm and of that binder.
 pub struct Node {
     pub level: u64,
     pub binder: u64,
     pub hash: u64,
 }
 
-// One key more in a hash.
-fn mix(hash: u64, key: u64) -> u64
-    requires { ⌜ hash < 4294967296 ⌝ }
-    ensures { λ r. ⌜ r ≡ mixed hash key ⌝ }
+// Two numbers in one hash.
+fn mix(m: u64, n: u64) -> u64
+    ensures { λ r. ⌜ r ≡ mixed m n ⌝ }
 {
-    (hash + key % HASHES + key / HASHES) * 506952121 % HASHES
+    (m % HASHES + m / HASHES + n % HASHES + n / HASHES) * 506952121 % HASHES
 }
 
-// The level that the key of a variable bound outside tells, 0 for any other key.
-fn level_in(key: u64) -> u64
-    ensures { λ r. ⌜ r ≡ levelOfKey key ⌝ }
+// A number with the product of its halves.
+fn spread(m: u64) -> u64
+    requires { ⌜ m < 4294967296 ⌝ }
+    ensures { λ r. ⌜ r ≡ spread m ⌝ }
 {
-    if key % 1024 == 514 {
-        return key / 1024;
+    m + m / 65536 * (m % 65536)
+}
+
+// What a key adds to the sums: a bound variable the same wherever it is bound, since that differs with where it is seen from.
+fn weight(key: u64) -> u64
+    ensures { λ r. ⌜ r ≡ weightOfKey key ⌝ }
+{
+    let kind = key % 1024;
+    if kind == 258 {
+        return HEAVY;
+    }
+    if kind == 514 {
+        return HEAVY;
+    }
+    spread(mix(key, 0))
+}
+
+// The sums of the first nodes, for each number of them.
+fn add_up(t: &[u64], sums: &mut [u64])
+    requires { ⌜ (length (now t) < 65536) × (length (now t) < length (now sums)) ⌝ }
+    ensures { λ _. ⌜ Summed (now (t .entry)) (now (sums .exit)) ⌝ }
+{
+    sums[0] = 0;
+    let mut sum = 0;
+    let mut k = 0;
+    while k < t.len() {
+        sum += weight(key_of(0, t[k]));
+        k += 1;
+        sums[k] = sum;
+    }
+}
+
+// The level of a variable that is bound outside a root at depth d, 0 for any other token.
+fn level_in(d: u64, x: u64) -> u64
+    ensures { λ r. ⌜ r ≡ levelOfKey (keyOf d x) ⌝ }
+{
+    if reaches(0, d, x) {
+        return payload(x) / 65536;
     }
     0
 }
@@ -64,23 +100,33 @@ fn greater(m: u64, n: u64) -> u64
     m
 }
 
-// The nodes of a subterm, seen from depth d.
-fn scan_keys(xs: &[u64], d: u64) -> Scan
-    ensures { λ r. ⌜ Scanned (keys d (now (xs .entry))) r ⌝ }
+// The level of the innermost binder outside a subterm at depth d that its nodes use. None is above d, so that d ends the search.
+fn innermost(xs: &[u64], d: u64) -> u64
+    ensures { λ r. ⌜ r ≡ levelOfKeys (keys d (now (xs .entry))) ⌝ }
 {
     let mut level = 0;
-    let mut hash = 0;
     let mut i = 0;
     while i < xs.len() {
-        let key = key_of(d, xs[i]);
-        level = greater(level, level_in(key));
-        hash = mix(hash, key);
+        if level == d {
+            return d;
+        }
+        level = greater(level, level_in(d, xs[i]));
         i += 1;
     }
-    Scan {
-        level: level,
-        hash: hash,
+    level
+}
+
+// The same of the subterm at node k, whose sum is known: where no variable is bound there is nothing to look for.
+fn level_at(t: &[u64], k: usize, sum: u64) -> u64
+    requires { ⌜ Inside (now t) k ⌝ ∗ ⌜ sum ≡ sumOfKeys (keysAt (now t) k) ⌝ }
+    ensures { λ r. ⌜ r ≡ levelAt (now (t .entry)) k ⌝ }
+{
+    if sum < HEAVY {
+        return 0;
     }
+    let x = t[k];
+    let end = k + size(x) as usize;
+    innermost(&t[k..end], depth(x))
 }
 
 // The binder at a level above the node that comes next, by the last node of each depth before it.
@@ -95,18 +141,18 @@ fn binder_at(last: &[u64], level: u64) -> u64
 }
 
 // What is known of node k before it is looked for.
-fn node_at(t: &[u64], k: usize, last: &[u64]) -> Node
-    requires { ⌜ Inside (now t) k ⌝ ∗ ⌜ Lasts (now t) k (now last) ⌝ }
+fn node_at(t: &[u64], k: usize, last: &[u64], sums: &[u64]) -> Node
+    requires { ⌜ Inside (now t) k ⌝ ∗ ⌜ Lasts (now t) k (now last) ⌝ ∗ ⌜ Summed (now t) (now sums) ⌝ }
     ensures { λ r. ⌜ Known (now (t .entry)) k r ⌝ }
 {
-    let x = t[k];
-    let end = k + size(x) as usize;
-    let scanned = scan_keys(&t[k..end], depth(x));
-    let binder = binder_at(last, scanned.level);
+    let end = k + size(t[k]) as usize;
+    let sum = sums[end] - sums[k];
+    let level = level_at(t, k, sum);
+    let binder = binder_at(last, level);
     Node {
-        level: scanned.level,
+        level: level,
         binder: binder,
-        hash: mix(scanned.hash, binder),
+        hash: mix(sum, binder),
     }
 }
 
@@ -116,6 +162,9 @@ fn is_alike(t: &[u64], i: usize, k: usize, link: u64, label: u64) -> bool
     ensures { λ r. ⌜ r ≡ alike (now (t .entry)) i k ⌝ }
 {
     if link / 65536 != label {
+        return false;
+    }
+    if size(t[i]) != size(t[k]) {
         return false;
     }
     same(t, i, k)
@@ -165,16 +214,17 @@ fn number_next(
     }
 }
 
-// The numbers of all nodes. `links` is written over.
-pub fn number(t: &[u64], ns: &mut [u64], links: &mut [u64])
-    requires { ⌜ Numerable (now t) × (length (now t) ≤ length (now ns)) × (length (now t) ≤ length (now links)) ⌝ }
+// The numbers of all nodes. `links` and `sums` are written over.
+pub fn number(t: &[u64], ns: &mut [u64], links: &mut [u64], sums: &mut [u64])
+    requires { ⌜ Numerable (now t) × Rooms (now t) (now ns) (now links) (now sums) ⌝ }
     ensures { λ _. ⌜ Numbered (now (t .entry)) (now (ns .exit)) ⌝ }
 {
     let mut last = [0u64; DEPTHS];
     let mut heads = [0u64; BUCKETS];
+    add_up(t, sums);
     let mut k = 0;
     while k < t.len() {
-        let node = node_at(t, k, &last);
+        let node = node_at(t, k, &last, sums);
         number_next(t, k, node, &mut heads, links, ns);
         let d = depth(t[k]) as usize;
         last[d] = k as u64 + 1;

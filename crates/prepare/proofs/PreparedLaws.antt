@@ -91,7 +91,7 @@ module _ (p : Problem) (ps es fs : List ℕ) (a : Standing) (laid : Laid p ps es
   pub table-numbers : Numerable (take (a .expressions) es)
   table-numbers = subst Numerable (sym (laid .expressions)) (table-numerable p (laid .accepted .within))
 
-  pub table-few : a .expressions ≤ tableRoom
+  pub table-few : a .expressions < tableRoom
   table-few =
       omega (
         arith,

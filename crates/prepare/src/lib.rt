@@ -9,7 +9,7 @@ use faces::first::first_faces;
 use metavariables::MAX_FUNCTIONS;
 use numbers::make::number;
 use table::TABLE_ROOM;
-ghost use Prim.Native.Nat.{_≤_};
+ghost use Prim.Native.Nat.{_<_, _≤_};
 ghost use Rattle.meaning.specs.Limits.{metavariableCount};
 ghost use Rattle.meaning.specs.Accept.{accept};
 ghost use lib.ListN.{length};
@@ -49,11 +49,12 @@ fn nodes_of(rows: bool, ps: &[u64], fs: &[u64], functions: u32) -> Firsts
 
 // The numbers of all nodes of the expressions.
 fn number_nodes(es: &[u64], ns: &mut [u64])
-    requires { ⌜ Numerable (now es) × (length (now es) ≤ tableRoom) × (length (now es) ≤ length (now ns)) ⌝ }
+    requires { ⌜ Numerable (now es) × (length (now es) < tableRoom) × (length (now es) ≤ length (now ns)) ⌝ }
     ensures { λ _. ⌜ Numbered (now (es .entry)) (now (ns .exit)) ⌝ }
 {
     let mut links = [0u64; TABLE_ROOM];
-    number(es, ns, &mut links);
+    let mut sums = [0u64; TABLE_ROOM];
+    number(es, ns, &mut links, &mut sums);
 }
 
 // An accepted problem: its numbers, the nodes of its functions' faces, and their class tables.

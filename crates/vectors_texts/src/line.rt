@@ -1,4 +1,5 @@
 // One line of the input: its kind, its problem and its text out of their digits, and its label.
+use crate::numbered::show_numbered;
 use crate::pair::show_pair;
 use crate::written::show_written;
 use checking::Checked;
@@ -44,11 +45,12 @@ fn show_readings(label: &[u8], problem: &[u8], text: &[u8]) {
 
 fn show_input(kind: u8, label: &[u8], problem: &[u8], text: &[u8]) {
     match kind {
-        // S, C, W, N, L, H, R
+        // S, C, W, N, A, L, H, R
         83 => show_readings(label, problem, text),
         67 => show_checked(label, problem, text),
         87 => show_written(label, problem, text),
         78 => show_pair(label, problem, text),
+        65 => show_numbered(label, problem, text),
         76 => show_held(true, label, problem, text),
         72 => show_held(false, label, problem, text),
         82 => show_list(label, problem, text),

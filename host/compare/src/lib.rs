@@ -1,13 +1,14 @@
 //! The proved matcher held against a second implementation, on the same problems.
 //!
 //! Each comparison is a function over a [`subject::Subject`], so that it can be tried on wrong matchers too ([`wrong`]):
-//! one that passes any of them would be no test. [`pairs`] is one over what a program prints, with wrong ones of its own
-//! ([`wrong_pairs`]). [`textbook`] has no second implementation: it tries everything that a definition speaks of.
+//! one that passes any of them would be no test. [`pairs`] and [`numbers`] are over what a program prints, with wrong ones of
+//! their own ([`wrong_pairs`], [`wrong_numbers`]). [`textbook`] has no second implementation: it tries everything that a definition speaks of.
 
 #![forbid(unsafe_code)]
 #![warn(missing_docs)]
 
 pub mod alike;
+pub mod asked;
 pub mod calls;
 pub mod damage;
 pub mod features;
@@ -16,6 +17,7 @@ pub mod hex;
 pub mod lists;
 pub mod nameless;
 pub mod nodes;
+pub mod numbers;
 pub mod outline;
 pub mod pairs;
 pub mod places;
@@ -28,6 +30,7 @@ pub mod texts;
 pub mod tree;
 pub mod vectors;
 pub mod wrong;
+pub mod wrong_numbers;
 pub mod wrong_pairs;
 
 /// A comparison of random inputs, one for each seed.

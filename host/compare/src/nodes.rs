@@ -26,6 +26,21 @@ pub struct Binder {
     pub depth: usize,
 }
 
+/// Symbols from here on stand for binders: no problem has them, unless by chance.
+const FIRST_BINDER: u32 = 0x4000_0000;
+
+impl Binder {
+    /// A symbol for this binder, and no other.
+    pub fn symbol(self) -> Tree {
+        Tree::Symbol(FIRST_BINDER + self.node as u32)
+    }
+
+    /// A symbol for all binders that stand under as many.
+    pub fn depth_symbol(self) -> Tree {
+        Tree::Symbol(FIRST_BINDER + self.depth as u32)
+    }
+}
+
 /// The nodes of these expressions.
 pub fn nodes(expressions: &[Tree]) -> Vec<Node<'_>> {
     let mut nodes = Vec::new();
@@ -60,6 +75,11 @@ impl Node<'_> {
             (Tree::Variable(_), Tree::Variable(_)) => true,
             _ => false,
         }
+    }
+
+    /// How many binders it stands under.
+    pub fn depth(&self) -> usize {
+        self.above.len()
     }
 
     /// The binder of a variable; nothing where it is free, or no variable.

@@ -1,25 +1,17 @@
 //! Pairs of nodes (T-02): two nodes of a problem's expressions compare as they do in the second implementation, yes or no
 //! and the number of pairs of nodes that it took.
 //!
-//! A host cannot ask the proved matcher for this; the program `vectors_texts` can, by its lines of kind N. So what is
-//! compared here is a function from an input of that program to what it prints, and the lines of many problems are put
-//! together into one input.
+//! A host cannot ask the proved matcher for this; the program `vectors_texts` can, by its lines of kind N.
 
 use crate::alike;
+use crate::asked::{self, Prints, Question};
 use crate::hex::hex;
 use crate::nodes::{nodes, Node};
 use crate::random::Random;
-use crate::report::{differ, Tally};
+use crate::report::Tally;
 use crate::tree;
-use crate::vectors;
 use second::{Compared, Problem};
 use std::ops::Range;
-
-/// What is tested: the program, or something wrong in its place.
-pub type Prints<'p> = &'p dyn Fn(&str) -> String;
-
-/// The longest input that the program takes.
-const LONGEST_INPUT: usize = 262_143;
 
 /// Pairs to each problem.
 const PAIRS: usize = 8;
@@ -27,59 +19,13 @@ const PAIRS: usize = 8;
 /// Compares random pairs of nodes of each seed's problem.
 pub fn random(prints: Prints, seeds: Range<u64>) -> Result<Tally, String> {
     let mut tally = Tally::default();
-    let mut input = Input::default();
-    for question in seeds.flat_map(|seed| questions(seed, &mut tally)) {
-        let line = question.line();
-        if input.lines.len() + line.len() > LONGEST_INPUT {
-            std::mem::take(&mut input).compare(prints)?;
-        }
-        input.lines += &line;
-        input.questions.push(question);
-    }
-    input.compare(prints)?;
+    asked::compare(prints, seeds.flat_map(|seed| questions(seed, &mut tally)))?;
     Ok(tally)
 }
 
-/// Two nodes to be compared.
-struct Question {
-    seed: u64,
-    problem: Vec<u8>,
-    pair: (usize, usize),
-}
-
-impl Question {
-    fn line(&self) -> String {
-        let (problem, (a, b)) = (hex(&self.problem), self.pair);
-        format!("N {problem} {a:04X}{b:04X} seed {}, nodes {a} and {b}\n", self.seed)
-    }
-}
-
-/// Questions that are asked together, and their lines.
-#[derive(Default)]
-struct Input {
-    questions: Vec<Question>,
-    lines: String,
-}
-
-impl Input {
-    fn compare(self, prints: Prints) -> Result<(), String> {
-        let (got, expected) = (prints(&self.lines), vectors::texts(&self.lines));
-        let mut answers = got.lines();
-        for (question, expected) in self.questions.iter().zip(expected.lines()) {
-            let answer = answers.next().unwrap_or("nothing");
-            if answer != expected {
-                let what = format!(
-                    "got '{answer}', expected '{expected}'\nline {}",
-                    question.line().trim_end()
-                );
-                return Err(format!("seed {}: {}", question.seed, differ(&question.problem, &what)));
-            }
-        }
-        if got != expected {
-            return Err(format!("after the last answer: {:?}", answers.next()));
-        }
-        Ok(())
-    }
+/// The line that asks for two nodes.
+fn line(seed: u64, problem: &[u8], (a, b): (usize, usize)) -> String {
+    format!("N {} {a:04X}{b:04X} seed {seed}, nodes {a} and {b}\n", hex(problem))
 }
 
 /// What is asked about the problem of a seed.
@@ -97,7 +43,7 @@ fn questions(seed: u64, tally: &mut Tally) -> Vec<Question> {
     let question = |pair| Question {
         seed,
         problem: problem.clone(),
-        pair,
+        line: line(seed, &problem, pair),
     };
     pairs.into_iter().map(question).collect()
 }

@@ -90,10 +90,15 @@ pub fn texts(input: &str) -> String {
 
 /// The same, where something else says how two nodes compare.
 pub fn texts_with(input: &str, says: impl Fn(&[u8], usize, usize) -> Said) -> String {
-    input.lines().map(|line| text_line(line, &says)).collect()
+    input.lines().map(|line| text_line(line, &says, numbered)).collect()
 }
 
-fn text_line(line: &str, says: impl Fn(&[u8], usize, usize) -> Said) -> String {
+/// The same, where something else numbers nodes.
+pub fn texts_numbered(input: &str, numbers: impl Fn(&[u8]) -> Numbers) -> String {
+    input.lines().map(|line| text_line(line, compared, &numbers)).collect()
+}
+
+fn text_line(line: &str, says: impl Fn(&[u8], usize, usize) -> Said, numbers: impl Fn(&[u8]) -> Numbers) -> String {
     let parts = letter(line).and_then(|(kind, rest)| {
         let (problem, rest) = part(rest)?;
         let (text, label) = part(rest)?;
@@ -110,6 +115,7 @@ fn text_line(line: &str, says: impl Fn(&[u8], usize, usize) -> Said) -> String {
             Some((a, b)) => format!("{label}: {}\n", pair(says(&problem, a, b))),
             None => bad(label) + "\n",
         },
+        Some(('A', problem, text, label)) if text.is_empty() => format!("{label}: {}\n", lowest(numbers(&problem))),
         Some(('L' | 'H', problem, calls, label)) if calls.len() % 5 == 0 => {
             format!("{label}\n{}", held(&problem, &calls))
         }
@@ -283,6 +289,23 @@ fn pair(said: Said) -> String {
         Ok(None) => "no such node".to_string(),
         Ok(Some(Compared { equal: true, pairs })) => format!("yes {pairs}"),
         Ok(Some(Compared { equal: false, pairs })) => format!("no {pairs}"),
+    }
+}
+
+/// What is said of all nodes of a problem: its refusal, or for each the lowest node with the same number.
+pub type Numbers = Result<Vec<usize>, u8>;
+
+/// What the second implementation says of them.
+pub fn numbered(problem: &[u8]) -> Numbers {
+    Problem::read(problem).map(|read| read.numbers())
+}
+
+/// The same in the words of the program.
+fn lowest(numbers: Numbers) -> String {
+    match numbers {
+        Err(refusal) => format!("refused {refusal}"),
+        Ok(nodes) if nodes.is_empty() => "none".to_string(),
+        Ok(nodes) => nodes.iter().map(usize::to_string).collect::<Vec<_>>().join(" "),
     }
 }
 

@@ -65,7 +65,7 @@ impl WrongPairs {
             WrongPairs::ComparesNames => two.changed(number_by_name),
             WrongPairs::ComparesLowHalves => two.changed(narrow),
             WrongPairs::NamesOutside => apart(left.tree, right.tree),
-            WrongPairs::DepthsOutside => apart(&left.alone(by_depth), &right.alone(by_depth)),
+            WrongPairs::DepthsOutside => apart(&left.alone(Binder::depth_symbol), &right.alone(Binder::depth_symbol)),
             WrongPairs::InsideIsOutside => two.inside_as_outside(),
             WrongPairs::SaysYes => Some(yes(smaller)),
             WrongPairs::SaysNo => Some(no(1)),
@@ -80,7 +80,7 @@ impl WrongPairs {
 pub fn right(input: &str) -> String {
     printed(input, |two| {
         let [left, right] = two.both();
-        apart(&left.alone(by_binder), &right.alone(by_binder)).or(Some(two.answer))
+        apart(&left.alone(Binder::symbol), &right.alone(Binder::symbol)).or(Some(two.answer))
     })
 }
 
@@ -137,7 +137,7 @@ impl Two<'_> {
     /// What is right after two variables of one binder, which stands inside one node and outside the other, are made to
     /// agree wherever they are the first that do not.
     fn inside_as_outside(&self) -> Option<Compared> {
-        let [mut left, mut right] = self.both().map(|node| node.alone(by_binder));
+        let [mut left, mut right] = self.both().map(|node| node.alone(Binder::symbol));
         loop {
             let compared = apart(&left, &right)?;
             let k = compared.pairs - 1;
@@ -167,19 +167,11 @@ fn apart(left: &Tree, right: &Tree) -> Option<Compared> {
     compared(&[left.clone(), right.clone()], 0, left.nodes())
 }
 
-/// Symbols that no problem has, unless by chance: they can stand for variables.
-const FIRST_OUTSIDE: u32 = 0x4000_0000;
-const AGREED: Tree = Tree::Symbol(FIRST_OUTSIDE - 1);
+/// A symbol that no problem has, unless by chance, nor stands for a binder.
+const AGREED: Tree = Tree::Symbol(0x3FFF_FFFF);
 
-fn by_binder(binder: Binder) -> Tree {
-    Tree::Symbol(FIRST_OUTSIDE + binder.node as u32)
-}
-
-fn by_depth(binder: Binder) -> Tree {
-    Tree::Symbol(FIRST_OUTSIDE + binder.depth as u32)
-}
-
-fn everywhere(tree: &mut Tree, change: fn(&mut Tree)) {
+/// Changes each node.
+pub fn everywhere(tree: &mut Tree, change: fn(&mut Tree)) {
     change(tree);
     tree.inner_mut().into_iter().for_each(|inner| everywhere(inner, change));
 }
@@ -191,7 +183,8 @@ fn number_by_name(tree: &mut Tree) {
     }
 }
 
-fn narrow(tree: &mut Tree) {
+/// Leaves a symbol the low half of its number.
+pub fn narrow(tree: &mut Tree) {
     if let Tree::Symbol(s) = tree {
         *s %= 65_536;
     }

@@ -1,54 +1,19 @@
 //! Random pairs of nodes: the proved code, through the program `vectors_texts`, compares them as the second implementation
 //! does, every kind of pair comes up often enough to say something, and every wrong comparer is caught.
 
+mod program;
+
 use compare::pairs;
 use compare::wrong_pairs::{self, WrongPairs};
-use std::io::Write;
 use std::ops::Range;
-use std::path::{Path, PathBuf};
-use std::process::{Command, Stdio};
 
 /// Seeds for the wrong ones.
 const SEEDS: Range<u64> = 700_000..701_000;
 
-/// Proves the program, unless that is done, and says where it is.
-fn program() -> PathBuf {
-    let root = Path::new(env!("CARGO_MANIFEST_DIR")).join("../..");
-    let proved = Command::new("rt")
-        .args(["check", "vectors_texts"])
-        .current_dir(&root)
-        .stdin(Stdio::null())
-        .output()
-        .unwrap_or_else(|e| panic!("the Rattle toolchain is needed to build the program, and `rt` does not run: {e}"));
-    assert!(
-        proved.status.success(),
-        "`rt check vectors_texts` failed:\n{}{}",
-        String::from_utf8_lossy(&proved.stdout),
-        String::from_utf8_lossy(&proved.stderr)
-    );
-    root.join("target/bin/vectors_texts")
-}
-
-/// What the program prints. The input is written by another thread, so that neither pipe can block the other.
-fn run(program: &Path, input: &str) -> String {
-    let mut process = Command::new(program)
-        .stdin(Stdio::piped())
-        .stdout(Stdio::piped())
-        .spawn()
-        .unwrap_or_else(|e| panic!("{}: {e}", program.display()));
-    let mut to = process.stdin.take().expect("a pipe");
-    let output = std::thread::scope(|scope| {
-        scope.spawn(move || to.write_all(input.as_bytes()).expect("it reads its input"));
-        process.wait_with_output().expect("it ends")
-    });
-    assert!(output.status.success(), "the program failed: {}", output.status);
-    String::from_utf8(output.stdout).expect("it prints text")
-}
-
 #[test]
 fn pairs_agree() {
-    let program = program();
-    let compared = pairs::random(&|input| run(&program, input), 600_000..606_000);
+    let program = program::proved();
+    let compared = pairs::random(&|input| program::run(&program, input), 600_000..606_000);
     let tally = compared.unwrap_or_else(|difference| panic!("{difference}"));
     let cases = [
         ("pairs", 40_000),

@@ -5,11 +5,15 @@
 //! when they differ at most in the names of bound variables. Binder numbers,
 //! symbol numbers and numbers of children must agree. So must free variables by
 //! number, and those bound outside both terms by their binder."
+//!
+//! T-08: "a table shall give each node of a problem's expressions a number, the
+//! same for two nodes exactly when their subexpressions are equal. Variables
+//! bound outside a subexpression must be told apart by their binder."
 
 use crate::compare::{self, Compared};
 use crate::problem::Problem;
 use crate::read::Constraint;
-use crate::rename::{rename_bound, Names};
+use crate::rename::{canonical, rename_bound, Names};
 use crate::term::{Name, Term};
 
 impl Problem {
@@ -21,6 +25,18 @@ impl Problem {
         let expressions = told_apart(self.constraints());
         let nodes: Vec<&Term> = expressions.iter().flat_map(Term::nodes).collect();
         Some(compare::terms(nodes.get(a)?, nodes.get(b)?))
+    }
+
+    /// A number for each node, in their order: the lowest node whose
+    /// subexpression is equal. No two are compared as above: equal ones have
+    /// the same canonical form, in which a name that is not canonical belongs
+    /// to a binder outside, or to none.
+    pub fn numbers(&self) -> Vec<usize> {
+        let expressions = told_apart(self.constraints());
+        let nodes = expressions.iter().flat_map(Term::nodes);
+        let forms: Vec<Term> = nodes.map(canonical).collect();
+        let lowest = |form| forms.iter().position(|other| other == form);
+        forms.iter().filter_map(lowest).collect()
     }
 }
 

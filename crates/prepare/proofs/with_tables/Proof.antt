@@ -1,6 +1,6 @@
 -- `with_tables` meets its contract: the problem that stands in the tables gives what each call requires.
 use mathlib.Core.Path.{_≡_, refl, sym, _∙_}
-use Prim.Native.Nat.{_≤_}
+use Prim.Native.Nat.{_<_}
 use native.Mathlib.Omega.{arith}
 use lib.ListN.{length, take}
 use lib.Seq.{length-take-le}
@@ -20,7 +20,7 @@ module _ (s : tie.Start) where
   expressions-long : length (take (s .args .a .expressions) (s .args .es .now)) ≡ s .args .a .expressions
   expressions-long = length-take-le (s .args .a .expressions) (s .args .es .now) (laid .expressionsInside)
 
-  few : s .args .a .expressions ≤ tableRoom
+  few : s .args .a .expressions < tableRoom
   few = table-few _ _ _ _ _ laid
 
 slice-aggregate-nodes-of : tie.Need-slice-aggregate-nodes-of

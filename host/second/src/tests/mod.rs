@@ -6,6 +6,7 @@ mod examples;
 mod labels;
 mod naming;
 mod notation;
+mod numbered;
 mod random;
 mod refusals;
 mod rows;

@@ -11,6 +11,9 @@ add-result c = search needs
 add-result-2 : tie.Need-add-result-2
 add-result-2 c = search needs
 
+add-result-3 : tie.Need-add-result-3
+add-result-3 c = search needs
+
 mul-result : tie.Need-mul-result
 mul-result c = search needs
 
@@ -19,4 +22,4 @@ unfolding mixed
 returns c = refl
 
 pub mix-spec : {M : Type 1} → statement M
-mix-spec = tie.close (tie.spec add-result add-result-2 mul-result returns)
+mix-spec = tie.close (tie.spec add-result add-result-2 add-result-3 mul-result returns)

@@ -1,16 +1,17 @@
 -- `make::node_at` meets its contract.
-use Prim.Native.Nat.{_+_, _-_}
+use mathlib.Core.Path.{refl}
+use Prim.Native.Nat.{_+_}
 use native.Mathlib.Omega.{arith}
-use Rattle.numbers.proofs.Passing.{scan-few, scan-small, node-known}
+use Rattle.numbers.proofs.Passing.{level-few, sums-rise, sum-found, node-known}
 use borrow.Author.Needs.{needs}
 use Rattle.numbers.proofs.make.node_at.Statement.{statement}
 use Rattle.numbers.proofs.make.node_at.Tie as tie
 
-mul-x : tie.Need-mul-x
-mul-x c = search needs
+mul-size : tie.Need-mul-size
+mul-size c = search needs
 
-shared-slice-read-x : tie.Need-shared-slice-read-x
-shared-slice-read-x c = search needs
+shared-slice-read-size : tie.Need-shared-slice-read-size
+shared-slice-read-size c = search needs
 
 size-requires : tie.Need-size-requires
 size-requires c κs = search needs
@@ -18,66 +19,61 @@ size-requires c κs = search needs
 add-end : tie.Need-add-end
 add-end c = search needs
 
-mul-scan-keys : tie.Need-mul-scan-keys
-mul-scan-keys c = search needs
+mul-sum : tie.Need-mul-sum
+mul-sum c = search needs
 
-sub-scan-keys : tie.Need-sub-scan-keys
-sub-scan-keys c = search needs
+shared-slice-read-sum : tie.Need-shared-slice-read-sum
+shared-slice-read-sum c = search needs
 
-part-scan-keys-start : tie.Need-part-scan-keys-start
-part-scan-keys-start c = search needs
+mul-sum-2 : tie.Need-mul-sum-2
+mul-sum-2 c = search needs
 
-part-scan-keys-end : tie.Need-part-scan-keys-end
-part-scan-keys-end c = search needs
+shared-slice-read-sum-2 : tie.Need-shared-slice-read-sum-2
+shared-slice-read-sum-2 c = search needs
 
-depth-requires : tie.Need-depth-requires
-depth-requires c κs = search needs
+sub-sum : tie.Need-sub-sum
+sub-sum c =
+    let size = c .before .before in
+    let s = c .before .before .before .before .before .before .before in
+    sums-rise (s .args .t .now) (s .args .k) (s .pre .0) (size .size .result) (s .args .k + size .size .result) (size .size .ensures) refl (s .args .sums .now) (s .pre .1 .1)
 
-scan-keys-requires : tie.Need-scan-keys-requires
-scan-keys-requires c κs = search needs
+level-at-requires : tie.Need-level-at-requires
+level-at-requires c κs =
+    let size = c .before .before in
+    let s = c .before .before .before .before .before .before .before in
+    (s .pre .0, sum-found (s .args .t .now) (s .args .k) (s .pre .0) (size .size .result) (s .args .k + size .size .result) (size .size .ensures) refl (s .args .sums .now) (s .pre .1 .1))
 
 binder-at-requires : tie.Need-binder-at-requires
 binder-at-requires c κs =
-    let size = c .before .before .before in
-    let s = size .before .before .before .before in
-    let n = s .args .k + size .size .result - s .args .k in
-    let few = scan-few (s .args .t .now) (s .args .k) n (c .before .depth .result) (omega (arith, size .size .ensures)) (c .before .depth .ensures)
-    (c .scan-keys .result) (c .scan-keys .ensures) in
-    omega (arith, s .pre .1 .long)
+    let s = c .before .before .before .before .before .before .before .before in
+    omega (arith, level-few (s .args .t .now) (s .args .k) (s .pre .0) (c .level-at .result) (c .level-at .ensures), s .pre .1 .0 .long)
 
 mix-requires : tie.Need-mix-requires
-mix-requires c κs =
-    let scan = c .before in
-    let size = scan .before .before .before in
-    let s = size .before .before .before .before in
-    let n = s .args .k + size .size .result - s .args .k in
-    scan-small (s .args .t .now) (s .args .k) n (scan .before .depth .result) (omega (arith, size .size .ensures)) (scan .before .depth .ensures)
-    (scan .scan-keys .result) (scan .scan-keys .ensures)
+mix-requires c κs = search needs
 
 returns : tie.Need-returns
 returns c =
-    let scan = c .before .before in
-    let size = scan .before .before .before in
-    let s = size .before .before .before .before in
-    let n = s .args .k + size .size .result - s .args .k in
-    node-known (s .args .t .now) (s .args .k) n (scan .before .depth .result) (omega (arith, size .size .ensures)) (scan .before .depth .ensures)
-    (scan .scan-keys .result) (scan .scan-keys .ensures) (s .args .last .now) (s .pre .1) (c .before .binder-at .result) (c .mix .result)
-    (c .before .binder-at .ensures) (c .mix .ensures)
+    let level = c .before .before .level-at in
+    let size = c .before .before .before .before .before in
+    let s = c .before .before .before .before .before .before .before .before .before .before in
+    node-known (s .args .t .now) (s .args .k) (s .pre .0) (s .args .last .now) (s .pre .1 .0) _ (level .result) (c .before .binder-at .result) (c .mix .result)
+    (sum-found (s .args .t .now) (s .args .k) (s .pre .0) (size .size .result) (s .args .k + size .size .result) (size .size .ensures) refl (s .args .sums .now) (s .pre .1 .1))
+    (level .ensures) (c .before .binder-at .ensures) (c .mix .ensures)
 
 pub node-at-spec : {M : Type 1} → statement M
 node-at-spec =
     tie.close
     (tie.spec
-    mul-x
-    shared-slice-read-x
+    mul-size
+    shared-slice-read-size
     size-requires
     add-end
-    mul-scan-keys
-    sub-scan-keys
-    part-scan-keys-start
-    part-scan-keys-end
-    depth-requires
-    scan-keys-requires
+    mul-sum
+    shared-slice-read-sum
+    mul-sum-2
+    shared-slice-read-sum-2
+    sub-sum
+    level-at-requires
     binder-at-requires
     mix-requires
     returns)

@@ -1,4 +1,4 @@
--- `bench_pairs::pairs_of`: what reading and checking leaves is what is measured.
+-- `bench_nodes::pairs_of`: what reading and checking leaves is what is measured.
 use Prim.Native.Nat.{ℕ, _<_}
 use mathlib.Core.List.{List}
 use native.Mathlib.Omega.{arith}
@@ -6,8 +6,8 @@ use Rattle.meaning.specs.Basics.{All}
 use Rattle.accept.proofs.AcceptanceLaws.{are-bytes}
 use Rattle.comparing.proofs.Answering.{table-inside, table-ready}
 use borrow.Author.Needs.{needs}
-use Rattle.bench_pairs.proofs.pairs_of.Statement.{statement}
-use Rattle.bench_pairs.proofs.pairs_of.Tie as tie
+use Rattle.bench_nodes.proofs.pairs_of.Statement.{statement}
+use Rattle.bench_nodes.proofs.pairs_of.Tie as tie
 
 -- After reading and checking: the bytes
 module _ (a : tie.After-accept) where

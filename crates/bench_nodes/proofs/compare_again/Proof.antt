@@ -1,8 +1,8 @@
--- `bench_pairs::compare_again`: the loop counts up to a million.
+-- `bench_nodes::compare_again`: the loop counts up to a million.
 use Prim.Native.Nat.{_-_, _≤_}
 use borrow.Author.Needs.{needs}
-use Rattle.bench_pairs.proofs.compare_again.Statement.{statement}
-use Rattle.bench_pairs.proofs.compare_again.Tie as tie
+use Rattle.bench_nodes.proofs.compare_again.Statement.{statement}
+use Rattle.bench_nodes.proofs.compare_again.Tie as tie
 
 abbrev Inv-loop : tie.InvT-loop
 Inv-loop es first second sum₀ k₀ sum k = k ≤ 1000001

@@ -1,10 +1,10 @@
--- `bench_pairs::measure`: both nodes are in the table.
+-- `bench_nodes::measure`: both nodes are in the table.
 use mathlib.Core.Path.{sym}
 use native.Mathlib.Omega.{arith}
 use lib.Seq.{length-take-le}
 use borrow.Author.Needs.{needs}
-use Rattle.bench_pairs.proofs.measure.Statement.{statement}
-use Rattle.bench_pairs.proofs.measure.Tie as tie
+use Rattle.bench_nodes.proofs.measure.Statement.{statement}
+use Rattle.bench_nodes.proofs.measure.Tie as tie
 
 returns : tie.Need-returns
 returns c = search needs
