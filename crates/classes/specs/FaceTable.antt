@@ -18,7 +18,7 @@ use Rattle.tokens.specs.Token.{depthIn, sizeIn}
 use Rattle.tokens.specs.Key.{at, Held, Stands}
 use Rattle.numbers.specs.Tests.{Tests}
 use Rattle.masks.specs.Mask.{width}
-use Rattle.masks.specs.Face.{Classes}
+use Rattle.masks.specs.Face.{Entry, Classes}
 use Rattle.rows.specs.Rows.{Long, classesAt}
 
 abbrev pub sizeFrom : List ℕ → ℕ → ℕ
@@ -29,6 +29,15 @@ freeFrom q es root i = ltb i (sizeFrom es root) && not (q .uses (root + i) (dept
 
 unfoldable pub sameFrom : Tests → ℕ → ℕ → ℕ → Bool
 sameFrom q root i j = q .same (root + i) (root + j)
+
+-- The entry of node i in the class table of the face
+abbrev pub EntryFrom : Tests → List ℕ → ℕ → ℕ → ℕ → Type 0
+EntryFrom q es root i d = Entry width (sizeFrom es root) (freeFrom q es root) (sameFrom q root) i d
+
+-- The entries of all nodes after node i are made.
+pub record LaterMade (q : Tests) (es : List ℕ) (root i : ℕ) (ds : List ℕ) : Type 0 where
+  pub long : length ds ≡ width
+  pub made : (j : ℕ) → i < j → j < width → EntryFrom q es root j (getD ds j 0)
 
 -- The list holds the classes of the face that stands at the root.
 abbrev pub ClassesFrom : Tests → List ℕ → ℕ → List ℕ → Type 0

@@ -1,40 +1,55 @@
 // The class tables of the functions' faces, by the numbers of their nodes. What the class table of a face is in terms of the table that it
-// stands in is defined in specs/FaceTable; that it is the class table of a function's face is proofs/ProblemTables, and that the rows of these tables are the
-// rows of the problem, in their order, is proofs/Problem.
+// stands in is defined in specs/FaceTable; that it is the class table of a function's face is proofs/ProblemTables, and that the rows of
+// these tables are the rows of the problem, in their order, is proofs/Problem.
 use metavariables::MAX_FUNCTIONS;
 use numbers::ask::same;
 use numbers::ask::uses;
 use tokens::token::depth;
 use tokens::token::size;
 ghost use mathlib.Core.Path.{_≡_};
-ghost use Prim.Native.Nat.{_<_};
+ghost use mathlib.Core.Bool.{true};
+ghost use Prim.Native.Nat.{_+_, _<_, _≤_};
 ghost use lib.ListN.{length, replicate};
 ghost use Rattle.masks.specs.Mask.{width};
-ghost use Rattle.masks.specs.Face.{Grown, Entry};
+ghost use Rattle.masks.specs.Face.{Grown, Next};
 ghost use Rattle.rows.specs.Rows.{Long};
 ghost use Rattle.numbers.specs.Tests.{told};
-ghost use Rattle.classes.specs.FaceTable.{sizeFrom, freeFrom, sameFrom, ClassesFrom, Whole, Faces, TablesFrom};
+ghost use Rattle.classes.specs.FaceTable.{sizeFrom, freeFrom, sameFrom, EntryFrom, LaterMade, ClassesFrom, Whole, Faces, TablesFrom};
 
-// The class of node i of the face at the root: the node itself and the later ones that are equal to it.
-fn class_of(es: &[u64], ns: &[u64], root: usize, i: usize) -> u64
-    requires { ⌜ Whole (now es) root ⌝ ∗ ⌜ length (now ns) ≡ length (now es) ⌝ ∗ ⌜ i < sizeFrom (now es) root ⌝ }
+// The next node after node i, of the n nodes from the root on, that is equal to it, or n where there is none.
+fn next_equal(ns: &[u64], root: usize, i: usize, n: usize) -> usize
+    requires { ⌜ (i < n) × (root + n ≤ length (now ns)) ⌝ }
+    ensures { λ r. ⌜ Next (sameFrom (told (now (ns .entry))) root) i n r ⌝ }
+{
+    let mut k = i + 1;
+    while k < n {
+        if same(ns, root + i, root + k) {
+            return k;
+        }
+        k += 1;
+    }
+    n
+}
+
+// The class of node i of the face at the root, with the entries of the later nodes: the node itself, and the class of the next node that is
+// equal to it.
+fn class_of(es: &[u64], ns: &[u64], root: usize, i: usize, later: &[u64]) -> u64
+    requires { ⌜ Whole (now es) root × (length (now ns) ≡ length (now es)) ⌝
+        ∗ ⌜ freeFrom (told (now ns)) (now es) root i ≡ true ⌝ ∗ ⌜ LaterMade (told (now ns)) (now es) root i (now later) ⌝ }
     ensures { λ r. ⌜ Grown width (sameFrom (told (now (ns .entry))) root) i (sizeFrom (now (es .entry)) root) r ⌝ }
 {
     let n = size(es[root]) as usize;
-    let mut class = 0u64;
-    let mut k = i;
-    while k < n {
-        class = masks::join_equal(class, k, same(ns, root + i, root + k));
-        k += 1;
+    let k = next_equal(ns, root, i, n);
+    if k < n {
+        return masks::join_equal(later[k], i, true);
     }
-    class
+    masks::join_equal(0, i, true)
 }
 
 // The entry of node i in the class table of the face at the root. A node that uses a binder of the face above it is in no choice.
-fn entry_of(es: &[u64], ns: &[u64], root: usize, i: usize) -> u64
-    requires { ⌜ Whole (now es) root ⌝ ∗ ⌜ length (now ns) ≡ length (now es) ⌝ }
-    ensures { λ r. ⌜ Entry width (sizeFrom (now (es .entry)) root) (freeFrom (told (now (ns .entry))) (now (es .entry)) root)
-        (sameFrom (told (now (ns .entry))) root) i r ⌝ }
+fn entry_of(es: &[u64], ns: &[u64], root: usize, i: usize, later: &[u64]) -> u64
+    requires { ⌜ Whole (now es) root × (length (now ns) ≡ length (now es)) ⌝ ∗ ⌜ LaterMade (told (now ns)) (now es) root i (now later) ⌝ }
+    ensures { λ r. ⌜ EntryFrom (told (now (ns .entry))) (now (es .entry)) root i r ⌝ }
 {
     let x = es[root];
     if size(x) as usize <= i {
@@ -43,18 +58,19 @@ fn entry_of(es: &[u64], ns: &[u64], root: usize, i: usize) -> u64
     if uses(ns, root + i, depth(x)) {
         return 0;
     }
-    class_of(es, ns, root, i)
+    class_of(es, ns, root, i, later)
 }
 
-// The class table of the face that stands at the root of the token table.
+// The class table of the face that stands at the root of the token table, from the last node down.
 pub fn face_classes(es: &[u64], ns: &[u64], root: usize, out: &mut [u64])
     requires { ⌜ Whole (now es) root ⌝ ∗ ⌜ length (now ns) ≡ length (now es) ⌝ ∗ ⌜ length (now out) ≡ width ⌝ }
     ensures { λ _. ⌜ ClassesFrom (told (now (ns .entry))) (now (es .entry)) root (now (out .exit)) ⌝ }
 {
-    let mut i = 0;
-    while i < masks::WIDTH {
-        out[i] = entry_of(es, ns, root, i);
-        i += 1;
+    let mut i = masks::WIDTH;
+    while 0 < i {
+        i -= 1;
+        let entry = entry_of(es, ns, root, i, out);
+        out[i] = entry;
     }
 }
 

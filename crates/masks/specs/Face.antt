@@ -27,6 +27,13 @@ pub record Decides (n : ℕ) (ok : ℕ → Bool) (eq : ℕ → ℕ → Bool) (p 
   pub sound : (l : List Bool) → length l ≡ n → p l ≡ true → IsChoice n ok eq l
   pub complete : (l : List Bool) → length l ≡ n → IsChoice n ok eq l → p l ≡ true
 
+-- Of n nodes, r is the next after node i that is equal to it, or n where there is none.
+pub record Next (eq : ℕ → ℕ → Bool) (i n r : ℕ) : Type 0 where
+  pub after : i < r
+  pub upTo : r ≤ n
+  pub equal : r < n → eq i r ≡ true
+  pub none : (j : ℕ) → i < j → j < r → eq i j ≡ false
+
 -- The mask d has, of the nodes below k, just those of the class of node i. With all nodes looked at it is that class.
 pub record Grown (w : ℕ) (eq : ℕ → ℕ → Bool) (i k d : ℕ) : Type 0 where
   pub small : d < 2 ^ w

@@ -31,7 +31,7 @@ pub mod Calls
 pub mod Given
 -- The program
 pub mod Program
--- Two subexpressions compared, for T-02 alone
+-- Two subexpressions compared, and nodes numbered, for T-02 and T-08 alone
 pub mod Compare
 -- The full solution set of source document 000, for T-12 alone
 pub mod Textbook

@@ -35,13 +35,17 @@ sub-sum : tie.Need-sub-sum
 sub-sum c =
     let size = c .before .before in
     let s = c .before .before .before .before .before .before .before in
-    sums-rise (s .args .t .now) (s .args .k) (s .pre .0) (size .size .result) (s .args .k + size .size .result) (size .size .ensures) refl (s .args .sums .now) (s .pre .1 .1)
+    sums-rise (s .args .t .now) (s .args .k) (s .pre .0) (size .size .result) (s .args .k + size .size .result) (size .size .ensures) refl
+    (s .args .sums .now) (s .pre .1 .1)
 
 level-at-requires : tie.Need-level-at-requires
 level-at-requires c κs =
     let size = c .before .before in
-    let s = c .before .before .before .before .before .before .before in
-    (s .pre .0, sum-found (s .args .t .now) (s .args .k) (s .pre .0) (size .size .result) (s .args .k + size .size .result) (size .size .ensures) refl (s .args .sums .now) (s .pre .1 .1))
+    let s = c .before .before .before .before .before .before .before in (
+      s .pre .0,
+      sum-found (s .args .t .now) (s .args .k) (s .pre .0) (size .size .result) (s .args .k + size .size .result) (size .size .ensures) refl
+          (s .args .sums .now) (s .pre .1 .1),
+    )
 
 binder-at-requires : tie.Need-binder-at-requires
 binder-at-requires c κs =
@@ -57,7 +61,8 @@ returns c =
     let size = c .before .before .before .before .before in
     let s = c .before .before .before .before .before .before .before .before .before .before in
     node-known (s .args .t .now) (s .args .k) (s .pre .0) (s .args .last .now) (s .pre .1 .0) _ (level .result) (c .before .binder-at .result) (c .mix .result)
-    (sum-found (s .args .t .now) (s .args .k) (s .pre .0) (size .size .result) (s .args .k + size .size .result) (size .size .ensures) refl (s .args .sums .now) (s .pre .1 .1))
+    (sum-found (s .args .t .now) (s .args .k) (s .pre .0) (size .size .result) (s .args .k + size .size .result) (size .size .ensures) refl
+    (s .args .sums .now) (s .pre .1 .1))
     (level .ensures) (c .before .binder-at .ensures) (c .mix .ensures)
 
 pub node-at-spec : {M : Type 1} → statement M

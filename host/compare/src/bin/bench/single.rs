@@ -2,7 +2,7 @@
 
 use crate::clock::{head, line, nanoseconds, shown};
 use crate::problems;
-use compare::tree;
+use compare::tree::{self, Tree};
 use matcher::Problem;
 
 /// A problem of 4,095 bytes: one of the largest.
@@ -22,6 +22,7 @@ pub fn table() {
     texts();
     println!();
     calls();
+    class_tables();
     println!();
 }
 
@@ -67,4 +68,22 @@ fn calls() {
         "judging a row more, of {rows}: {}",
         shown((all - one) / (rows - 1) as f64)
     );
+}
+
+/// Making the class table of a face of 64 nodes: what the start of eight functions with such a face takes longer than that of eight plain
+/// metavariables.
+fn class_tables() {
+    let (equal, different) = (problems::equal_symbols(63), problems::different_symbols(63));
+    for (name, face) in [("equal", equal), ("different", different)] {
+        let start = |pattern: fn(u8) -> Tree| {
+            let constraints: Vec<_> = (0..8).map(|m| (pattern(m), face.clone())).collect();
+            let bytes = tree::problem(&constraints);
+            nanoseconds(|| Problem::new(&bytes).is_ok())
+        };
+        let longer = start(|m| problems::call(m, &Tree::Meta(20))) - start(Tree::Meta);
+        println!(
+            "the class table of a face of 63 {name} symbols: {}",
+            shown(longer / 8.0)
+        );
+    }
 }
