@@ -90,12 +90,12 @@ fn different(ns: &[u64]) -> usize {
     n
 }
 
-fn number_again(es: &[u64], times: usize, ns: &mut [u64], links: &mut [u64], sums: &mut [u64])
-    requires { ⌜ Numerable (now es) × Rooms (now es) (now ns) (now links) (now sums) ⌝ }
+fn number_again(es: &[u64], times: usize, ns: &mut [u64], links: &mut [u64])
+    requires { ⌜ Numerable (now es) × Rooms (now es) (now ns) (now links) ⌝ }
 {
     let mut k = 0;
     while k < times {
-        number(es, ns, links, sums);
+        number(es, ns, links);
         k += 1;
     }
 }
@@ -106,8 +106,7 @@ fn measure_numbers(es: &[u64], n: usize, times: usize) -> usize
 {
     let mut ns = [0u64; TABLE_ROOM];
     let mut links = [0u64; TABLE_ROOM];
-    let mut sums = [0u64; TABLE_ROOM];
-    number_again(&es[..n], times, &mut ns, &mut links, &mut sums);
+    number_again(&es[..n], times, &mut ns, &mut links);
     different(&ns[..n])
 }
 

@@ -99,12 +99,11 @@ pub enum Numbering {
 
 // The numbers of the first n nodes of a table.
 fn number_present(es: &[u64], n: usize, ns: &mut [u64]) -> Numbering
-    requires { ⌜ n ≤ length (now es) ⌝ ∗ ⌜ Numerable (take n (now es)) ⌝ ∗ ⌜ (n < tableRoom) × (n ≤ length (now ns)) ⌝ }
+    requires { ⌜ n ≤ length (now es) ⌝ ∗ ⌜ Numerable (take n (now es)) ⌝ ∗ ⌜ (n < tableRoom) × (n < length (now ns)) ⌝ }
     ensures { λ r. ⌜ NumbersMade (take n (now (es .entry))) n (now (ns .exit)) r ⌝ }
 {
     let mut links = [0u64; TABLE_ROOM];
-    let mut sums = [0u64; TABLE_ROOM];
-    number(&es[..n], ns, &mut links, &mut sums);
+    number(&es[..n], ns, &mut links);
     Numbering::Numbers(n)
 }
 

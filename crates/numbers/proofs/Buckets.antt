@@ -127,7 +127,7 @@ module _ (t : List ℕ) where
             subst (λ (j : ℕ). NumberOf t j (at (set ns k n) j)) e (subst (NumberOf t k) (sym (getD-set-same ns k n 0 long)) own)
 
     -- One node more in the buckets
-    module _ (heads links : List ℕ) (chained : Chained t k heads links) (long : length heads ≡ 1024) (room : k < length links) where
+    module _ (heads links : List ℕ) (chained : Chained t k heads links) (long : length heads ≡ 256) (room : k < length links) where
       abbrev bucket : ℕ
       bucket = bucketAt t k
 
@@ -137,7 +137,7 @@ module _ (t : List ℕ) where
       abbrev link : ℕ
       link = head + 65536 * labelAt t k
 
-      pub bucket-few : bucket < 1024
+      pub bucket-few : bucket < 256
       bucket-few = omega (arith, hash-small k)
 
       pub head-points : Points t bucket k head
@@ -167,7 +167,7 @@ module _ (t : List ℕ) where
               let z : labelIn (at (set links k link) k) ≡ labelAt t k = omega (arith, links-here, head-points .upTo) in
               subst (λ (j : ℕ). labelIn (at (set links k link) j) ≡ labelAt t j) e z
 
-      begins-more : (b : ℕ) → b < 1024 → Points t b (k + 1) (at (set heads bucket (k + 1)) b)
+      begins-more : (b : ℕ) → b < 256 → Points t b (k + 1) (at (set heads bucket (k + 1)) b)
       begins-more b few = go (ℕ-discrete b bucket)
         where
           go : Dec (b ≡ bucket) → Points t b (k + 1) (at (set heads bucket (k + 1)) b)

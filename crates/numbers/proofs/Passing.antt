@@ -1,7 +1,7 @@
 -- The pass over the nodes: what is found of a node, the state with which the pass begins, and one node more.
 use mathlib.Core.Path.{_≡_, ap, ap₂, sym, _∙_, subst}
 use Prim.Native.Nat.{ℕ, _+_, _*_, _-_, _/_, _<_, _≤_}
-use mathlib.Core.List.{List, [], _∷_}
+use mathlib.Core.List.{List}
 use native.Mathlib.Omega.{arith}
 use native.Mathlib.Decide.{decLt, ℕ-discrete}
 use lib.ListN.{length, set, replicate, length-set, length-replicate, getD-replicate}
@@ -33,9 +33,10 @@ module _ (t : List ℕ) (k : ℕ) (inside : Inside t k) where
   level-few level is = omega (arith, level-deep t k)
 
   -- The sum of its subterm
-  module _ (n e : ℕ) (is-n : n ≡ sizeIn (at t k)) (is-e : e ≡ k + n) (sums : List ℕ) (summed : Summed t sums) where
+  module _ (n e : ℕ) (is-n : n ≡ sizeIn (at t k)) (is-e : e ≡ k + n) (sums : List ℕ) (summed : Summed t k sums) where
     sums-are : (at sums k ≡ sumTo t k) × (at sums e ≡ sumTo t e)
-    sums-are = (summed .are k (omega (arith, inside .starts)), summed .are e (omega (arith, inside .ends)))
+    sums-are =
+        (summed .are k (omega arith) (omega (arith, inside .starts)), summed .are e (omega arith) (omega (arith, inside .ends)))
 
     pub sums-rise : at sums k ≤ at sums e
     sums-rise = omega (arith, sums-are .0, sums-are .1, sum-rises t k n e is-n is-e)
@@ -81,7 +82,7 @@ module _ (t : List ℕ) (n : ℕ) where
   unfolding lastAt
   lasts-none e = record { long = length-replicate n 0 ∙ e; are = λ d h. getD-replicate n d 0 0 (omega arith) }
 
-  pub passed-none : n ≡ 1024 → (links ns : List ℕ) → length t ≤ length links → length t ≤ length ns → Passed t 0 (replicate n 0) links ns
+  pub passed-none : n ≡ 256 → (links ns : List ℕ) → length t ≤ length links → Summed t 0 ns → Passed t 0 (replicate n 0) links ns
   passed-none e links ns l m = record {
     chained = record {
       begins = λ b h.
@@ -90,9 +91,9 @@ module _ (t : List ℕ) (n : ℕ) where
       linked = record { points = λ i h. absurd (omega arith); labels = λ i h. absurd (omega arith) };
     };
     numbers = λ a h. absurd (omega arith);
+    summed = m;
     headsLong = length-replicate n 0 ∙ e;
     linksLong = l;
-    numbersLong = m;
   }
 
 -- What is known of a node, as the code has it
@@ -110,8 +111,8 @@ module _ (t : List ℕ) (table : Numerable t) (k : ℕ) (there : k < length t) (
   unfolding labelAt
   node-label = ap₂ (λ (b h : ℕ). b + 65536 * h) (known .binder) (known .hash)
 
-  pub node-bucket : node .hash / 4194304 ≡ bucketAt t k
-  node-bucket = ap (λ (h : ℕ). h / 4194304) (known .hash)
+  pub node-bucket : node .hash / 16777216 ≡ bucketAt t k
+  node-bucket = ap (λ (h : ℕ). h / 16777216) (known .hash)
 
   module _ (heads links ns : List ℕ) (passed : Passed t k heads links ns) where
     pub head-points : (b : ℕ) → b ≡ bucketAt t k → Points t (bucketAt t k) k (at heads b)
@@ -124,7 +125,7 @@ module _ (t : List ℕ) (table : Numerable t) (k : ℕ) (there : k < length t) (
     passed-more b l n is-b is-l own =
         let small : k < 65536 = omega (arith, table .small) in
         let room : k < length links = omega (arith, passed .linksLong) in
-        let wide : k < length ns = omega (arith, passed .numbersLong) in
+        let wide : k < length ns = omega (arith, passed .summed .long) in
         let e : l ≡ at heads (bucketAt t k) + 65536 * labelAt t k = is-l ∙ ap (λ (c : ℕ). at heads c + 65536 * labelAt t k) is-b in
         record {
           chained =
@@ -132,7 +133,10 @@ module _ (t : List ℕ) (table : Numerable t) (k : ℕ) (there : k < length t) (
               (subst (λ (c : ℕ). Chained t (k + 1) (set heads c (k + 1)) (set links k (at heads (bucketAt t k) + 65536 * labelAt t k))) (sym is-b)
               (chained-more t k small heads links (passed .chained) (passed .headsLong) room));
           numbers = numbers-more t k small ns n wide (passed .numbers) own;
+          summed = record {
+            long = omega (arith, length-set ns k n, passed .summed .long);
+            are = λ m h g. getD-set-other ns k m n 0 (λ z. omega arith) ∙ passed .summed .are m (omega arith) g;
+          };
           headsLong = length-set heads b (k + 1) ∙ passed .headsLong;
           linksLong = omega (arith, length-set links k l, passed .linksLong);
-          numbersLong = omega (arith, length-set ns k n, passed .numbersLong);
         }

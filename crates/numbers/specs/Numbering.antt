@@ -5,7 +5,8 @@
 --   Points     where the search for a node of bucket b among the first n begins: past it none of these is in the bucket. Nodes are counted
 --              from 1, and 0 is the end
 --   link       of a node: where the search goes on among the nodes before it; stored beside its label
---   Chained    the buckets of the first k nodes; Lasts, the last node at each depth among these; Summed, the sums from the first node on
+--   Chained    the buckets of the first k nodes; Lasts, the last node at each depth among these; Summed, the sums of k nodes and of
+--              more: a node's place holds the sum of those before it until it is numbered
 --   Sought     the node that the search ends with: an earlier one that is alike, or the node itself where there is none
 use mathlib.Core.Path.{_≡_}
 use Prim.Native.Nat.{ℕ, suc, _+_, _*_, _/_, _%_, _<_, _≤_}
@@ -38,14 +39,13 @@ pub record Numerable (t : List ℕ) : Type 0 where
   pub inside : (a : ℕ) → a < length t → Inside t a
   pub small : length t < 65536
 
--- Tables that have room for them, and for what is kept beside them
-pub record Rooms (t ns links sums : List ℕ) : Type 0 where
-  pub forNumbers : length t ≤ length ns
+-- Tables that have room for a sum more than there are nodes, and for the links
+pub record Rooms (t ns links : List ℕ) : Type 0 where
+  pub forNumbers : length t < length ns
   pub forLinks : length t ≤ length links
-  pub forSums : length t < length sums
 
 abbrev pub bucketAt : List ℕ → ℕ → ℕ
-bucketAt t a = hashAt t a / 4194304
+bucketAt t a = hashAt t a / 16777216
 
 pub record Points (t : List ℕ) (b n from : ℕ) : Type 0 where
   pub upTo : from ≤ n
@@ -63,16 +63,16 @@ pub record Linked (t : List ℕ) (k : ℕ) (links : List ℕ) : Type 0 where
   pub labels : (i : ℕ) → i < k → labelIn (at links i) ≡ labelAt t i
 
 pub record Chained (t : List ℕ) (k : ℕ) (heads links : List ℕ) : Type 0 where
-  pub begins : (b : ℕ) → b < 1024 → Points t b k (at heads b)
+  pub begins : (b : ℕ) → b < 256 → Points t b k (at heads b)
   pub linked : Linked t k links
 
 pub record Lasts (t : List ℕ) (k : ℕ) (last : List ℕ) : Type 0 where
   pub long : length last ≡ 256
   pub are : (d : ℕ) → d < 256 → at last d ≡ lastAt t d k
 
-pub record Summed (t sums : List ℕ) : Type 0 where
+pub record Summed (t : List ℕ) (k : ℕ) (sums : List ℕ) : Type 0 where
   pub long : length t < length sums
-  pub are : (n : ℕ) → n ≤ length t → at sums n ≡ sumTo t n
+  pub are : (n : ℕ) → k ≤ n → n ≤ length t → at sums n ≡ sumTo t n
 
 -- What is found of a node
 pub record Known (t : List ℕ) (a : ℕ) (r : Node) : Type 0 where
@@ -89,6 +89,6 @@ pub record Sought (t : List ℕ) (k r : ℕ) : Type 0 where
 pub record Passed (t : List ℕ) (k : ℕ) (heads links ns : List ℕ) : Type 0 where
   pub chained : Chained t k heads links
   pub numbers : NumbersTo t k ns
-  pub headsLong : length heads ≡ 1024
+  pub summed : Summed t k ns
+  pub headsLong : length heads ≡ 256
   pub linksLong : length t ≤ length links
-  pub numbersLong : length t ≤ length ns

@@ -19,14 +19,14 @@ ghost use Rattle.numbers.specs.Numbering.{Summed, Lasts, Known, Numerabl
 // Hashes are below this, and the upper part of one is its bucket.
 const HASHES: u64 = 4294967296;
 
-const BUCKETS: usize = 1024;
+const BUCKETS: usize = 256;
 
 const IN_BUCKET: u64 = HASHES / BUCKETS as u64;
 
 // A token has 8 bits for the depth.
 const DEPTHS: usize = 256;
 
-// The weight of a bound variable: more than that of 65536 nodes of any other kind.
+// The weight of a bound variable: as much as that of 32768 nodes of any other kind.
 const HEAVY: u64 = 281474976710656;
 
 // Of a node: the level of the innermost binder outside that it uses, or 0, the binder itself (counted from 1, or 0), and a hash of its
@@ -69,7 +69,7 @@ fn weight(key: u64) -> u64
 // The sums of the first nodes, for each number of them.
 fn add_up(t: &[u64], sums: &mut [u64])
     requires { ⌜ (length (now t) < 65536) × (length (now t) < length (now sums)) ⌝ }
-    ensures { λ _. ⌜ Summed (now (t .entry)) (now (sums .exit)) ⌝ }
+    ensures { λ _. ⌜ Summed (now (t .entry)) 0 (now (sums .exit)) ⌝ }
 {
     sums[0] = 0;
     let mut sum = 0;
@@ -142,7 +142,7 @@ fn binder_at(last: &[u64], level: u64) -> u64
 
 // What is known of node k before it is looked for.
 fn node_at(t: &[u64], k: usize, last: &[u64], sums: &[u64]) -> Node
-    requires { ⌜ Inside (now t) k ⌝ ∗ ⌜ Lasts (now t) k (now last) ⌝ ∗ ⌜ Summed (now t) (now sums) ⌝ }
+    requires { ⌜ Inside (now t) k ⌝ ∗ ⌜ Lasts (now t) k (now last) ⌝ ∗ ⌜ Summed (now t) k (now sums) ⌝ }
     ensures { λ r. ⌜ Known (now (t .entry)) k r ⌝ }
 {
     let end = k + size(t[k]) as usize;
@@ -214,17 +214,17 @@ fn number_next(
     }
 }
 
-// The numbers of all nodes. `links` and `sums` are written over.
-pub fn number(t: &[u64], ns: &mut [u64], links: &mut [u64], sums: &mut [u64])
-    requires { ⌜ Numerable (now t) × Rooms (now t) (now ns) (now links) (now sums) ⌝ }
+// The numbers of all nodes. Until a node has its number there stands the sum of the nodes before it. `links` is written over.
+pub fn number(t: &[u64], ns: &mut [u64], links: &mut [u64])
+    requires { ⌜ Numerable (now t) × Rooms (now t) (now ns) (now links) ⌝ }
     ensures { λ _. ⌜ Numbered (now (t .entry)) (now (ns .exit)) ⌝ }
 {
     let mut last = [0u64; DEPTHS];
     let mut heads = [0u64; BUCKETS];
-    add_up(t, sums);
+    add_up(t, ns);
     let mut k = 0;
     while k < t.len() {
-        let node = node_at(t, k, &last, sums);
+        let node = node_at(t, k, &last, ns);
         number_next(t, k, node, &mut heads, links, ns);
         let d = depth(t[k]) as usize;
         last[d] = k as u64 + 1;

@@ -49,12 +49,11 @@ fn nodes_of(rows: bool, ps: &[u64], fs: &[u64], functions: u32) -> Firsts
 
 // The numbers of all nodes of the expressions.
 fn number_nodes(es: &[u64], ns: &mut [u64])
-    requires { ⌜ Numerable (now es) × (length (now es) < tableRoom) × (length (now es) ≤ length (now ns)) ⌝ }
+    requires { ⌜ Numerable (now es) × (length (now es) < tableRoom) × (length (now es) < length (now ns)) ⌝ }
     ensures { λ _. ⌜ Numbered (now (es .entry)) (now (ns .exit)) ⌝ }
 {
     let mut links = [0u64; TABLE_ROOM];
-    let mut sums = [0u64; TABLE_ROOM];
-    number(es, ns, &mut links, &mut sums);
+    number(es, ns, &mut links);
 }
 
 // An accepted problem: its numbers, the nodes of its functions' faces, and their class tables.

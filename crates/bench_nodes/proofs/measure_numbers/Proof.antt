@@ -18,19 +18,15 @@ slice-aggregate-number-again-2 c = search needs
 slice-aggregate-number-again-3 : tie.Need-slice-aggregate-number-again-3
 slice-aggregate-number-again-3 c = search needs
 
-slice-aggregate-number-again-4 : tie.Need-slice-aggregate-number-again-4
-slice-aggregate-number-again-4 c = search needs
-
 number-again-requires : tie.Need-number-again-requires
 number-again-requires c κs =
-    let s = c .before .before .before .before .before in
+    let s = c .before .before .before .before in
     let n = length-take-le (s .args .n) (s .args .es .now) (s .pre .0) in
     let room = length-replicate {A = ℕ} tableRoom 0 in (
       s .pre .1 .0,
       record {
         forNumbers = omega (arith, s .pre .1 .1);
         forLinks = omega (arith, s .pre .1 .1);
-        forSums = omega (arith, s .pre .1 .1);
       },
     )
 
@@ -53,7 +49,6 @@ measure-numbers-spec =
     slice-aggregate-number-again
     slice-aggregate-number-again-2
     slice-aggregate-number-again-3
-    slice-aggregate-number-again-4
     number-again-requires
     array-share-prefix-ns
     slice-aggregate-different

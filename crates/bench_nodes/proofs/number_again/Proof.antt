@@ -8,24 +8,23 @@ use Rattle.bench_nodes.proofs.number_again.Statement.{statement}
 use Rattle.bench_nodes.proofs.number_again.Tie as tie
 
 abbrev Inv-loop : tie.InvT-loop
-Inv-loop es times ns₀ links₀ sums₀ k₀ ns links sums k =
-    (k ≤ times) × (length ns ≡ length ns₀) × (length links ≡ length links₀) × (length sums ≡ length sums₀)
+Inv-loop es times ns₀ links₀ k₀ ns links k =
+    (k ≤ times) × (length ns ≡ length ns₀) × (length links ≡ length links₀)
 
 abbrev μ-loop : tie.MeasureT-loop
-μ-loop es times ns₀ links₀ sums₀ k₀ ns links sums k = times - k
+μ-loop es times ns₀ links₀ k₀ ns links k = times - k
 
 loop-holds : tie.Need-loop-holds Inv-loop μ-loop
 loop-holds c = search needs
 
 number-requires : tie.Need-number-requires Inv-loop μ-loop
 number-requires c κs =
-    let s = c .before .before .before .before .before .before .before .before .before in
-    let at = c .before .before .before .before .loop .inv in (
+    let s = c .before .before .before .before .before .before .before in
+    let at = c .before .before .before .loop .inv in (
       s .pre .0,
       record {
         forNumbers = omega (arith, s .pre .1 .forNumbers, at .1);
         forLinks = omega (arith, s .pre .1 .forLinks, at .2);
-        forSums = omega (arith, s .pre .1 .forSums, at .3);
       },
     )
 
@@ -44,9 +43,6 @@ same-length c = search needs
 same-length-2 : tie.Need-same-length-2 Inv-loop μ-loop
 same-length-2 c = search needs
 
-same-length-3 : tie.Need-same-length-3 Inv-loop μ-loop
-same-length-3 c = search needs
-
 returns : tie.Need-returns Inv-loop μ-loop
 returns c = search needs
 
@@ -63,5 +59,4 @@ number-again-spec =
     loop-again
     same-length
     same-length-2
-    same-length-3
     returns)

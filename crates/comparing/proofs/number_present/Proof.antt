@@ -16,18 +16,14 @@ slice-aggregate-number c =
 slice-aggregate-number-2 : tie.Need-slice-aggregate-number-2
 slice-aggregate-number-2 c = search needs
 
-slice-aggregate-number-3 : tie.Need-slice-aggregate-number-3
-slice-aggregate-number-3 c = search needs
-
 number-requires : tie.Need-number-requires
 number-requires c κs =
-    let s = c .before .before .before .before .before .before in
+    let s = c .before .before .before .before .before in
     let n = length-take-le (s .args .n) (s .args .es .now) (s .pre .0) in (
       s .pre .1 .0,
       record {
         forNumbers = omega (arith, s .pre .1 .1 .1);
         forLinks = omega (arith, s .pre .1 .1 .0, length-replicate {A = ℕ} tableRoom 0);
-        forSums = omega (arith, s .pre .1 .1 .0, length-replicate {A = ℕ} tableRoom 0);
       },
     )
 
@@ -40,4 +36,4 @@ returns c = search needs
 pub number-present-spec : {M : Type 1} → statement M
 number-present-spec =
     tie.close
-    (tie.spec slice-aggregate-number slice-aggregate-number-2 slice-aggregate-number-3 number-requires same-length returns)
+    (tie.spec slice-aggregate-number slice-aggregate-number-2 number-requires same-length returns)

@@ -94,7 +94,7 @@ returns c =
     let at = c .before .loop in
     record {
       long = omega (arith, at .inv .1, length-set (s .args .sums .now) 0 0, s .pre .1);
-      are = λ n h. at .inv .3 n (omega arith);
+      are = λ n l h. at .inv .3 n (omega arith);
     }
 
 pub add-up-spec : {M : Type 1} → statement M

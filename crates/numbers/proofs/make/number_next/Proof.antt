@@ -15,7 +15,7 @@ use Rattle.numbers.proofs.make.number_next.Tie as tie
 -- What is known of the node, from the entry on
 module _ (s : tie.Start) where
   abbrev bucket : ℕ
-  bucket = s .args .node .hash / 4194304
+  bucket = s .args .node .hash / 16777216
 
   binder-small : s .args .node .binder < 65536
   binder-small = node-binder (s .args .t .now) (s .pre .0 .0) (s .args .k) (s .pre .0 .1) (s .args .node) (s .pre .0 .2)
