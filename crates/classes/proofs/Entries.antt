@@ -98,7 +98,7 @@ module _ (ns es : List ℕ) (root i n k : ℕ) (is-n : n ≡ sizeFrom es root) (
   unfolding sameFrom
   same-next h j = ap (λ (x : ℕ). eqb x (at ns (root + j))) (sym (number-next h))
 
-  pub class-next : k < n → (r : ℕ) → r < 2 ^ width → marks width r ≡ join (marks width (getD later k 0)) i true
+  pub class-next : k < n → (r : ℕ) → r < 2 ^ width → marks width r ≡ join (marks width (getD later k 0)) i
       → Grown width (sameFrom (told ns) root) i (sizeFrom es root) r
   class-next less r small e =
       let h : k < sizeFrom es root = omega arith in
@@ -106,7 +106,7 @@ module _ (ns es : List ℕ) (root i n k : ℕ) (is-n : n ≡ sizeFrom es root) (
       small (same-next h)
       (made .made k (next .after) (omega arith) .class (free-next h)) e
 
-  pub class-last : n ≤ k → (r : ℕ) → r < 2 ^ width → marks width r ≡ join (marks width 0) i true
+  pub class-last : n ≤ k → (r : ℕ) → r < 2 ^ width → marks width r ≡ join (marks width 0) i
       → Grown width (sameFrom (told ns) root) i (sizeFrom es root) r
   class-last h r small e =
       grown-last width (sameFrom (told ns) root) i (sizeFrom es root) k own (free-is (told ns) es root i free .0) fits next r (omega arith) small e

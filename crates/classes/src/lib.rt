@@ -41,9 +41,9 @@ fn class_of(es: &[u64], ns: &[u64], root: usize, i: usize, later: &[u64]) -> u64
     let n = size(es[root]) as usize;
     let k = next_equal(ns, root, i, n);
     if k < n {
-        return masks::join_equal(later[k], i, true);
+        return masks::join(later[k], i);
     }
-    masks::join_equal(0, i, true)
+    masks::join(0, i)
 }
 
 // The entry of node i in the class table of the face at the root. A node that uses a binder of the face above it is in no choice.

@@ -1,4 +1,4 @@
--- What comparing two nodes means.
+-- What comparing two nodes means, and what their numbers mean.
 pub mod SharedLaws
 pub mod Agreement
 pub mod NodeTold

@@ -47,7 +47,7 @@ argumentSpan ps es n mask = record {
 
 -- What the argument demands there
 unfoldable pub argumentKept : Tests → List ℕ → List ℕ → ℕ → ℕ → List ℕ → Option (List ℕ)
-argumentKept q ps es n mask kept = andThen (spanWalk ps es (argumentSpan ps es n mask)) (λ ns. keptAfter q kept (demandsIn ps ns))
+argumentKept q ps es n mask kept = andThen (spanWalk ps es (argumentSpan ps es n mask)) (λ found. keptAfter q kept (demandsIn ps found))
 
 -- One application, by the face and the mask of its function. "An open metavariable stands only in arguments of functions whose body has
 -- no hole": without a hole the argument demands nothing
@@ -68,8 +68,8 @@ faceKept q ps es functions nodes row n kept =
 
 unfoldable pub facesKept : Tests → List ℕ → List ℕ → ℕ → List ℕ → List ℕ → List ℕ → List ℕ → Option (List ℕ)
 facesKept q ps es functions nodes row [] kept = some kept
-facesKept q ps es functions nodes row (n ∷ ns) kept =
-    andThen (faceKept q ps es functions nodes row n kept) (λ next. facesKept q ps es functions nodes row ns next)
+facesKept q ps es functions nodes row (n ∷ faces) kept =
+    andThen (faceKept q ps es functions nodes row n kept) (λ next. facesKept q ps es functions nodes row faces next)
 
 -- Before any demand
 abbrev pub noneKept : List ℕ

@@ -1,4 +1,4 @@
--- What the code asks of the tables and of a row, said of the numbers alone. The tables of a problem and the masks of one of its rows have
+-- What the code asks of the tables and of a row, said of the tables' entries alone. The tables of a problem and the masks of one of its rows have
 -- all of it (proofs/Readiness).
 --   ns           the table of the numbers by which what is asked of the expressions' nodes is told, one for each node
 --   Tables       the two tables, a number for each node of the expressions, and room for the faces of an argument

@@ -16,31 +16,31 @@ use Rattle.masks.proofs.Marks.{length-marks, marks-none}
 
 -- ---- the class of a node, by that of the next node that is equal to it
 
-getD-join : (l : List Bool) (k j : ℕ) → (j ≡ k → ⊥) → getD (join l k true) j false ≡ getD l j false
+getD-join : (l : List Bool) (k j : ℕ) → (j ≡ k → ⊥) → getD (join l k) j false ≡ getD l j false
 unfolding join
 getD-join l k j n = getD-set-other l k j true false n
 
-getD-join-here : (l : List Bool) (k : ℕ) → k < length l → getD (join l k true) k false ≡ true
+getD-join-here : (l : List Bool) (k : ℕ) → k < length l → getD (join l k) k false ≡ true
 unfolding join
 getD-join-here l k h = getD-set-same l k true false h
 
 module _ (w : ℕ) (eq : ℕ → ℕ → Bool) (i n k : ℕ) (own : eq i i ≡ true) (node : i < n) (room : n ≤ w) (next : Next eq i n k) where
   -- With a mask d that has just the nodes from k on which are equal to node i
   joined : (d r : ℕ) → r < 2 ^ w → ((j : ℕ) → j < w → getD (marks w d) j false ≡ leb k j && (ltb j n && eq i j))
-      → marks w r ≡ join (marks w d) i true → Grown w eq i n r
+      → marks w r ≡ join (marks w d) i → Grown w eq i n r
   joined d r small rest e = record { small = small; marked = λ j l. ap (λ (x : List Bool). getD x j false) e ∙ at j l }
     where
-      before : (j : ℕ) → j < w → j < i → getD (join (marks w d) i true) j false ≡ leb i j && (ltb j n && eq i j)
+      before : (j : ℕ) → j < w → j < i → getD (join (marks w d) i) j false ≡ leb i j && (ltb j n && eq i j)
       before j l h =
           getD-join (marks w d) i j (λ z. omega arith) ∙ rest j l
           ∙ ap (λ (t : Bool). t && (ltb j n && eq i j)) (lt-leb k j (omega (arith, next .after)) ∙ sym (lt-leb i j h))
 
-      here : getD (join (marks w d) i true) i false ≡ leb i i && (ltb i n && eq i i)
+      here : getD (join (marks w d) i) i false ≡ leb i i && (ltb i n && eq i i)
       here =
           getD-join-here (marks w d) i (omega (arith, length-marks w d))
           ∙ sym (ap₂ _&&_ (le-leb i i (omega arith)) (ap₂ _&&_ (lt-ltb i n node) own))
 
-      after : (j : ℕ) → j < w → i < j → getD (join (marks w d) i true) j false ≡ leb i j && (ltb j n && eq i j)
+      after : (j : ℕ) → j < w → i < j → getD (join (marks w d) i) j false ≡ leb i j && (ltb j n && eq i j)
       after j l h =
           getD-join (marks w d) i j (λ z. omega arith) ∙ rest j l
           ∙ ⊎-elim
@@ -51,18 +51,18 @@ module _ (w : ℕ) (eq : ℕ → ℕ → Bool) (i n k : ℕ) (own : eq i i ≡ t
           (λ (p : k ≤ j). ap (λ (t : Bool). t && (ltb j n && eq i j)) (le-leb k j p ∙ sym (le-leb i j (omega arith))))
           (lt-or-ge j k)
 
-      at : (j : ℕ) → j < w → getD (join (marks w d) i true) j false ≡ leb i j && (ltb j n && eq i j)
+      at : (j : ℕ) → j < w → getD (join (marks w d) i) j false ≡ leb i j && (ltb j n && eq i j)
       at j l =
           by-order j i (before j l)
-          (λ h. subst (λ (x : ℕ). getD (join (marks w d) i true) x false ≡ leb i x && (ltb x n && eq i x)) (sym h) here)
+          (λ h. subst (λ (x : ℕ). getD (join (marks w d) i) x false ≡ leb i x && (ltb x n && eq i x)) (sym h) here)
           (after j l)
 
-  pub grown-next : (d r : ℕ) → k < n → r < 2 ^ w → ((j : ℕ) → eq k j ≡ eq i j) → Grown w eq k n d → marks w r ≡ join (marks w d) i true
+  pub grown-next : (d r : ℕ) → k < n → r < 2 ^ w → ((j : ℕ) → eq k j ≡ eq i j) → Grown w eq k n d → marks w r ≡ join (marks w d) i
       → Grown w eq i n r
   grown-next d r h small same g e =
       joined d r small (λ j l. g .marked j l ∙ ap (λ (t : Bool). leb k j && (ltb j n && t)) (same j)) e
 
-  pub grown-last : (r : ℕ) → n ≤ k → r < 2 ^ w → marks w r ≡ join (marks w 0) i true → Grown w eq i n r
+  pub grown-last : (r : ℕ) → n ≤ k → r < 2 ^ w → marks w r ≡ join (marks w 0) i → Grown w eq i n r
   grown-last r h small e = joined 0 r small (λ j l. marks-none w j l ∙ sym (none j)) e
     where
       -- no node stands both before n and from k on

@@ -105,7 +105,7 @@ set-or (b ∷ l) (suc k) zero h = or-false b
 set-or (b ∷ l) (suc k) (suc j) h = set-or l k j (omega arith)
 
 -- Node k is added by `|`.
-pub marks-join : (w m k : ℕ) → marks w (bitOr m (value (only w k))) ≡ join (marks w m) k true
+pub marks-join : (w m k : ℕ) → marks w (bitOr m (value (only w k))) ≡ join (marks w m) k
 unfolding join
 marks-join w m k =
     let l : List Bool = marks w m in

@@ -34,7 +34,7 @@ pub record Next (eq : ℕ → ℕ → Bool) (i n r : ℕ) : Type 0 where
   pub equal : r < n → eq i r ≡ true
   pub none : (j : ℕ) → i < j → j < r → eq i j ≡ false
 
--- The mask d has, of the nodes below k, just those of the class of node i. With all nodes looked at it is that class.
+-- The mask d has, of the nodes below k, just those of the class of node i.
 pub record Grown (w : ℕ) (eq : ℕ → ℕ → Bool) (i k d : ℕ) : Type 0 where
   pub small : d < 2 ^ w
   pub marked : (j : ℕ) → j < w → getD (marks w d) j false ≡ leb i j && (ltb j k && eq i j)

@@ -58,10 +58,9 @@ first (false ∷ l) = suc (first l)
 abbrev pub empty : ℕ → List Bool
 empty w = replicate w false
 
--- The set with node k as well where the answer is true. A number past the last node adds nothing.
-unfoldable pub join : List Bool → ℕ → Bool → List Bool
-join l k true = set l k true
-join l k false = l
+-- The set with node k as well. A number past the last node adds nothing.
+unfoldable pub join : List Bool → ℕ → List Bool
+join l k = set l k true
 
 -- The set of node k alone: empty where k is past the last node.
 abbrev pub only : ℕ → ℕ → List Bool

@@ -45,11 +45,11 @@ pub fn has(m: u64, k: usize) -> bool
     }
 }
 
-// A class with node k as well, where k is equal to the node of the class.
-pub fn join_equal(class: u64, k: usize, equal: bool) -> u64
-    ensures { λ r. ⌜ marks width r ≡ join (marks width class) k equal ⌝ }
+// A class with node k as well.
+pub fn join(class: u64, k: usize) -> u64
+    ensures { λ r. ⌜ marks width r ≡ join (marks width class) k ⌝ }
 {
-    if equal { class | node(k) } else { class }
+    class | node(k)
 }
 
 // The first class that is not empty, from node `from` on, or 0. From node 0 on it is the first choice.

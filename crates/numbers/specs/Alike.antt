@@ -7,7 +7,8 @@
 --   binderAt      the innermost binder outside the subterm at a node that it uses, counted so, or 0
 --   sumOfKeys     the sum of the keys' weights. A bound variable weighs the same wherever it is seen from, so that a subterm's sum is the
 --                 difference of two sums from the table's beginning on (`sumTo`); it weighs so much that a lesser sum has none
---   hashAt        a number made of that sum and of that binder: equal nodes have the same, and others seldom
+--   hashAt        a number made of that sum and of that binder: equal nodes have the same, and others seldom, but for
+--                 those that have the same nodes in another order
 --   labelAt       binder and hash in one word
 --   alike         two nodes with one label and the same keys; a hash alone says nothing
 use Prim.Native.Nat.{ℕ, zero, suc, _+_, _*_, _-_, _/_, _%_, max}

@@ -1,6 +1,6 @@
-// The numbers of all nodes of a table, in one pass. Each node is looked for among the earlier ones of its bucket only, so that the time
-// grows with the nodes (times the depth of terms, where a subterm has to be gone through) and not with their pairs. Two nodes get one
-// number when they were compared and are equal: a hash only says where to look.
+// The numbers of all nodes of a table, in two passes: the weights added up, and then the nodes one after the other. Each is looked for among
+// the earlier ones of its bucket only, so that, unless hashes are made to meet, few pairs are looked at. Two nodes get one number when they
+// were compared and are equal: a hash only says where to look.
 use tokens::same::key_of;
 use tokens::same::reaches;
 use tokens::same::same;
@@ -204,11 +204,11 @@ fn number_next(
     let label = node.binder + 65536 * node.hash;
     let bucket = (node.hash / IN_BUCKET) as usize;
     let head = heads[bucket];
-    let first = find(t, k, links, head, label);
+    let earlier = find(t, k, links, head, label);
     links[k] = head + 65536 * label;
     heads[bucket] = k as u64 + 1;
-    if first < k {
-        ns[k] = ns[first];
+    if earlier < k {
+        ns[k] = ns[earlier];
     } else {
         ns[k] = k as u64 + 65536 * node.level;
     }

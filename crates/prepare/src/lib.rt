@@ -1,5 +1,5 @@
 // What happens once a call, whatever is asked: the problem is read and checked, the nodes of its expressions are numbered, and where it has
-// rows the nodes of its functions' faces and the class tables of these are looked up. Searching and writing begin with it.
+// rows the nodes of its functions' faces and the class tables of these are looked up. The start, searching and writing begin with it.
 use accept::Standing;
 use accept::Verdict;
 use accept::accept;

@@ -1,4 +1,4 @@
--- Laws of demands on the token tables, and what they mean.
+-- Laws of demands by the tests of the expressions' nodes, and what they mean.
 pub mod KeptLaws
 pub mod KeptMeaning
 pub mod RecordedDemands

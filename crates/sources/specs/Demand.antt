@@ -26,7 +26,7 @@ unfoldable pub demandAt : List ℕ → ℕ → List Demand
 demandAt ps n = choose (eqb (tagIn (at ps (patternNode n))) 5) ((payloadIn (at ps (patternNode n)), expressionNode n) ∷ []) []
 
 abbrev pub demandsIn : List ℕ → List ℕ → List Demand
-demandsIn ps ns = each (demandAt ps) ns
+demandsIn ps faces = each (demandAt ps) faces
 
 -- "Values and bodies have no variable bound outside themselves": the first demand of a metavariable must be closed; a later one must be
 -- the same as the first

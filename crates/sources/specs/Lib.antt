@@ -1,3 +1,3 @@
--- Demands on the metavariables, one after the other, on the token tables.
+-- Demands on the metavariables, one after the other, by the tests of the expressions' nodes.
 pub mod Demand
 pub mod Kept

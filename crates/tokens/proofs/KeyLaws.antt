@@ -113,7 +113,7 @@ module _ (levels : ℕ) (ctx : Context) (table : List ℕ) (a : ℕ) (sc : List 
       let z = stands-size levels ctx table a sc t h s in
       record { starts = omega arith; ends = omega arith }
 
-  -- What `closed` answers
+  -- What `closedAt` says
   pub closed-means : (closedAt table a ≡ true) ↔ ClosedTerm (namelessTerm sc t)
   unfolding closedAt
   closed-means =
@@ -122,7 +122,7 @@ module _ (levels : ℕ) (ctx : Context) (table : List ℕ) (a : ℕ) (sc : List 
       ∙ sym (closed-all 0 (one (namelessTerm sc t))) in
       (λ q. test-closed 0 (one (namelessTerm sc t)) (true-T (sym e ∙ q)), λ q. e ∙ T-true (closed-test 0 (one (namelessTerm sc t)) q))
 
-  -- What `uses_between` answers
+  -- What `usesAt` says
   pub uses-means : (d : ℕ) → (usesAt table a d ≡ true) ↔ (lowerTerm (length sc - d) (namelessTerm sc t) ≡ none)
   uses-means d =
       let e : usesAt table a d ≡ not (isSome (lowerTerm (length sc - d) (namelessTerm sc t))) =

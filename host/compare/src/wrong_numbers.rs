@@ -24,7 +24,7 @@ pub enum WrongNumbers {
     ComparesNames,
     /// Takes a hash for equality: which nodes there are, in any order.
     Hashes,
-    /// Takes the hash of the top and of its children for equality.
+    /// Looks at the top and at what stands directly in it, and no further.
     LooksAtTheTop,
     /// Compares symbols of four bytes by their low half.
     LowHalves,

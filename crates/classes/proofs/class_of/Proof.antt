@@ -21,14 +21,14 @@ next-equal-requires c κs =
     let node = free-is (told (s .args .ns .now)) (s .args .es .now) (s .args .root) (s .args .i) (s .pre .1 .0) .0 in
     (omega (arith, c .size .ensures), omega (arith, c .size .ensures, s .pre .0 .0 .ends, s .pre .0 .1))
 
-mul-join-equal : tie.Need-mul-join-equal
-mul-join-equal c = search needs
+mul-join : tie.Need-mul-join
+mul-join c = search needs
 
-shared-slice-read-join-equal : tie.Need-shared-slice-read-join-equal
-shared-slice-read-join-equal c = search needs
+shared-slice-read-join : tie.Need-shared-slice-read-join
+shared-slice-read-join c = search needs
 
-join-equal-requires : tie.Need-join-equal-requires
-join-equal-requires c κs = search needs
+join-requires : tie.Need-join-requires
+join-requires c κs = search needs
 
 returns : tie.Need-returns
 returns c =
@@ -36,11 +36,11 @@ returns c =
     let size = next .before in
     let s = c .before .before .before .before .before .before .before .before .before in
     class-next (s .args .ns .now) (s .args .es .now) (s .args .root) (s .args .i) (size .size .result) (next .next-equal .result)
-    (size .size .ensures) (s .pre .0 .0 .fits) (s .pre .1 .0) (next .next-equal .ensures) (s .args .later .now) (s .pre .1 .1) (omega arith) (c .join-equal .result) (omega (arith, c .join-equal .ok))
-    (c .join-equal .ensures)
+    (size .size .ensures) (s .pre .0 .0 .fits) (s .pre .1 .0) (next .next-equal .ensures) (s .args .later .now) (s .pre .1 .1) (omega arith) (c .join .result) (omega (arith, c .join .ok))
+    (c .join .ensures)
 
-join-equal-requires-2 : tie.Need-join-equal-requires-2
-join-equal-requires-2 c κs = search needs
+join-requires-2 : tie.Need-join-requires-2
+join-requires-2 c κs = search needs
 
 returns-2 : tie.Need-returns-2
 returns-2 c =
@@ -48,8 +48,8 @@ returns-2 c =
     let size = next .before in
     let s = c .before .before .before .before .before .before .before .before in
     class-last (s .args .ns .now) (s .args .es .now) (s .args .root) (s .args .i) (size .size .result) (next .next-equal .result)
-    (size .size .ensures) (s .pre .0 .0 .fits) (s .pre .1 .0) (next .next-equal .ensures) (s .args .later .now) (s .pre .1 .1) (omega arith) (c .join-equal2 .result) (omega (arith, c .join-equal2 .ok))
-    (c .join-equal2 .ensures)
+    (size .size .ensures) (s .pre .0 .0 .fits) (s .pre .1 .0) (next .next-equal .ensures) (s .args .later .now) (s .pre .1 .1) (omega arith) (c .join2 .result) (omega (arith, c .join2 .ok))
+    (c .join2 .ensures)
 
 pub class-of-spec : {M : Type 1} → statement M
 class-of-spec =
@@ -59,9 +59,9 @@ class-of-spec =
     shared-slice-read-size
     size-requires
     next-equal-requires
-    mul-join-equal
-    shared-slice-read-join-equal
-    join-equal-requires
+    mul-join
+    shared-slice-read-join
+    join-requires
     returns
-    join-equal-requires-2
+    join-requires-2
     returns-2)
