@@ -6,12 +6,11 @@ use Prim.Native.Nat.{ℕ, zero, suc, _+_, _-_, _*_, _/_, _%_, _^_, _≤_, _<_, m
 use native.Mathlib.Nat.{one-mul, mod-eq-of-lt}
 use native.Mathlib.Omega.{arith}
 use lib.ListN.{length, getD, set, length-set, length-replicate, getD-replicate}
-use lib.Seq.{ext-getD, set-out}
+use lib.Seq.{ext-getD, set-out, set-getD}
 use lib.Pow.{pow-lt}
 use lib.Bits.{bitAnd, bitOr, and-step, or-step, and-shr, or-shr, and-le-l}
-use Rattle.masks.specs.Mask.{odd, marks, value, bit, first, In, empty, join, only}
-use Rattle.masks.specs.Table.{Sub}
-use Rattle.masks.proofs.Marks.{length-marks, odd-no, odd-yes, marks-at, marks-value, marks-injective}
+use Rattle.masks.specs.Mask.{odd, marks, value, bit, first, In, empty, join, leave, only, Sub}
+use Rattle.masks.proofs.Marks.{length-marks, odd-no, odd-yes, marks-at, marks-value, marks-injective, value-marks}
 
 -- ---- the lowest node
 
@@ -117,6 +116,44 @@ marks-join w m k =
     marks-or-at w m (value (only w k)) j (omega arith)
     ∙ ap (λ (x : List Bool). getD l j false || getD x j false) (marks-only w k ∙ ap (λ (x : ℕ). only x k) (sym n))
     ∙ set-or l k j (omega arith))
+
+-- A node of a mask is its bit: it is left out by `-`.
+value-leave : (l : List Bool) (k : ℕ) → In l k → value l ≡ value (leave l k) + bit (length l) k
+unfolding value leave
+value-leave [] k h = absurd (false≢true h)
+value-leave (true ∷ l) zero h =
+    let e : length l ≡ suc (length l) - 1 = omega arith in
+    rw (← e) (omega arith)
+value-leave (false ∷ l) zero h = absurd (false≢true h)
+value-leave (true ∷ l) (suc k) h =
+    let e : length l - suc k ≡ suc (length l) - suc (suc k) = omega arith in
+    let n : 2 ^ length (set l k false) ≡ 2 ^ length l = ap (λ (x : ℕ). 2 ^ x) (length-set l k false) in
+    rw (← e) (omega (arith, n, value-leave l k h))
+value-leave (false ∷ l) (suc k) h =
+    let e : length l - suc k ≡ suc (length l) - suc (suc k) = omega arith in
+    rw (← e) (value-leave l k h)
+
+module _ (w m k : ℕ) (h : m < 2 ^ w) (i : In (marks w m) k) where
+  bit-left : m ≡ value (leave (marks w m) k) + bit w k
+  bit-left =
+      sym (value-marks w m h) ∙ value-leave (marks w m) k i
+      ∙ ap (λ (n : ℕ). value (leave (marks w m) k) + bit n k) (length-marks w m)
+
+  pub bit-le : value (only w k) ≤ m
+  bit-le = omega (arith, bit-left, value-only w k (in-width w m k i))
+
+  pub marks-leave : marks w (m - value (only w k)) ≡ leave (marks w m) k
+  unfolding leave
+  marks-leave =
+      let l : List Bool = set (marks w m) k false in
+      let e : m - value (only w k) ≡ value l = omega (arith, bit-left, value-only w k (in-width w m k i)) in
+      let n : w ≡ length l = sym (length-set (marks w m) k false ∙ length-marks w m) in
+      ap (marks w) e ∙ ap (λ (x : ℕ). marks x (value l)) n ∙ marks-value l
+
+-- A node that is not there is left out by doing nothing.
+pub leave-none : (l : List Bool) (k : ℕ) → getD l k false ≡ false → l ≡ leave l k
+unfolding leave
+leave-none l k e = sym (ap (set l k) (sym e) ∙ set-getD l k false)
 
 -- ---- a submask node by node
 

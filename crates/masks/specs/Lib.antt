@@ -1,5 +1,3 @@
--- What a node set, a choice and the order of choices are.
+-- What a node set is.
 pub mod Mask
-pub mod Order
-pub mod Table
-pub mod Face
+pub mod Sets

@@ -1,18 +1,16 @@
 -- Sets of the nodes of a face, as lists of marks and as numbers.
 --
---   node    a place in a face; nodes are numbered from 0 in preorder
---   marks   a set of nodes as a list of truth values, one for each node, node 0 first
---   mask    the same set as a number of w binary digits: node 0 is the highest digit, so node k stands at bit w - 1 - k
---   width   the number of nodes that a mask of the code has room for; nothing else here knows that number
+--   node      a place in a face; nodes are numbered from 0 in preorder
+--   marks     a set of nodes as a list of truth values, one for each node, node 0 first
+--   mask      the same set as a number of w binary digits: node 0 is the highest digit, so node k stands at bit w - 1 - k
+--   submask   a mask all of whose nodes another mask has too
 use mathlib.Core.Path.{_≡_}
 use mathlib.Core.Bool.{Bool, true, false}
 use mathlib.Core.List.{List, [], _∷_}
 use Prim.Native.Nat.{ℕ, zero, suc, _+_, _-_, _/_, _%_, _^_}
 use lib.Dec.{eqb}
+use lib.Bits.{bitAnd}
 use lib.ListN.{length, getD, set, replicate}
-
-abbrev pub width : ℕ
-width = 64
 
 -- ---- from a mask to its marks, and back
 
@@ -33,6 +31,10 @@ value (false ∷ l) = value l
 -- The mask of node k alone, where k is below w.
 abbrev pub bit : ℕ → ℕ → ℕ
 bit w k = 2 ^ (w - suc k)
+
+-- s is a submask of c.
+unfoldable pub Sub : ℕ → ℕ → Type 0
+Sub s c = bitAnd s c ≡ s
 
 -- ---- what is asked of marks
 
@@ -58,9 +60,12 @@ first (false ∷ l) = suc (first l)
 abbrev pub empty : ℕ → List Bool
 empty w = replicate w false
 
--- The set with node k as well. A number past the last node adds nothing.
+-- The set with node k as well, and without it. A number past the last node changes nothing.
 unfoldable pub join : List Bool → ℕ → List Bool
 join l k = set l k true
+
+unfoldable pub leave : List Bool → ℕ → List Bool
+leave l k = set l k false
 
 -- The set of node k alone: empty where k is past the last node.
 abbrev pub only : ℕ → ℕ → List Bool

@@ -1,0 +1,37 @@
+-- Node sets as the code holds them: "node set as a 64-bit mask", of which T-10 makes four: node 0 at the highest bit of the first.
+--
+--   wordNodes   how many nodes a word has; nothing but this, the number of words and what they come to knows a number
+--   width       how many nodes a set has room for
+--   words       the words of a set, the first first
+--   mask        the set as one number of as many binary digits as there is room for nodes
+--   nodes       its marks
+--   masksIn     the masks of several sets: a row has one set for each function
+use mathlib.Core.Bool.{Bool}
+use mathlib.Core.List.{List, [], _∷_, _++_, map}
+use Prim.Native.Nat.{ℕ}
+use Rattle.masks.specs.Mask.{marks, value}
+use Rattle.masks.specs.declared.NodeSet.{NodeSet}
+
+abbrev pub wordNodes : ℕ
+wordNodes = 64
+
+-- No abbreviation: a number of that many digits is too long to compute with
+unfoldable pub width : ℕ
+width = 256
+
+abbrev pub words : NodeSet → List ℕ
+words s = s .w0 ∷ s .w1 ∷ s .w2 ∷ s .w3 ∷ []
+
+-- The marks of words, one after the other
+unfoldable pub marksIn : List ℕ → List Bool
+marksIn [] = []
+marksIn (w ∷ ws) = marks wordNodes w ++ marksIn ws
+
+unfoldable pub mask : NodeSet → ℕ
+mask s = value (marksIn (words s))
+
+abbrev pub nodes : NodeSet → List Bool
+nodes s = marks width (mask s)
+
+abbrev pub masksIn : List NodeSet → List ℕ
+masksIn row = map mask row

@@ -1,2 +1,0 @@
--- Rows as masks.
-pub mod Rows
