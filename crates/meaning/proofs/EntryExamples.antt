@@ -105,14 +105,17 @@ bare-other : SolutionRow q bareRow → ⊥
 unfolding texts
 bare-other = no-solution two q refl two-accepted bareRow (bare-in q rows-two) refl
 
--- Their values: "node set as a 64-bit mask", node 0 the highest bit
+-- Their values: "node set as a 64-bit mask", with T-10 one of 256 bits, node 0 the highest
+abbrev highest : ℕ
+highest = 0x8000000000000000000000000000000000000000000000000000000000000000
+
 abbrev valueWith : ℕ → PlaceValue
 valueWith mask = record { masks = mask ∷ 0 ∷ 0 ∷ 0 ∷ 0 ∷ 0 ∷ 0 ∷ 0 ∷ []; isPast = false }
 
 abbrev pastValue : PlaceValue
 pastValue = record { masks = 0 ∷ 0 ∷ 0 ∷ 0 ∷ 0 ∷ 0 ∷ 0 ∷ 0 ∷ []; isPast = true }
 
-hole-value : placeValue (at holeRow) ≡ valueWith 0x8000000000000000
+hole-value : placeValue (at holeRow) ≡ valueWith highest
 unfolding placeValue masksOf maskOf maxFunctions maxFaceNodes
 hole-value = refl
 
@@ -127,7 +130,7 @@ past-value = refl
 named-in : (p : Problem) (r : Row) (v : PlaceValue) → r ∈ rows p → placeValue (at r) ≡ v → Names p v (at r)
 named-in p r v m e = record { isPlace = rows-are p r .0 m; isValue = sym e }
 
-hole-named : Names p (valueWith 0x8000000000000000) (at holeRow)
+hole-named : Names p (valueWith highest) (at holeRow)
 hole-named = named-in p holeRow _ (hole-in p rows-one) hole-value
 
 bare-named : (p : Problem) → rows p ≡ bothRows → Names p (valueWith 0) (at bareRow)
@@ -146,7 +149,7 @@ nowhere (at r) n =
     other s mask e f = first-mask (n .isValue ∙ ap (λ (x : Row). placeValue (at x)) e ∙ f)
 
     go : (r ≡ holeRow) ⊎ (r ∈ bareRow ∷ []) → ⊥
-    go (inl e) = let z = other holeRow 0x8000000000000000 e hole-value in omega arith
+    go (inl e) = true≢false (ap (λ (n : ℕ). ltb n 2) (other holeRow highest e hole-value))
     go (inr m) =
         ⊎-elim
         (λ (e : r ≡ bareRow). let z : _≡_ {A = ℕ} 1 0 = other bareRow 0 e bare-value in omega arith)
@@ -154,7 +157,7 @@ nowhere (at r) n =
         (List·Memᴰ·cases-cons m)
 
 -- Searching: "Found: the first solution row at or after the place, and the place after it"
-pub first-found : SearchCall one (valueWith 0x8000000000000000) 1 (found (valueWith 0x8000000000000000) (valueWith 0))
+pub first-found : SearchCall one (valueWith highest) 1 (found (valueWith highest) (valueWith 0))
 unfolding texts placeValue masksOf maskOf maxFunctions maxFaceNodes
 first-found =
     onAccepted p one-accepted

@@ -41,7 +41,7 @@ unfolding checkProblem
 both-ways-accepted p w few e =
     record {
       within = w;
-      checked = choose-false _ _ (le-ltb maxFunctions (length (functions p)) few) ∙ choose-false _ _ (not-large p (no-faces p e));
+      checked = choose-false _ _ (le-ltb maxFunctions (length (functions p)) few) ∙ choose-false _ _ (not-large _ p (no-faces p e));
     }
 
 pub record FitsNothing (s : Bytes) (p : Problem) : Type 0 where

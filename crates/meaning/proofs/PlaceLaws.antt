@@ -21,6 +21,7 @@ use Rattle.meaning.specs.Face.{Face, faces}
 use Rattle.meaning.specs.Choice.{Marks, Choice}
 use Rattle.meaning.specs.Row.{Row, faceOf, IsRow, ChoiceEach}
 use Rattle.meaning.specs.Rows.{rows}
+use Rattle.meaning.specs.Read.{got}
 use Rattle.meaning.specs.Accept.{overlarge, checkProblem}
 use Rattle.meaning.specs.Readable.{Accepted}
 use Rattle.meaning.specs.Search.{Place, at, past, From}
@@ -30,29 +31,37 @@ use Rattle.meaning.proofs.ByteLaws.{unless-got}
 use Rattle.meaning.proofs.Proper.{one-place, functions-applied}
 use Rattle.meaning.proofs.ChoiceLaws.{rows-are}
 
--- What an accepted problem is like
-pub few-functions : (p : Problem) → Accepted p → length (functions p) ≤ maxFunctions
-unfolding checkProblem
-few-functions p a =
-    ltb-false maxFunctions (length (functions p)) (unless-got (ltb maxFunctions (length (functions p))) 13 _ (a .checked) .0)
-
 -- 14 is looked for only where there are faces
-pub not-large : (p : Problem) → faces p ≡ none → overlarge p ≡ false
+pub not-large : (limit : ℕ) (p : Problem) → faces p ≡ none → overlarge limit p ≡ false
 unfolding overlarge
-not-large p e =
-    ap (λ (o : Option (List Face)). isSome o && not (every (λ f. not (ltb maxFaceNodes (size (one (faceOf p f))))) (functions p))) e
+not-large limit p e =
+    ap (λ (o : Option (List Face)). isSome o && not (every (λ f. not (ltb limit (size (one (faceOf p f))))) (functions p))) e
+
+-- What a problem is like that passes the checks, whatever the limit of a face's nodes
+pub checked-few : (limit : ℕ) (p : Problem) → checkProblem limit p ≡ got p → length (functions p) ≤ maxFunctions
+unfolding checkProblem
+checked-few limit p e =
+    ltb-false maxFunctions (length (functions p)) (unless-got (ltb maxFunctions (length (functions p))) 13 _ e .0)
+
+pub checked-small : (limit : ℕ) (p : Problem) → checkProblem limit p ≡ got p → isSome (faces p) ≡ true
+    → (f : ℕ) → f ∈ functions p → size (one (faceOf p f)) ≤ limit
+unfolding checkProblem overlarge
+checked-small limit p c agree f m =
+    let few = unless-got (ltb maxFunctions (length (functions p))) 13 _ c .1 in
+    let fits : ℕ → Bool = λ g. not (ltb limit (size (one (faceOf p g)))) in
+    let e : not (every fits (functions p)) ≡ false =
+    ap (λ (b : Bool). b && not (every fits (functions p))) (sym agree) ∙ unless-got (overlarge limit p) 14 _ few .0 in
+    let all = all-mem (λ g. fits g ≡ true) f (functions p)
+    (every-all fits (functions p) (true-T (not-false (every fits (functions p)) e))) m in
+    ltb-false limit (size (one (faceOf p f))) (not-true (ltb limit (size (one (faceOf p f)))) all)
+
+-- ... and an accepted one
+pub few-functions : (p : Problem) → Accepted p → length (functions p) ≤ maxFunctions
+few-functions p a = checked-few maxFaceNodes p (a .checked)
 
 pub small-faces : (p : Problem) → Accepted p → isSome (faces p) ≡ true
     → (f : ℕ) → f ∈ functions p → size (one (faceOf p f)) ≤ maxFaceNodes
-unfolding checkProblem overlarge
-small-faces p a agree f m =
-    let few = unless-got (ltb maxFunctions (length (functions p))) 13 _ (a .checked) .1 in
-    let fits : ℕ → Bool = λ g. not (ltb maxFaceNodes (size (one (faceOf p g)))) in
-    let e : not (every fits (functions p)) ≡ false =
-    ap (λ (b : Bool). b && not (every fits (functions p))) (sym agree) ∙ unless-got (overlarge p) 14 _ few .0 in
-    let all = all-mem (λ g. fits g ≡ true) f (functions p)
-    (every-all fits (functions p) (true-T (not-false (every fits (functions p)) e))) m in
-    ltb-false maxFaceNodes (size (one (faceOf p f))) (not-true (ltb maxFaceNodes (size (one (faceOf p f)))) all)
+small-faces p a = checked-small maxFaceNodes p (a .checked)
 
 -- Masks of one place: a mark is there or not
 abbrev OnePlace : Marks → Type 0

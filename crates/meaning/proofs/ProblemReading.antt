@@ -148,11 +148,11 @@ constraints-bytes (c ∷ p) r h =
     (constraints-bytes p (r .1) (omega arith))
 
 -- The checks give back the problem that they are made on
-checked-same : (q p : Problem) → checkProblem q ≡ got p → q ≡ p
+checked-same : (limit : ℕ) (q p : Problem) → checkProblem limit q ≡ got p → q ≡ p
 unfolding checkProblem
-checked-same q p e =
+checked-same limit q p e =
     let few = unless-got (ltb maxFunctions (length (functions q))) 13 _ e .1 in
-    got-is (unless-got (overlarge q) 14 _ few .1)
+    got-is (unless-got (overlarge limit q) 14 _ few .1)
 
 -- The main theorems. A problem that is read encodes to exactly the bytes read, and is within the limits
 pub encode-read : (s : Bytes) (p : Problem) → All (λ b. b < 256) s → readProblem s ≡ got p → encodeProblem p ≡ s
@@ -183,7 +183,7 @@ pub accept-accepted : (s : Bytes) (p : Problem) → All (λ b. b < 256) s → ac
 unfolding accept
 accept-accepted s p b e =
     by-got (readProblem s) _ e (λ q read e.
-    let same = checked-same q p e in
+    let same = checked-same _ q p e in
     let was : readProblem s ≡ got p = read ∙ ap got same in
     (record { within = read-within s p b was; checked = rw same at e }, encode-read s p b was))
 

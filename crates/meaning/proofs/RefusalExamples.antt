@@ -53,9 +53,12 @@ abbrev functionFields : ℕ → Bytes
 functionFields zero = []
 functionFields (suc n) = functionField n symbolField ++ functionFields n
 
--- (P(s), 65 nodes)
+-- (P(s), n + 1 nodes); T-10: "refusal 14 now begins at 257"
+abbrev faceOver : ℕ → Bytes
+faceOver n = constraintField (functionField 0 symbolField) (wide n)
+
 abbrev largeFace : Bytes
-largeFace = constraintField (functionField 0 symbolField) (wide 64)
+largeFace = faceOver 256
 
 abbrev sixteen : Bytes
 sixteen = times 16 (constraintField symbolField symbolField)
@@ -127,7 +130,7 @@ refusals =
     -- nine functions, also where one of them is used both ways
     ∷ by 13 (withPattern (field 3 (functionFields 9)))
     ∷ by 13 (withPattern (field 3 (functionFields 9 ++ metavariableField 0)))
-    -- a face of 65 nodes, also where (X, a), (X, b) leave no solution
+    -- a face of 257 nodes, also where (X, a), (X, b) leave no solution
     ∷ by 14 largeFace
     ∷ by 14 (largeFace ++ (constraintField (metavariableField 1) symbolField ++ constraintField (metavariableField 1) otherSymbol))
     ∷ []
@@ -135,14 +138,16 @@ refusals =
 abbrev pub IsRefused : Refusal → Type 0
 IsRefused r = accept (r .input) ≡ refused (r .number)
 
--- At the limits: metavariable 31, depth 32, 16 constraints, 8 functions, a face of 64 nodes
+-- At the limits: metavariable 31, depth 32, 16 constraints, 8 functions, a face of 256 nodes; and one of 65, the first that was too
+-- large before T-10
 abbrev pub atLimits : List Bytes
 atLimits =
     withPattern (metavariableField 31)
     ∷ constraintField symbolField (deep 31 symbolField)
     ∷ sixteen
     ∷ constraintField (field 3 (functionFields 8)) symbolField
-    ∷ constraintField (functionField 0 symbolField) (wide 63)
+    ∷ faceOver 255
+    ∷ faceOver 64
     ∷ []
 
 abbrev pub IsAccepted : Bytes → Type 0
@@ -353,7 +358,7 @@ body-refusals-hold = (refl, (refl, (refl, tt)))
 -- The limits themselves are kept
 pub limits-accepted : All IsAccepted atLimits
 unfolding accepts
-limits-accepted = ((_, refl), ((_, refl), ((_, refl), ((_, refl), ((_, refl), tt)))))
+limits-accepted = ((_, refl), ((_, refl), ((_, refl), ((_, refl), ((_, refl), ((_, refl), tt))))))
 
 -- A body that is a hole, metavariable 31 after 30, and a symbol at depth 32
 abbrev textAtLimits : Bytes
@@ -363,7 +368,7 @@ pub limits-read : IsReadText textAtLimits
 unfolding reads
 limits-read = (_, refl)
 
--- "14 a face over 64 nodes", only "if shapes agree": (P(s), 65 nodes), (a, b) is accepted and has no rows
+-- 14 only "if shapes agree": (P(s), 257 nodes), (a, b) is accepted and has no rows
 abbrev pub IsRowless : Bytes → Type 0
 IsRowless s = (p : Problem) × (accept s ≡ got p) × (rows p ≡ [])
 
@@ -371,7 +376,7 @@ pub large-disagreeing : IsRowless (largeFace ++ constraintField symbolField othe
 unfolding accepts texts
 large-disagreeing = (_, refl, refl)
 
--- T-09: "14 isn't looked for in it": (P(s), 65 nodes), (Q(Q), s) is accepted and has no rows, in either order of the two
+-- T-09: "14 isn't looked for in it": (P(s), 257 nodes), (Q(Q), s) is accepted and has no rows, in either order of the two
 abbrev bothWaysConstraint : Bytes
 bothWaysConstraint = withPattern (functionField 1 (metavariableField 1))
 

@@ -25,9 +25,9 @@ metavariableCount = 32
 unfoldable pub maxFunctions : ℕ
 maxFunctions = 8
 
--- "A face has at most 64 nodes" (refusal 14)
+-- Document 01: "A face has at most 64 nodes"; T-10: "A face may have 256; refusal 14 now begins at 257"
 unfoldable pub maxFaceNodes : ℕ
-maxFaceNodes = 64
+maxFaceNodes = 256
 
 -- "text over 8,192 bytes" (refusal 19)
 unfoldable pub largestText : ℕ

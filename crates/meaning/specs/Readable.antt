@@ -7,7 +7,7 @@
 use mathlib.Core.Path.{_≡_}
 use Prim.Native.Nat.{ℕ, zero, suc, _<_, _≤_}
 use lib.ListN.{length}
-use Rattle.meaning.specs.Limits.{maxConstraints, maxDepth, largestProblem, metavariableCount}
+use Rattle.meaning.specs.Limits.{maxConstraints, maxDepth, maxFaceNodes, largestProblem, metavariableCount}
 use Rattle.meaning.specs.Basics.{All}
 use Rattle.meaning.specs.Term.{Forest, Named, NamedTerm, application, binder, cons, function, hole, metavariable, nil, one, own, slot}
 use Rattle.meaning.specs.Term.{symbol, trees, variable}
@@ -69,7 +69,7 @@ pub record WithinLimits (p : Problem) : Type 0 where
 
 pub record Accepted (p : Problem) : Type 0 where
   pub within : WithinLimits p
-  pub checked : checkProblem p ≡ got p
+  pub checked : checkProblem maxFaceNodes p ≡ got p
 
 -- Which items have bytes
 abbrev pub ReadableEntry : Entry NamedTerm → Type 0
