@@ -11,6 +11,7 @@ use Rattle.meaning.specs.Problem.{Problem, expressions}
 use Rattle.meaning.specs.Face.{Face, faces, firstFace}
 use Rattle.meaning.specs.Row.{faceOf}
 use Rattle.meaning.specs.Read.{Answer, refused, got}
+use Rattle.meaning.specs.Limits.{maxFaceNodes}
 use Rattle.meaning.specs.Accept.{checkProblem}
 use Rattle.faces.specs.Recorded.{Recorded}
 use Rattle.faces.specs.declared.check.Checked.{Checked}
@@ -31,7 +32,7 @@ FirstsAt p xs (f ∷ fs) (j ∷ js) = FirstAt p xs f j × FirstsAt p xs fs js
 
 -- The faces of an accepted problem, recorded at the front of a list
 pub record Told (p : Problem) (new : List ℕ) (n : ℕ) : Type 0 where
-  pub passes : checkProblem p ≡ got p
+  pub passes : checkProblem maxFaceNodes p ≡ got p
   pub found : List Face
   pub agree : faces p ≡ some found
   pub count : length found ≡ n
@@ -44,6 +45,6 @@ answerOf p checked.NoRows = got p
 answerOf p (checked.Faces n) = got p
 
 abbrev pub Says : Problem → List ℕ → Checked → Type 0
-Says p new (checked.Refused k) = checkProblem p ≡ refused k
-Says p new checked.NoRows = (checkProblem p ≡ got p) × (faces p ≡ none)
+Says p new (checked.Refused k) = checkProblem maxFaceNodes p ≡ refused k
+Says p new checked.NoRows = (checkProblem maxFaceNodes p ≡ got p) × (faces p ≡ none)
 Says p new (checked.Faces n) = Told p new n

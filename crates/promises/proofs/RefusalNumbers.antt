@@ -12,7 +12,7 @@ use lib.Dec.{eqb, ltb}
 use native.Mathlib.Omega.{arith}
 use borrow.Author.Tests.{ltb-true}
 use Rattle.meaning.proofs.Lists.{T-true, and-T, choose-false, eqb-eq, eqb-other, or-cases, true-T}
-use Rattle.meaning.specs.Limits.{firstWide, maxConstraints, maxDepth, maxFunctions, largestProblem, largestText, metavariableCount}
+use Rattle.meaning.specs.Limits.{firstWide, maxConstraints, maxDepth, maxFaceNodes, maxFunctions, largestProblem, largestText, metavariableCount}
 use Rattle.meaning.specs.Basics.{Bytes, choose}
 use Rattle.meaning.specs.Problem.{Problem, functions}
 use Rattle.meaning.specs.Read.{Answer, after, got, refused, Context, inPattern, inArgument, inExpression, inBody, Kind, symbolKind}
@@ -160,16 +160,16 @@ problem : (s : Bytes) → Refuses (readProblem s)
 unfolding readProblem
 problem s = either (ltb largestProblem (length s)) _ _ (refusal 1 refl) (constraints maxConstraints s)
 
-checked : (p : Problem) → Refuses (checkProblem p)
+checked : (p : Problem) → Refuses (checkProblem maxFaceNodes p)
 unfolding checkProblem
 checked p =
     either (ltb maxFunctions (length (functions p))) _ _ (refusal 13 refl)
-    (either (overlarge p) _ _ (refusal 14 refl)
+    (either (overlarge maxFaceNodes p) _ _ (refusal 14 refl)
     (answer p))
 
 accepted : (s : Bytes) → Refuses (accept s)
 unfolding accept
-accepted s = then (readProblem s) checkProblem (problem s) checked
+accepted s = then (readProblem s) (checkProblem maxFaceNodes) (problem s) checked
 
 -- A text: whatever is wrong in its fields is 20
 or-twenty : {A : Type 0} (a : Answer A) → Refuses (orTwenty a)
