@@ -1,0 +1,3 @@
+-- Choices of a face as the paths through its nodes.
+pub mod Words
+pub mod Paths
