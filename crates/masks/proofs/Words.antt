@@ -98,7 +98,7 @@ set-node s r k w b h e d =
 
 -- ---- the counts
 
-trues-append : (l r : List Bool) → trues (l ++ r) ≡ trues l + trues r
+pub trues-append : (l r : List Bool) → trues (l ++ r) ≡ trues l + trues r
 unfolding trues
 trues-append [] r = omega arith
 trues-append (true ∷ l) r = omega (arith, trues-append l r)
