@@ -1,13 +1,16 @@
--- Laws of lists: what stands at a number, and products.
-use mathlib.Core.Path.{_≡_, refl, ap, sym, _∙_}
-use mathlib.Core.List.{List, [], _∷_, _++_, map, map-append, map-map}
+-- Laws of lists: what stands at a number, lists in which no element stands twice, and products.
+use mathlib.Core.Path.{_≡_, refl, ap, sym, _∙_, subst}
+use mathlib.Core.Logic.{⊎-elim}
+use mathlib.Core.List.{List, [], _∷_, _++_, map, map-append, map-map, List·Memᴰ·head, List·Memᴰ·tail}
+use mathlib.Core.List.{List·Memᴰ·append-cases, Memᴰ·append-right}
 use mathlib.Core.Option.{some}
 use Prim.Native.Nat.{ℕ, zero, suc, _<_}
 use native.Mathlib.Omega.{arith}
 use lib.ListN.{length, getElem?, replicate}
-use Rattle.meaning.specs.Basics.{each}
+use Rattle.meaning.specs.Basics.{each, _∈_, Distinct}
 use Rattle.meaning.specs.Rows.{product}
-use Rattle.meaning.proofs.Lists.{never}
+use Rattle.meaning.proofs.Lists.{map-mem, never}
+use Rattle.meaning.proofs.Ordered.{fronted, fronted-mem}
 use Rattle.paths.proofs.WordLaws.{each-same}
 
 pub at-low : {A : Type 0} (xs : List A) (k : ℕ) (x : A) → getElem? xs k ≡ some x → k < length xs
@@ -19,6 +22,44 @@ pub low-at : {A : Type 0} (xs : List A) (k : ℕ) → k < length xs → (x : A) 
 low-at [] k h = absurd (omega arith)
 low-at (x ∷ xs) zero h = (x, refl)
 low-at (x ∷ xs) (suc k) h = low-at xs k (omega arith)
+
+-- What follows an element of a list without repeats is the same however the list is split at it.
+pub split-once : {A : Type 0} (x : A) (xs ys us vs : List A) → Distinct (xs ++ (x ∷ ys)) → xs ++ (x ∷ ys) ≡ us ++ (x ∷ vs) → ys ≡ vs
+split-once x [] ys [] vs d e = cc
+split-once x [] ys (u ∷ us) vs d e = absurd (d .0 (let q : ys ≡ us ++ (x ∷ vs) = cc in rw q (Memᴰ·append-right us (List·Memᴰ·head refl))))
+split-once x (y ∷ xs) ys [] vs d e =
+    absurd (d .0 (let q : y ≡ x = cc in rw q (Memᴰ·append-right xs (List·Memᴰ·head refl))))
+split-once x (y ∷ xs) ys (u ∷ us) vs d e = split-once x xs ys us vs (d .1) (let q : xs ++ (x ∷ ys) ≡ us ++ (x ∷ vs) = cc in q)
+
+-- No element twice: in a list of images, in two lists joined, and with each element of one list before each list of another
+pub distinct-map : {A B : Type 0} (f : A → B) (xs : List A) → ((x y : A) → x ∈ xs → y ∈ xs → f x ≡ f y → x ≡ y) → Distinct xs → Distinct (map f xs)
+distinct-map f [] h d = tt
+distinct-map {A} f (x ∷ xs) h d = (
+  λ m.
+      let (y, i, e) = map-mem f (f x) xs m in
+      d .0 (subst (λ (z : A). z ∈ xs) (sym (h x y (List·Memᴰ·head refl) (List·Memᴰ·tail i) e)) i),
+  distinct-map f xs (λ y z i j. h y z (List·Memᴰ·tail i) (List·Memᴰ·tail j)) (d .1),
+)
+
+distinct-append : {A : Type 0} (xs ys : List A) → Distinct xs → Distinct ys → ((x : A) → x ∈ xs → x ∈ ys → ⊥) → Distinct (xs ++ ys)
+distinct-append [] ys d e h = e
+distinct-append (x ∷ xs) ys d e h = (
+  λ m. ⊎-elim (d .0) (h x (List·Memᴰ·head refl)) (List·Memᴰ·append-cases xs m),
+  distinct-append xs ys (d .1) e (λ y i. h y (List·Memᴰ·tail i)),
+)
+
+pub distinct-fronted : {A : Type 0} (xs : List A) (yss : List (List A)) → Distinct xs → Distinct yss → Distinct (fronted xs yss)
+distinct-fronted [] yss d e = tt
+distinct-fronted {A} (x ∷ xs) yss d e =
+    distinct-append (map (λ ys. x ∷ ys) yss) (fronted xs yss) (distinct-map (λ ys. x ∷ ys) yss (λ ys zs i j q. let r : ys ≡ zs = cc in r) e)
+    (distinct-fronted xs yss (d .1) e) apart
+  where
+    apart : (zs : List A) → zs ∈ map (λ ys. x ∷ ys) yss → zs ∈ fronted xs yss → ⊥
+    apart zs i j =
+        let (us, k, q) = map-mem (λ ys. x ∷ ys) zs yss i in
+        let (y, vs, l, n, r) = fronted-mem zs xs yss j in
+        let same : y ≡ x = cc in
+        d .0 (subst (λ (z : A). z ∈ xs) same l)
 
 each-map : {A B C : Type 0} (f : A → B) (g : B → List C) (xs : List A) → each g (map f xs) ≡ each (λ x. g (f x)) xs
 each-map f g [] = refl

@@ -7,10 +7,8 @@ use mathlib.Core.Option.{Option, none, some}
 use Prim.Native.Nat.{ℕ, zero, suc, _+_, _-_, _<_, _≤_}
 use native.Mathlib.Omega.{arith}
 use lib.ListN.{length, take, replicate, getElem?, length-map}
-use lib.Dec.{ltb}
-use borrow.Author.Tests.{lt-ltb, le-ltb}
 use Rattle.meaning.specs.Limits.{maxFunctions, maxFaceNodes}
-use Rattle.meaning.specs.Basics.{choose, countFrom, upTo, _∈_, isSome}
+use Rattle.meaning.specs.Basics.{countFrom, upTo, _∈_, isSome}
 use Rattle.meaning.specs.Problem.{Problem, placesOf, functions}
 use Rattle.meaning.specs.Face.{Face, faces}
 use Rattle.meaning.specs.Choice.{Marks}
@@ -20,7 +18,7 @@ use Rattle.meaning.specs.Rows.{product, rowsOver, rows}
 use Rattle.meaning.specs.Search.{at, placeOf, start}
 use Rattle.meaning.specs.PlaceValue.{maskOf, PlaceValue, masksOf, placeValue}
 use Rattle.meaning.specs.Readable.{Accepted}
-use Rattle.meaning.proofs.Lists.{never, choose-true, choose-false, mem-map, map-mem, map-same, at-mem}
+use Rattle.meaning.proofs.Lists.{never, mem-map, map-mem, map-same, at-mem}
 use Rattle.meaning.proofs.Proper.{one-place, functions-applied}
 use Rattle.meaning.proofs.Ordered.{OneOfEach, product-are}
 use Rattle.tokens.specs.Token.{expressionTokens}
@@ -30,6 +28,7 @@ use Rattle.faces.specs.Verdict.{FirstsAt}
 use Rattle.choosing.specs.Rows.{MaskRow, choicesFrom, choicesAt, maskRows, Leads, Steps}
 use Rattle.choosing.proofs.Lists.{at-low, product-map, product-padded}
 use Rattle.choosing.proofs.FaceNodes.{face-paths}
+use Rattle.choosing.proofs.RowSteps.{choices-there, choices-absent}
 use Rattle.choosing.proofs.ProblemFaces.{functions-counted, face-at}
 
 -- ---- the lists of choices, function by function
@@ -91,26 +90,21 @@ module _ (p : Problem) (a : Accepted p) (xs : List Face) (agree : faces p ≡ so
   long = functions-counted p a xs agree nodes count few room firsts
 
   function-choices : (k f : ℕ) → getElem? (functions p) k ≡ some f → choicesAt ns (expressionTokens p) nodes count k ≡ meant f
-  unfolding choicesAt choicesFrom
+  unfolding choicesFrom
   function-choices k f e =
       let single : 1 ≡ placesOf p f = sym (one-place p (a .within) f (functions-applied p f (at-mem (functions p) k f e))) in
       let h : k < count = subst (λ (n : ℕ). k < n) long (at-low (functions p) k f e) in
-      choose-true (choicesFrom ns (expressionTokens p) (table.at nodes k)) (0 ∷ []) (lt-ltb k count h)
+      choices-there ns (expressionTokens p) nodes count k h
       ∙ ap (map (maskOf maxFaceNodes))
       (face-paths (expressionTokens p) (table.at nodes k) (faceOf p f) (face-at p a xs agree nodes count few room firsts k f e) ns tells
       ∙ ap (λ (n : ℕ). choices n (faceOf p f)) single)
-
-  absent-choices : (k : ℕ) → length (functions p) ≤ k → choicesAt ns (expressionTokens p) nodes count k ≡ 0 ∷ []
-  unfolding choicesAt
-  absent-choices k h =
-      choose-false (choicesFrom ns (expressionTokens p) (table.at nodes k)) (0 ∷ []) (le-ltb k count (omega (arith, long)))
 
   all-choices : map (choicesAt ns (expressionTokens p) nodes count) (upTo maxFunctions)
       ≡ map meant (functions p) ++ replicate (maxFunctions - length (functions p)) (0 ∷ [])
   all-choices =
       counted (choicesAt ns (expressionTokens p) nodes count) meant (0 ∷ []) 0 maxFunctions (functions p) (omega (arith, long))
       (λ i f k e q. let z : i ≡ k = omega arith in function-choices k f (rw z at q))
-      (λ i k e q. absent-choices k (omega arith))
+      (λ i k e q. choices-absent ns (expressionTokens p) nodes count k (omega (arith, long)))
 
   -- THE MASK ROWS are the masks of the problem's rows, in their order
   pub rows-listed : maskRows ns (expressionTokens p) nodes count ≡ map masksOf (rows p)
