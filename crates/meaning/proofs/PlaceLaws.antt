@@ -64,7 +64,7 @@ pub small-faces : (p : Problem) → Accepted p → isSome (faces p) ≡ true
 small-faces p a = checked-small maxFaceNodes p (a .checked)
 
 -- Masks of one place: a mark is there or not
-abbrev OnePlace : Marks → Type 0
+abbrev pub OnePlace : Marks → Type 0
 OnePlace ms = (k i : ℕ) → getElem? ms k ≡ some (some i) → i ≡ 0
 
 pub mask-small : (w : ℕ) (ms : Marks) → maskOf w ms < 2 ^ w
@@ -74,7 +74,7 @@ mask-small zero (m ∷ ms) = omega arith
 mask-small (suc w) (none ∷ ms) = omega (arith, mask-small w ms, pow-suc 2 w, pow-pos w)
 mask-small (suc w) (some i ∷ ms) = omega (arith, mask-small w ms, pow-suc 2 w)
 
-mask-injective : (w : ℕ) (ms us : Marks) → length ms ≤ w → length ms ≡ length us → OnePlace ms → OnePlace us
+pub mask-injective : (w : ℕ) (ms us : Marks) → length ms ≤ w → length ms ≡ length us → OnePlace ms → OnePlace us
     → maskOf w ms ≡ maskOf w us → ms ≡ us
 unfolding maskOf
 mask-injective w [] [] h l o q e = refl

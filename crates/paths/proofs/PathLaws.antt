@@ -1,6 +1,7 @@
 -- The paths through a face are its choices, in order.
 --   accepted-choice   the walk accepts just the choices
 --   paths-choices     the two lists are equal
+--   paths-are         the paths are just the marks that the walk accepts
 --   paths-distinct    no path stands twice among the paths
 use mathlib.Core.Path.{_≡_, refl, ap, sym, _∙_, subst}
 use mathlib.Core.Logic.{_↔_}
@@ -11,13 +12,13 @@ use mathlib.Core.Option.{none, some, Option·some-injective}
 use native.Mathlib.Omega.{arith}
 use lib.ListN.{length, getElem?, replicate, length-replicate}
 use lib.Dec.{T}
-use Rattle.meaning.specs.Basics.{All, Distinct, Ordered, each, keep, isSome, _∈_}
+use Rattle.meaning.specs.Basics.{Distinct, Ordered, each, keep, isSome, _∈_}
 use Rattle.meaning.specs.Term.{Term, one, size}
 use Rattle.meaning.specs.Equal.{View}
 use Rattle.meaning.specs.Choice.{Mark, Marks, Owner, Choice, Earlier, usesFace, views}
 use Rattle.meaning.specs.Choices.{allMarks, choices, marksOf}
 use Rattle.meaning.proofs.Lists.{T-true, true-T, mem-keep, keep-mem, is-some}
-use Rattle.meaning.proofs.Ordered.{Placed, allMarks-are, allMarks-ordered, earlier-strict, keep-ordered, ordered-distinct}
+use Rattle.meaning.proofs.Ordered.{allMarks-are, allMarks-ordered, earlier-strict, keep-ordered, ordered-distinct}
 use Rattle.meaning.proofs.ChoiceLaws.{at-other, length-views}
 use Rattle.meaning.proofs.Determined.{choices-determined}
 use Rattle.paths.specs.Words.{accepts, allWords}
@@ -99,14 +100,26 @@ paths-kept : (s : State) (xs : List Node) → paths s xs ≡ keep (accepts next 
 paths-kept s xs =
     words-kept next (letters s) s xs ∙ ap (keep (accepts next s xs)) (allWords-marks (length (s .classes)) (length xs))
 
-kept-ordered : (n : ℕ) (s : State) (xs : List Node) → Ordered Earlier (keep (accepts next s xs) (allMarks n (length xs)))
-kept-ordered n s xs = keep-ordered Earlier (accepts next s xs) (allMarks n (length xs)) (allMarks-ordered n (length xs))
+paths-ordered : (s : State) (xs : List Node) → Ordered Earlier (paths s xs)
+paths-ordered s xs =
+    subst (Ordered Earlier) (sym (paths-kept s xs))
+    (keep-ordered Earlier (accepts next s xs) (allMarks (length (s .classes)) (length xs)) (allMarks-ordered (length (s .classes)) (length xs)))
 
 pub paths-distinct : (s : State) (xs : List Node) → Distinct (paths s xs)
-paths-distinct s xs =
-    subst Distinct (sym (paths-kept s xs))
-    (ordered-distinct Earlier earlier-strict (keep (accepts next s xs) (allMarks (length (s .classes)) (length xs)))
-    (kept-ordered (length (s .classes)) s xs))
+paths-distinct s xs = ordered-distinct Earlier earlier-strict (paths s xs) (paths-ordered s xs)
+
+-- A PATH is what the walk accepts
+pub paths-are : (s : State) (xs : List Node) (ms : Marks) → (ms ∈ paths s xs) ↔ T (accepts next s xs ms)
+paths-are s xs ms = (
+  λ h. true-T (keep-mem (accepts next s xs) ms all (subst (λ (mss : List Marks). ms ∈ mss) (paths-kept s xs) h) .1),
+  λ t.
+      let l = accepted-walked s xs ms .0 t .0 in
+      let m = allMarks-are (length (s .classes)) (length xs) ms .1 (l, accepted-placed s xs ms t) in
+      subst (λ (mss : List Marks). ms ∈ mss) (sym (paths-kept s xs)) (mem-keep (accepts next s xs) ms all m (T-true t)),
+)
+  where
+    all : List Marks
+    all = allMarks (length (s .classes)) (length xs)
 
 module _ (n : ℕ) (face : Term) (xs : List Node) (tells : Tells (views face) xs) where
   nodes-long : length xs ≡ size (one face)
@@ -120,19 +133,11 @@ module _ (n : ℕ) (face : Term) (xs : List Node) (tells : Tells (views face) xs
         λ c. q .1 (c .long ∙ sym nodes-long, choice-walked n face xs tells ms c),
       )
 
-  kept-choices : (ms : Marks) → (ms ∈ keep (accepts next (unset n) xs) (allMarks n (length xs))) ↔ Choice n face ms
-  kept-choices ms =
-      let q = accepted-choice ms in (
-        λ h. q .0 (true-T (keep-mem (accepts next (unset n) xs) ms (allMarks n (length xs)) h .1)),
-        λ c.
-            let a = subst (λ (k : ℕ). All (Placed k) ms) (length-replicate n none) (accepted-placed (unset n) xs ms (q .1 c)) in
-            let m = allMarks-are n (length xs) ms .1 (c .long ∙ sym nodes-long, a) in
-            mem-keep (accepts next (unset n) xs) ms (allMarks n (length xs)) m (T-true (q .1 c)),
-      )
-
   -- THE PATHS ARE THE CHOICES
   pub paths-choices : paths (unset n) xs ≡ choices n face
   paths-choices =
-      paths-kept (unset n) xs
-      ∙ ap (λ (k : ℕ). keep (accepts next (unset n) xs) (allMarks k (length xs))) (length-replicate n none)
-      ∙ choices-determined n face (keep (accepts next (unset n) xs) (allMarks n (length xs))) (kept-ordered n (unset n) xs) kept-choices
+      choices-determined n face (paths (unset n) xs) (paths-ordered (unset n) xs)
+      (λ ms.
+      let q = paths-are (unset n) xs ms in
+      let c = accepted-choice ms in
+      (λ h. c .0 (q .0 h), λ d. q .1 (c .1 d)))
