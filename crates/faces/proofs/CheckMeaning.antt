@@ -35,7 +35,7 @@ use Rattle.faces.proofs.FirstMeaning.{large-means}
 
 module _ (p : Problem) (w : WithinLimits p) where
   large-in : (ns : List ℕ) (xs : List Face) → Recorded p ns xs → faces p ≡ some xs
-      → largeIn (patternTokens p) (expressionTokens p) ns ≡ overlarge p
+      → largeIn (patternTokens p) (expressionTokens p) ns ≡ overlarge maxFaceNodes p
   unfolding largeIn overlarge
   large-in ns xs r e =
       ap (λ (fs : List ℕ). anyLarge (expressionTokens p) (map (firstNode (patternTokens p) ns) fs)) (functions-in p w)
@@ -59,16 +59,16 @@ module _ (p : Problem) (w : WithinLimits p) where
       (guarded (not (bothWays p)) (flatWalk (patternTokens p) (expressionTokens p)) (walkOf p) (walk-means p w))
 
   -- The checks of `meaning`, one after the other
-  refused-13 : ltb maxFunctions (length (functions p)) ≡ true → checkProblem p ≡ refused 13
+  refused-13 : ltb maxFunctions (length (functions p)) ≡ true → checkProblem maxFaceNodes p ≡ refused 13
   unfolding checkProblem
   refused-13 e = choose-true _ _ e
 
   module _ (few : ltb maxFunctions (length (functions p)) ≡ false) where
-    refused-14 : overlarge p ≡ true → checkProblem p ≡ refused 14
+    refused-14 : overlarge maxFaceNodes p ≡ true → checkProblem maxFaceNodes p ≡ refused 14
     unfolding checkProblem
     refused-14 e = choose-false _ _ few ∙ choose-true _ _ e
 
-    passed : overlarge p ≡ false → checkProblem p ≡ got p
+    passed : overlarge maxFaceNodes p ≡ false → checkProblem maxFaceNodes p ≡ got p
     unfolding checkProblem
     passed e = choose-false _ _ few ∙ choose-false _ _ e
 
@@ -90,7 +90,7 @@ module _ (p : Problem) (w : WithinLimits p) where
 
       told : (ns : List ℕ) (xs : List Face) → facesIn (patternTokens p) (expressionTokens p) ≡ some ns → faces p ≡ some xs
           → Recorded p ns xs
-          → overlarge p ≡ false → r ≡ checked.Faces (length ns) → Told p new (length ns)
+          → overlarge maxFaceNodes p ≡ false → r ≡ checked.Faces (length ns) → Told p new (length ns)
       told ns xs e a q small y =
           let front : take (length ns) new ≡ ns = ap (take (length ns)) (c .recorded ns e y)
           ∙ take-at ns (drop (length ns) old) (length ns) refl in
@@ -110,18 +110,18 @@ module _ (p : Problem) (w : WithinLimits p) where
 
       walked : (o : Option (List ℕ)) (x : Option (List Face)) → facesIn (patternTokens p) (expressionTokens p) ≡ o → faces p ≡ x
           → Both (Recorded p) o x → Says p new r
-      walked none none e a q = subst (Says p new) (sym (after none e)) (passed few (not-large p a), a)
+      walked none none e a q = subst (Says p new) (sym (after none e)) (passed few (not-large maxFaceNodes p a), a)
       walked none (some xs) e a q = absurd q
       walked (some ns) none e a q = absurd q
-      walked (some ns) (some xs) e a q = by-test (overlarge p) over under
+      walked (some ns) (some xs) e a q = by-test (overlarge maxFaceNodes p) over under
         where
-          answer : r ≡ choose (overlarge p) (checked.Refused 14) (checked.Faces (length ns))
+          answer : r ≡ choose (overlarge maxFaceNodes p) (checked.Refused 14) (checked.Faces (length ns))
           answer = after (some ns) e ∙ ap (λ (b : Bool). choose b (checked.Refused 14) (checked.Faces (length ns))) (large-in ns xs q a)
 
-          over : overlarge p ≡ true → Says p new r
+          over : overlarge maxFaceNodes p ≡ true → Says p new r
           over y = subst (Says p new) (sym (answer ∙ choose-true _ _ y)) (refused-14 few y)
 
-          under : overlarge p ≡ false → Says p new r
+          under : overlarge maxFaceNodes p ≡ false → Says p new r
           under y =
               let z : r ≡ checked.Faces (length ns) = answer ∙ choose-false _ _ y in
               subst (Says p new) (sym z) (told ns xs e a q y z)
@@ -134,18 +134,18 @@ module _ (p : Problem) (w : WithinLimits p) where
         (λ n. walked n (facesIn (patternTokens p) (expressionTokens p)) (faces p) refl refl faces-mean)
 
     -- The same answer, and when there are no rows
-    pub check-answer : checkProblem p ≡ answerOf p r
+    pub check-answer : checkProblem maxFaceNodes p ≡ answerOf p r
     check-answer = go r check-means
       where
-        go : (q : Checked) → Says p new q → checkProblem p ≡ answerOf p q
+        go : (q : Checked) → Says p new q → checkProblem maxFaceNodes p ≡ answerOf p q
         go (checked.Refused k) h = h
         go checked.NoRows h = h .0
         go (checked.Faces n) h = h .passes
 
-    pub no-rows : (r ≡ checked.NoRows) ↔ ((checkProblem p ≡ got p) × (faces p ≡ none))
+    pub no-rows : (r ≡ checked.NoRows) ↔ ((checkProblem maxFaceNodes p ≡ got p) × (faces p ≡ none))
     no-rows = (λ e. subst (Says p new) e check-means, back r check-means)
       where
-        back : (q : Checked) → Says p new q → (checkProblem p ≡ got p) × (faces p ≡ none) → q ≡ checked.NoRows
+        back : (q : Checked) → Says p new q → (checkProblem maxFaceNodes p ≡ got p) × (faces p ≡ none) → q ≡ checked.NoRows
         back (checked.Refused k) h g = absurd (let a = g .0 in let z : _≡_ {A = ℕ} 0 1 = cc in omega arith)
         back checked.NoRows h g = refl
         back (checked.Faces n) h g = absurd (let a = h .agree in let b = g .1 in let z : _≡_ {A = ℕ} 0 1 = cc in omega arith)

@@ -133,7 +133,7 @@ module _ (ps ns : List ℕ) (s : ℕ) where
 
 -- The limit of nodes
 module _ (es : List ℕ) (j : ℕ) where
-  pub large-in : (n : ℕ) → n ≡ sizeIn (at es j) → j < length es → ltb 64 n ≡ large es j
+  pub large-in : (n : ℕ) → n ≡ sizeIn (at es j) → j < length es → ltb 256 n ≡ large es j
   unfolding large maxFaceNodes
   large-in n e h = rw (← e, lt-ltb j (length es) h)
 

@@ -6,6 +6,7 @@ use Prim.Native.Nat.{ℕ}
 use mathlib.Core.List.{List, [], _∷_}
 use mathlib.Core.Option.{none, some}
 use lib.ListN.{length, take}
+use Rattle.meaning.specs.Limits.{maxFaceNodes}
 use Rattle.meaning.specs.Term.{nodeAt}
 use Rattle.meaning.specs.Problem.{Problem, expressions}
 use Rattle.meaning.specs.Face.{Face, faces, firstFace}
@@ -31,7 +32,7 @@ FirstsAt p xs (f ∷ fs) (j ∷ js) = FirstAt p xs f j × FirstsAt p xs fs js
 
 -- The faces of an accepted problem, recorded at the front of a list
 pub record Told (p : Problem) (new : List ℕ) (n : ℕ) : Type 0 where
-  pub passes : checkProblem p ≡ got p
+  pub passes : checkProblem maxFaceNodes p ≡ got p
   pub found : List Face
   pub agree : faces p ≡ some found
   pub count : length found ≡ n
@@ -44,6 +45,6 @@ answerOf p checked.NoRows = got p
 answerOf p (checked.Faces n) = got p
 
 abbrev pub Says : Problem → List ℕ → Checked → Type 0
-Says p new (checked.Refused k) = checkProblem p ≡ refused k
-Says p new checked.NoRows = (checkProblem p ≡ got p) × (faces p ≡ none)
+Says p new (checked.Refused k) = checkProblem maxFaceNodes p ≡ refused k
+Says p new checked.NoRows = (checkProblem maxFaceNodes p ≡ got p) × (faces p ≡ none)
 Says p new (checked.Faces n) = Told p new n
