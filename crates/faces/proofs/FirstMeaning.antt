@@ -68,13 +68,13 @@ module _ (p : Problem) (w : WithinLimits p) where
   large-one : (f : ℕ) (o : Option ℕ) (x : Option Face) → Both (Meets p) o x
       → large (expressionTokens p) (nodeOr o) ≡ ltb maxFaceNodes (size (one (faceTerm x f)))
   unfolding large maxFaceNodes
-  large-one f none none r = ap (λ (b : Bool). b && ltb 256 (sizeIn (at (expressionTokens p) absent)))
+  large-one f none none r = ap (λ (b : Bool). b && ltb maxFaceNodes (sizeIn (at (expressionTokens p) absent)))
       (le-ltb absent (length (expressionTokens p)) (expression-table p w .small))
   large-one f none (some x) r = absurd r
   large-one f (some j) none r = absurd r
   large-one f (some j) (some x) r =
       let n = expression-node p w j (x .term) (r .term) in
-      ap₂ (λ (b : Bool) (m : ℕ). b && ltb 256 m)
+      ap₂ (λ (b : Bool) (m : ℕ). b && ltb maxFaceNodes m)
       (lt-ltb j (length (expressionTokens p)) (node-inside (expressionTokens p) j (x .term) n))
       (node-size (expressionTokens p) j (x .term) n)
 

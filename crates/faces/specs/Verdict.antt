@@ -6,6 +6,7 @@ use Prim.Native.Nat.{ℕ}
 use mathlib.Core.List.{List, [], _∷_}
 use mathlib.Core.Option.{none, some}
 use lib.ListN.{length, take}
+use Rattle.meaning.specs.Limits.{maxFaceNodes}
 use Rattle.meaning.specs.Term.{nodeAt}
 use Rattle.meaning.specs.Problem.{Problem, expressions}
 use Rattle.meaning.specs.Face.{Face, faces, firstFace}

@@ -12,7 +12,7 @@ ghost use Rattle.meaning.specs.Limits.{metavariableCount};
 ghost use Rattle.metavariables.specs.Survey.{count};
 ghost use Rattle.faces.specs.First.{applies, firstNode, firstsOf, listed, FirstsFit, Pushed, Listing, Listed, large, anyLarge};
 
-// "A face has at most 64 nodes", and since T-10 256
+// T-10: "A face may have 256"
 const MAX_FACE_NODES: u64 = masks::NodeSet::ROOM as u64;
 
 // No table has a node of this number.
@@ -102,7 +102,7 @@ fn large(es: &[u64], node: usize) -> bool
     }
 }
 
-// Whether a face has over 256 nodes (14).
+// Whether a face has more nodes than it may (14).
 pub fn any_large(es: &[u64], firsts: Firsts) -> bool
     requires { ⌜ FirstsFit firsts ⌝ }
     ensures { λ r. ⌜ r ≡ anyLarge (now (es .entry)) (listed firsts) ⌝ }

@@ -13,6 +13,7 @@ use borrow.Author.Tests.{ltb-true}
 use Rattle.meaning.specs.Limits.{maxFunctions, maxFaceNodes}
 use Rattle.meaning.specs.Basics.{All, _∈_, Bytes, each, every, Byte}
 use Rattle.meaning.specs.Problem.{Problem}
+use Rattle.meaning.specs.Choice.{Marks}
 use Rattle.meaning.specs.Row.{Row, SolutionRow}
 use Rattle.meaning.specs.Rows.{rows}
 use Rattle.meaning.specs.Candidate.{solves}
@@ -122,6 +123,15 @@ hole-value = refl
 bare-value : placeValue (at bareRow) ≡ valueWith 0
 unfolding placeValue masksOf maskOf maxFunctions maxFaceNodes
 bare-value = refl
+
+-- Node 64 is the highest bit of the second word of 64 bits, node 255 the lowest of the last
+abbrev onlyNode : ℕ → Marks
+onlyNode k = replicate k none ++ (some 0 ∷ [])
+
+pub node-bits : (maskOf maxFaceNodes (onlyNode 64) ≡ 0x800000000000000000000000000000000000000000000000)
+    × (maskOf maxFaceNodes (onlyNode 255) ≡ 1)
+unfolding maskOf maxFaceNodes
+node-bits = (refl, refl)
 
 past-value : placeValue past ≡ pastValue
 unfolding placeValue maxFunctions

@@ -60,6 +60,8 @@ pub mod SecondDemand
 pub mod PassLaws
 -- The search
 pub mod PlaceLaws
+-- The limit of a face's nodes raised (T-10)
+pub mod OldLimit
 pub mod OneCall
 pub mod CallLaws
 pub mod WriteLaws

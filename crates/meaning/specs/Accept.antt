@@ -13,7 +13,7 @@ use Rattle.meaning.specs.Face.{faces}
 use Rattle.meaning.specs.Row.{faceOf}
 
 -- "14 a face over 64 nodes", "if shapes agree"; T-09, of a letter used both ways: "14 isn't looked for in it". The number of nodes that a
--- face may have is handed in, so that the limit before T-10 can be spoken of (`before`)
+-- face may have is handed in, so that the limit before T-10 can be spoken of too (`same-as-before`)
 unfoldable pub overlarge : ℕ → Problem → Bool
 overlarge limit p = isSome (faces p) && not (every (λ f. not (ltb limit (size (one (faceOf p f))))) (functions p))
 

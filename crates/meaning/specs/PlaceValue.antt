@@ -1,6 +1,6 @@
 -- Places as a host holds them.
 --   mask         a set of nodes as one number: "node set as a 64-bit mask", with T-10 one of 256 bits. A host holds it as four words of 64
---                bits, node 0 the highest bit of the first
+--                bits, node 0 the highest bit of the first (`node-bits`)
 --   PlaceValue   a mask for each function by ascending number, and whether the place is past the last
 --   Names        which place of a problem a value names
 use mathlib.Core.Path.{_≡_}
