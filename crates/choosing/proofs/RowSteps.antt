@@ -61,7 +61,7 @@ module _ (ns es : List ℕ) (root : ℕ) where
   path-long : (ms : Marks) → T (accepts next (unset 1) (nodesFrom ns es root) ms) → length ms ≡ sizeFrom es root
   path-long ms t = accepted-walked (unset 1) (nodesFrom ns es root) ms .0 t .0 ∙ nodes-long ns es root
 
-  path-place : (ms : Marks) → T (accepts next (unset 1) (nodesFrom ns es root) ms) → OnePlace ms
+  pub path-place : (ms : Marks) → T (accepts next (unset 1) (nodesFrom ns es root) ms) → OnePlace ms
   path-place ms t k i e =
       let (c, h, g) = accepted-walked (unset 1) (nodesFrom ns es root) ms .0 t .1 .classed k i e in
       let l = takes-low (none ∷ []) i c g in

@@ -36,10 +36,14 @@ firstFrom ns es root = maskOf maxFaceNodes (firstPath (unset 1) (nodesFrom ns es
 unfoldable pub firstAt : List ℕ → List ℕ → List ℕ → ℕ → ℕ → ℕ
 firstAt ns es nodes count k = choose (ltb k count) (firstFrom ns es (table.at nodes k)) 0
 
--- The choices of a list that come after one of them. `behind cs m ≡ x ∷ behind cs x` says that x is the choice after m
+-- The choices of a list that come after one of them
 unfoldable pub behind : List ℕ → ℕ → List ℕ
 behind [] m = []
 behind (x ∷ xs) m = choose (eqb x m) xs (behind xs m)
+
+-- x is the choice after m
+abbrev pub Next : List ℕ → ℕ → ℕ → Type 0
+Next cs m x = behind cs m ≡ x ∷ behind cs x
 
 unfoldable pub maskRows : List ℕ → List ℕ → List ℕ → ℕ → List MaskRow
 maskRows ns es nodes count = product (map (choicesAt ns es nodes count) (upTo maxFunctions))
