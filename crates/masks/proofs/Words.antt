@@ -217,3 +217,8 @@ noNodes = record { w0 = 0; w1 = 0; w2 = 0; w3 = 0 }
 pub masks-at : (row : List NodeSet) (k : ℕ) → mask (getD row k noNodes) ≡ getD (masksIn row) k 0
 unfolding mask value marksIn marks
 masks-at row k = sym (List·getD-map mask row k noNodes)
+
+pub masks-set : (row : List NodeSet) (k : ℕ) (s : NodeSet) → masksIn (set row k s) ≡ set (masksIn row) k (mask s)
+masks-set [] k s = refl
+masks-set (r ∷ row) zero s = refl
+masks-set (r ∷ row) (suc k) s = ap {B = List ℕ} (λ l. mask r ∷ l) (masks-set row k s)

@@ -1,0 +1,2 @@
+-- Rows as sets of nodes.
+pub mod Rows
