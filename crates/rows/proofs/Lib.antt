@@ -1,1 +1,2 @@
 -- Laws of rows.
+pub mod RowLaws

@@ -1,34 +1,45 @@
+-- `first_of`: the first choice of the face, or none.
 use borrow.Author.Needs.{needs}
+use native.Mathlib.Omega.{arith}
+use Prim.Native.Nat.{ℕ, suc, _-_, _≤_, _<_}
+use mathlib.Core.Path.{_≡_, refl, sym, _∙_, subst}
+use mathlib.Core.List.{List}
+use lib.ListN.{length, getD}
+use Rattle.meaning.specs.Limits.{maxFunctions}
+use Rattle.meaning.specs.Basics.{_∈_}
+use Rattle.masks.specs.Sets.{mask, masksIn}
+use Rattle.masks.specs.declared.NodeSet.{NodeSet}
+use Rattle.masks.proofs.Words.{masks-at}
+use Rattle.rows.specs.Rows.{choicesOf}
+use Rattle.rows.proofs.RowLaws.{first-here, first-none}
 use Rattle.rows.proofs.first_of.Statement.{statement}
 use Rattle.rows.proofs.first_of.Tie as tie
-use Rattle.rows.proofs.first_of.Reads as reads
-use Rattle.rows.proofs.first_of.Lts as lts
-use Rattle.choosing.proofs.first_choice.Reads as first-choice-reads
-use Rattle.masks.proofs.NodeSet.none.Reads as none-reads
 
--- src/lib.rt:47:37
 mul-first-choice : tie.Need-mul-first-choice
-mul-first-choice c = search needs
+unfolding maxFunctions
+mul-first-choice c = omega (arith, c .before .before .before .before .before .pre .1)
 
--- src/lib.rt:47:37
 array-read-first-choice : tie.Need-array-read-first-choice
-array-read-first-choice c = search needs
+unfolding maxFunctions
+array-read-first-choice c = c .before .before .before .before .before .pre .1
 
--- src/lib.rt:47:9
 first-choice-requires : tie.Need-first-choice-requires
-first-choice-requires c κs = search needs
+first-choice-requires c κs =
+    let s = c .before .before .before .before .before in
+    (s .pre .0 .faces .whole (s .args .k) (c .before .if1 .taken), s .pre .0 .numbers)
 
--- src/lib.rt:47:9
 returns : tie.Need-returns
-returns c = search needs
+returns c =
+    let s = c .before .before .before .before .before .before in
+    first-here (s .args .es .now) (s .args .ns .now) (s .args .firsts) (s .args .k) _ (c .before .before .if1 .taken) (c .first-choice .ensures)
 
--- src/lib.rt:49:5
 none-requires : tie.Need-none-requires
 none-requires c κs = search needs
 
--- src/lib.rt:41:1
 returns-2 : tie.Need-returns-2
-returns-2 c = search needs
+returns-2 c =
+    let s = c .before .before .before .before .before in
+    first-none (s .args .es .now) (s .args .ns .now) (s .args .firsts) (s .args .k) _ (c .before .if1 .left) (c .none .ensures)
 
 pub first-of-spec : {M : Type 1} → statement M
 first-of-spec =

@@ -1,52 +1,68 @@
+-- `first_row`. The loop's invariant: from function k on each set is its function's first choice.
 use borrow.Author.Needs.{needs}
+use native.Mathlib.Omega.{arith}
+use Prim.Native.Nat.{ℕ, suc, _-_, _≤_, _<_}
+use mathlib.Core.Path.{_≡_, refl, sym, _∙_, subst}
+use mathlib.Core.List.{List}
+use lib.ListN.{replicate}
+use Rattle.meaning.specs.Limits.{maxFunctions}
+use Rattle.meaning.specs.Basics.{_∈_}
+use Rattle.masks.specs.Sets.{mask, masksIn}
+use Rattle.masks.specs.declared.NodeSet.{NodeSet}
+use Rattle.masks.proofs.Words.{masks-at}
+use Rattle.rows.specs.Rows.{choicesOf}
+use Rattle.rows.proofs.RowLaws.{Freshly, freshly-none, freshly-more, first-of-rows}
 use Rattle.rows.proofs.first_row.Statement.{statement}
 use Rattle.rows.proofs.first_row.Tie as tie
-use Rattle.rows.proofs.first_row.Reads as reads
-use Rattle.rows.proofs.first_row.Lts as lts
-use Rattle.masks.proofs.NodeSet.none.Reads as none-reads
-use Rattle.rows.proofs.first_of.Reads as first-of-reads
 
 abbrev Inv-loop : tie.InvT-loop
-Inv-loop es ns firsts row₀ k₀ row k = ?
+Inv-loop es ns firsts row₀ k₀ row k = (k ≤ maxFunctions) × Freshly es ns firsts row k
 
 abbrev μ-loop : tie.MeasureT-loop
-μ-loop es ns firsts row₀ k₀ row k = ?
+μ-loop es ns firsts row₀ k₀ row k = k
 
--- src/lib.rt:82:20
 none-requires : tie.Need-none-requires Inv-loop μ-loop
 none-requires c κs = search needs
 
--- src/lib.rt:84:5
 loop-holds : tie.Need-loop-holds Inv-loop μ-loop
-loop-holds c = search needs
+unfolding maxFunctions
+loop-holds c =
+    let s = c .before .before .before in
+    (omega arith, freshly-none (s .args .es .now) (s .args .ns .now) (s .args .firsts) (replicate maxFunctions (c .none .result)) refl)
 
--- src/lib.rt:85:9
 sub-k : tie.Need-sub-k Inv-loop μ-loop
 sub-k c = search needs
 
--- src/lib.rt:86:18
 first-of-requires : tie.Need-first-of-requires Inv-loop μ-loop
-first-of-requires c κs = search needs
+unfolding maxFunctions
+first-of-requires c κs = (c .before .before .before .before .before .pre, omega arith)
 
--- src/lib.rt:86:9
 mul-row : tie.Need-mul-row Inv-loop μ-loop
+unfolding maxFunctions
 mul-row c = search needs
 
--- src/lib.rt:86:9
 array-set-from-row : tie.Need-array-set-from-row Inv-loop μ-loop
+unfolding maxFunctions
 array-set-from-row c = search needs
 
--- src/lib.rt:84:5
 loop-less : tie.Need-loop-less Inv-loop μ-loop
 loop-less c = search needs
 
--- src/lib.rt:84:5
 loop-again : tie.Need-loop-again Inv-loop μ-loop
-loop-again c = search needs
+unfolding maxFunctions
+loop-again c =
+    let s = c .before .before .before .before .before .before in
+    let at = c .before .before .loop in
+    let j : ℕ = at .k - 1 in
+    let e : at .k ≡ suc j = omega arith in
+    (omega arith, freshly-more (s .args .es .now) (s .args .ns .now) (s .args .firsts) (at .row) j _ (omega arith) (subst (Freshly (s .args .es .now) (s .args .ns .now) (s .args .firsts) (at .row)) e (at .inv .1)) (c .first-of .ensures))
 
--- src/lib.rt:78:1
 returns : tie.Need-returns Inv-loop μ-loop
-returns c = search needs
+returns c =
+    let s = c .before .before .before .before .before in
+    let at = c .before .loop in
+    let e : at .k ≡ 0 = omega arith in
+    first-of-rows (s .args .es .now) (s .args .ns .now) (s .args .firsts) (s .pre) (at .row) (subst (Freshly (s .args .es .now) (s .args .ns .now) (s .args .firsts) (at .row)) e (at .inv .1))
 
 pub first-row-spec : {M : Type 1} → statement M
 first-row-spec =

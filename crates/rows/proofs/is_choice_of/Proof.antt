@@ -1,34 +1,49 @@
+-- `is_choice_of`: a choice of the face, or none.
 use borrow.Author.Needs.{needs}
+use native.Mathlib.Omega.{arith}
+use Prim.Native.Nat.{ℕ, suc, _-_, _≤_, _<_}
+use mathlib.Core.Path.{_≡_, refl, sym, _∙_, subst}
+use mathlib.Core.List.{List}
+use lib.ListN.{length, getD}
+use Rattle.meaning.specs.Limits.{maxFunctions}
+use Rattle.meaning.specs.Basics.{_∈_}
+use Rattle.masks.specs.Sets.{mask, masksIn}
+use Rattle.masks.specs.declared.NodeSet.{NodeSet}
+use Rattle.masks.proofs.Words.{masks-at}
+use Rattle.rows.specs.Rows.{choicesOf}
+use Rattle.rows.proofs.RowLaws.{there-choice, absent-choice}
 use Rattle.rows.proofs.is_choice_of.Statement.{statement}
 use Rattle.rows.proofs.is_choice_of.Tie as tie
-use Rattle.rows.proofs.is_choice_of.Reads as reads
-use Rattle.rows.proofs.is_choice_of.Lts as lts
-use Rattle.choosing.proofs.is_choice.Reads as is-choice-reads
-use Rattle.masks.proofs.NodeSet.is_empty.Reads as is-empty-reads
 
--- src/lib.rt:35:34
 mul-is-choice : tie.Need-mul-is-choice
-mul-is-choice c = search needs
+unfolding maxFunctions
+mul-is-choice c = omega (arith, c .before .before .before .before .before .pre .1)
 
--- src/lib.rt:35:34
 array-read-is-choice : tie.Need-array-read-is-choice
-array-read-is-choice c = search needs
+unfolding maxFunctions
+array-read-is-choice c = c .before .before .before .before .before .pre .1
 
--- src/lib.rt:35:9
 is-choice-requires : tie.Need-is-choice-requires
-is-choice-requires c κs = search needs
+is-choice-requires c κs =
+    let s = c .before .before .before .before .before in
+    (s .pre .0 .faces .whole (s .args .k) (c .before .if1 .taken), s .pre .0 .numbers)
 
--- src/lib.rt:35:9
 returns : tie.Need-returns
-returns c = search needs
+returns c =
+    let s = c .before .before .before .before .before .before in
+    let here = there-choice (s .args .es .now) (s .args .ns .now) (s .args .firsts) (s .args .k) (mask (s .args .set)) (c .before .before .if1 .taken) in
+    let is = c .is-choice .ensures in
+    (λ e. here .0 (is .0 e), λ m. is .1 (here .1 m))
 
--- src/lib.rt:37:5
 is-empty-requires : tie.Need-is-empty-requires
 is-empty-requires c κs = search needs
 
--- src/lib.rt:29:1
 returns-2 : tie.Need-returns-2
-returns-2 c = search needs
+returns-2 c =
+    let s = c .before .before .before .before .before in
+    let here = absent-choice (s .args .es .now) (s .args .ns .now) (s .args .firsts) (s .args .k) (mask (s .args .set)) (c .before .if1 .left) in
+    let is = c .is-empty .ensures in
+    (λ e. here .0 (sym is ∙ e), λ m. is ∙ here .1 m)
 
 pub is-choice-of-spec : {M : Type 1} → statement M
 is-choice-of-spec =

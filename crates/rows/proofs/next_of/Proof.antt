@@ -1,25 +1,41 @@
+-- `next_of`: the next choice of the face.
 use borrow.Author.Needs.{needs}
+use native.Mathlib.Omega.{arith}
+use Prim.Native.Nat.{ℕ, suc, _-_, _≤_, _<_}
+use mathlib.Core.Path.{_≡_, refl, sym, _∙_, subst}
+use mathlib.Core.List.{List}
+use lib.ListN.{length, getD}
+use Rattle.meaning.specs.Limits.{maxFunctions}
+use Rattle.meaning.specs.Basics.{_∈_}
+use Rattle.masks.specs.Sets.{mask, masksIn}
+use Rattle.masks.specs.declared.NodeSet.{NodeSet}
+use Rattle.masks.proofs.Words.{masks-at}
+use Rattle.rows.specs.Rows.{choicesOf}
+use Rattle.rows.proofs.RowLaws.{there, there-choice, next-here}
 use Rattle.rows.proofs.next_of.Statement.{statement}
 use Rattle.rows.proofs.next_of.Tie as tie
-use Rattle.rows.proofs.next_of.Reads as reads
-use Rattle.rows.proofs.next_of.Lts as lts
-use Rattle.choosing.proofs.next_choice.Reads as next-choice-reads
 
--- src/lib.rt:59:25
 mul-next-choice : tie.Need-mul-next-choice
-mul-next-choice c = search needs
+unfolding maxFunctions
+mul-next-choice c = omega (arith, c .before .before .before .pre .1 .0)
 
--- src/lib.rt:59:25
 array-read-next-choice : tie.Need-array-read-next-choice
-array-read-next-choice c = search needs
+unfolding maxFunctions
+array-read-next-choice c = c .before .before .before .pre .1 .0
 
--- src/lib.rt:59:5
 next-choice-requires : tie.Need-next-choice-requires
-next-choice-requires c κs = search needs
+next-choice-requires c κs =
+    let s = c .before .before .before in
+    let here = there (s .args .es .now) (s .args .ns .now) (s .args .firsts) (s .args .k) (mask (s .args .set)) (s .pre .1 .1 .0) (s .pre .1 .1 .1) in (
+      (s .pre .0 .faces .whole (s .args .k) here, s .pre .0 .numbers),
+      (there-choice (s .args .es .now) (s .args .ns .now) (s .args .firsts) (s .args .k) (mask (s .args .set)) here .1 (s .pre .1 .1 .0), s .pre .1 .1 .1),
+    )
 
--- src/lib.rt:53:1
 returns : tie.Need-returns
-returns c = search needs
+returns c =
+    let s = c .before .before .before .before in
+    let here = there (s .args .es .now) (s .args .ns .now) (s .args .firsts) (s .args .k) (mask (s .args .set)) (s .pre .1 .1 .0) (s .pre .1 .1 .1) in
+    next-here (s .args .es .now) (s .args .ns .now) (s .args .firsts) (s .args .k) _ _ here (c .next-choice .ensures)
 
 pub next-of-spec : {M : Type 1} → statement M
 next-of-spec =

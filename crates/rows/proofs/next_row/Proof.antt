@@ -1,85 +1,129 @@
+-- `next_row`. The loop's invariant: the functions from k on had their last choices, and begin again.
 use borrow.Author.Needs.{needs}
+use native.Mathlib.Omega.{arith}
+use Prim.Native.Nat.{ℕ, suc, _-_, _≤_, _<_}
+use mathlib.Core.Path.{_≡_, ap, sym, _∙_, subst}
+use borrow.Author.Tests.{eqb-true, not-true, not-false}
+use lib.ListN.{length, replicate}
+use Rattle.choosing.specs.Rows.{Next}
+use Rattle.meaning.specs.Limits.{maxFunctions}
+use Rattle.meaning.specs.Basics.{_∈_}
+use Rattle.masks.specs.Sets.{mask, masksIn}
+use Rattle.masks.specs.declared.NodeSet.{NodeSet}
+use Rattle.masks.proofs.Words.{masks-at}
+use Rattle.rows.specs.Rows.{choicesOf}
+use Rattle.rows.proofs.RowLaws.{Carrying, above-zero, carrying-none, carrying-more, carried-choice, first-set, steps-set, steps-none}
 use Rattle.rows.proofs.next_row.Statement.{statement}
 use Rattle.rows.proofs.next_row.Tie as tie
-use Rattle.rows.proofs.next_row.Reads as reads
-use Rattle.rows.proofs.next_row.Lts as lts
-use Rattle.masks.proofs.NodeSet.is_empty.Reads as is-empty-reads
-use Rattle.masks.proofs.NodeSet.none.Reads as none-reads
-use Rattle.rows.proofs.next_of.Reads as next-of-reads
 
 abbrev Inv-loop : tie.InvT-loop
-Inv-loop es ns firsts first next₀ k₀ next k = ?
+Inv-loop es ns firsts first next₀ k₀ next k = (k ≤ maxFunctions) × Carrying es ns firsts next₀ next k
 
 abbrev μ-loop : tie.MeasureT-loop
-μ-loop es ns firsts first next₀ k₀ next k = ?
+μ-loop es ns firsts first next₀ k₀ next k = k
 
--- src/lib.rt:107:5
 loop-holds : tie.Need-loop-holds Inv-loop μ-loop
-loop-holds c = search needs
+unfolding maxFunctions
+loop-holds c =
+    let s = c .before .before in
+    let n : length (s .args .row) ≡ maxFunctions = search needs in
+    (omega arith, carrying-none (s .args .es .now) (s .args .ns .now) (s .args .firsts) (s .args .row) n)
 
--- src/lib.rt:108:9
 sub-k : tie.Need-sub-k Inv-loop μ-loop
 sub-k c = search needs
 
--- src/lib.rt:109:19
 mul-set : tie.Need-mul-set Inv-loop μ-loop
+unfolding maxFunctions
 mul-set c = search needs
 
--- src/lib.rt:109:19
 array-copy-out-set : tie.Need-array-copy-out-set Inv-loop μ-loop
+unfolding maxFunctions
 array-copy-out-set c = search needs
 
--- src/lib.rt:110:13
 is-empty-requires : tie.Need-is-empty-requires Inv-loop μ-loop
 is-empty-requires c κs = search needs
 
--- src/lib.rt:111:23
 next-of-requires : tie.Need-next-of-requires Inv-loop μ-loop
-next-of-requires c κs = search needs
+unfolding maxFunctions
+next-of-requires c κs =
+    let s = c .before .before .before .before .before .before .before in
+    let at = c .before .before .before .before .loop in
+    let e : at .k ≡ suc (at .k - 1) = omega arith in
+    let w : Carrying (s .args .es .now) (s .args .ns .now) (s .args .firsts) (s .args .row) (at .next) (suc (at .k - 1)) = subst (Carrying (s .args .es .now) (s .args .ns .now) (s .args .firsts) (s .args .row) (at .next)) e (at .inv .1) in
+    let here = masks-at (at .next) (at .k - 1) in
+    let choice = carried-choice (s .args .es .now) (s .args .ns .now) (s .args .firsts) (s .pre .0) (s .args .row) (at .next) (at .k - 1) (omega arith) w (s .pre .1 .0) in (
+      s .pre .0,
+      (
+        omega arith,
+        (
+          subst (λ (x : ℕ). x ∈ choicesOf (s .args .es .now) (s .args .ns .now) (s .args .firsts) (at .k - 1)) (sym here) choice,
+          above-zero _ (sym (c .before .is-empty .ensures) ∙ not-true _ (c .if1 .taken)),
+        ),
+      ),
+    )
 
--- src/lib.rt:111:13
 mul-next : tie.Need-mul-next Inv-loop μ-loop
+unfolding maxFunctions
 mul-next c = search needs
 
--- src/lib.rt:111:13
 array-set-from-next : tie.Need-array-set-from-next Inv-loop μ-loop
+unfolding maxFunctions
 array-set-from-next c = search needs
 
--- src/lib.rt:112:13
 returns : tie.Need-returns Inv-loop μ-loop
-returns c = search needs
+unfolding maxFunctions
+returns c =
+    let s = c .before .before .before .before .before .before .before .before in
+    let at = c .before .before .before .before .before .loop in
+    let e : at .k ≡ suc (at .k - 1) = omega arith in
+    let w : Carrying (s .args .es .now) (s .args .ns .now) (s .args .firsts) (s .args .row) (at .next) (suc (at .k - 1)) = subst (Carrying (s .args .es .now) (s .args .ns .now) (s .args .firsts) (s .args .row) (at .next)) e (at .inv .1) in
+    steps-set (s .args .es .now) (s .args .ns .now) (s .args .firsts) (s .pre .0) (s .args .row) (at .next) (at .k - 1) (omega arith) w _
+    (subst (λ (x : ℕ). Next (choicesOf (s .args .es .now) (s .args .ns .now) (s .args .firsts) (at .k - 1)) x (mask (c .next-of .result))) (masks-at (at .next) (at .k - 1)) (c .next-of .ensures))
 
--- src/lib.rt:117:19
 mul-next-2 : tie.Need-mul-next-2 Inv-loop μ-loop
+unfolding maxFunctions
 mul-next-2 c = search needs
 
--- src/lib.rt:117:19
 array-copy-out-next : tie.Need-array-copy-out-next Inv-loop μ-loop
+unfolding maxFunctions
 array-copy-out-next c = search needs
 
--- src/lib.rt:117:9
 mul-next-3 : tie.Need-mul-next-3 Inv-loop μ-loop
+unfolding maxFunctions
 mul-next-3 c = search needs
 
--- src/lib.rt:117:9
 array-set-from-next-2 : tie.Need-array-set-from-next-2 Inv-loop μ-loop
+unfolding maxFunctions
 array-set-from-next-2 c = search needs
 
--- src/lib.rt:107:5
 loop-less : tie.Need-loop-less Inv-loop μ-loop
 loop-less c = search needs
 
--- src/lib.rt:107:5
 loop-again : tie.Need-loop-again Inv-loop μ-loop
-loop-again c = search needs
+unfolding maxFunctions
+loop-again c =
+    let s = c .before .before .before .before .before .before .before .before in
+    let at = c .before .before .before .before .before .loop in
+    let e : at .k ≡ suc (at .k - 1) = omega arith in
+    let w : Carrying (s .args .es .now) (s .args .ns .now) (s .args .firsts) (s .args .row) (at .next) (suc (at .k - 1)) = subst (Carrying (s .args .es .now) (s .args .ns .now) (s .args .firsts) (s .args .row) (at .next)) e (at .inv .1) in
+    let few : at .k - 1 < maxFunctions = omega arith in
+    let none-left = eqb-true _ 0 (sym (c .before .before .is-empty .ensures) ∙ not-false _ (c .before .if1 .left)) in (
+      omega arith,
+      carrying-more (s .args .es .now) (s .args .ns .now) (s .args .firsts) (s .pre .0) (s .args .row) (at .next) (at .k - 1) few w _ (sym (masks-at (at .next) (at .k - 1)) ∙ none-left)
+          (masks-at (s .args .t4) (at .k - 1) ∙ first-set (s .args .es .now) (s .args .ns .now) (s .args .firsts) (s .pre .0) (s .args .t4) (s .pre .1 .1) (at .k - 1) few),
+    )
 
--- src/lib.rt:121:15
 none-requires : tie.Need-none-requires Inv-loop μ-loop
 none-requires c κs = search needs
 
--- src/lib.rt:94:1
 returns-2 : tie.Need-returns-2 Inv-loop μ-loop
-returns-2 c = search needs
+unfolding maxFunctions
+returns-2 c =
+    let s = c .before .before .before .before .before in
+    let at = c .before .before .loop in
+    let e : at .k ≡ 0 = omega arith in
+    steps-none (s .args .es .now) (s .args .ns .now) (s .args .firsts) (s .pre .0) (s .args .row) (at .next) (replicate maxFunctions (c .none .result)) (subst (Carrying (s .args .es .now) (s .args .ns .now) (s .args .firsts) (s .args .row) (at .next)) e (at .inv .1))
+    (ap (λ (m : ℕ). replicate maxFunctions m) (c .none .ensures))
 
 pub next-row-spec : {M : Type 1} → statement M
 next-row-spec =
