@@ -9,10 +9,10 @@ use native.Mathlib.Omega.{arith}
 use lib.Dec.{eqb}
 use lib.ListN.{length, getD, set, length-append, List·getD-append, List·getD-map}
 use lib.Pow.{pow-pos}
-use lib.Seq.{getD-append-add, set-append-left}
+use lib.Seq.{getD-append-add, set-append-left, take-at, drop-at}
 use borrow.Author.Tests.{eq-eqb, eqb-true}
 use Rattle.masks.specs.Mask.{marks, value, trues, first}
-use Rattle.masks.specs.Sets.{wordNodes, width, words, marksIn, mask, nodes, masksIn}
+use Rattle.masks.specs.Sets.{wordNodes, wordCount, width, words, marksIn, mask, nodes, masksIn, wordsIn, wordsOf}
 use Rattle.masks.specs.declared.NodeSet.{NodeSet}
 use Rattle.masks.proofs.Cases.{same-truth}
 use Rattle.masks.proofs.Marks.{length-marks, marks-value, value-lt, value-marks}
@@ -222,3 +222,25 @@ pub masks-set : (row : List NodeSet) (k : ℕ) (s : NodeSet) → masksIn (set ro
 masks-set [] k s = refl
 masks-set (r ∷ row) zero s = refl
 masks-set (r ∷ row) (suc k) s = ap {B = List ℕ} (λ l. mask r ∷ l) (masks-set row k s)
+
+-- ---- the words of a mask
+
+words-back : (w : ℕ) (ws : List ℕ) (n : ℕ) → w < 2 ^ wordNodes → wordsIn n (marksIn ws) ≡ ws → wordsIn (suc n) (marksIn (w ∷ ws)) ≡ w ∷ ws
+unfolding wordsIn marksIn
+words-back w ws n h e =
+    let l = length-marks wordNodes w in
+    ap₂ {C = List ℕ} (λ x xs. x ∷ xs) (ap value (take-at (marks wordNodes w) (marksIn ws) wordNodes l) ∙ value-marks wordNodes w h)
+    (ap (wordsIn n) (drop-at (marks wordNodes w) (marksIn ws) wordNodes l) ∙ e)
+
+-- A HOST THAT HOLDS THE WORDS OF A SET HOLDS ITS MASK
+pub mask-words : (s : NodeSet) → s .w0 < 2 ^ wordNodes → s .w1 < 2 ^ wordNodes → s .w2 < 2 ^ wordNodes → s .w3 < 2 ^ wordNodes
+    → wordsOf (mask s) ≡ words s
+unfolding wordsOf wordsIn
+mask-words s a b c d =
+    ap (wordsIn wordCount) (nodes-words s)
+    ∙ words-back (s .w0) (s .w1 ∷ s .w2 ∷ s .w3 ∷ []) 3 a
+    (words-back (s .w1) (s .w2 ∷ s .w3 ∷ []) 2 b (words-back (s .w2) (s .w3 ∷ []) 1 c (words-back (s .w3) [] 0 d refl)))
+
+pub length-words : (m : ℕ) → length (wordsOf m) ≡ wordCount
+unfolding wordsOf wordsIn
+length-words m = refl
