@@ -1,5 +1,5 @@
 -- What a mask says of the nodes of a face is what the marks say that it is the mask of.
-use mathlib.Core.Path.{_≡_, refl, ap, ap₂, _∙_}
+use mathlib.Core.Path.{_≡_, refl, ap, ap₂, sym, _∙_}
 use mathlib.Core.Logic.{_⊎_, inl, inr}
 use Prim.Native.Nat.{ℕ, zero, suc, _+_, _^_, _<_, _≤_}
 use native.Mathlib.Nat.{one-mul}
@@ -17,7 +17,8 @@ use Rattle.meaning.specs.Choice.{Mark, Marks, mark, rest, punchNode, punch}
 use Rattle.meaning.specs.PlaceValue.{maskOf}
 use Rattle.meaning.proofs.Lists.{never}
 use Rattle.meaning.proofs.PlaceLaws.{mask-small}
-use Rattle.masks.specs.Mask.{width, marks, first}
+use Rattle.masks.specs.Mask.{marks, first}
+use Rattle.masks.specs.Sets.{width}
 use Rattle.masks.proofs.Marks.{length-marks, marks-none, marks-low, marks-high}
 use Rattle.demands.specs.LowestMark.{LowestMark}
 use Rattle.demands.proofs.LowestNode.{Unmarked}
@@ -52,10 +53,14 @@ lowest-of (suc w) (none ∷ ms) i (suc j) h l =
     ap first (marks-front w none ms)
     ∙ ap suc (lowest-of w ms i j (omega arith) (record { marked = l .marked; before = λ k q. l .before (suc k) (omega arith) }))
 
+-- A set has room for the nodes of a face
+face-width : maxFaceNodes ≡ width
+unfolding maxFaceNodes width
+face-width = refl
+
 -- THE ACCESSOR: a node is marked just where it becomes a hole
 pub marked-means : (ms : Marks) (i : ℕ) → length ms ≤ maxFaceNodes → marked (maskOf maxFaceNodes ms) i ≡ holds isSome (getElem? ms i)
-unfolding marked maxFaceNodes
-marked-means ms i h = marks-of width ms i h
+marked-means ms i h = ap (λ (w : ℕ). getD (marks w (maskOf maxFaceNodes ms)) i false) (sym face-width) ∙ marks-of maxFaceNodes ms i h
 
 -- The same by the marks that are left from a node on, as `punch` goes through them
 mark-at : (ms : Marks) (i : ℕ) → holds isSome (getElem? ms i) ≡ isSome (mark (drop i ms))
@@ -82,8 +87,7 @@ punch-left ms i l c s =
 
 -- THE LOWEST NODE
 pub lowest-means : (ms : Marks) (i j : ℕ) → length ms ≤ maxFaceNodes → LowestMark i j ms → lowestMarked (maskOf maxFaceNodes ms) ≡ j
-unfolding lowestMarked maxFaceNodes
-lowest-means ms i j h l = lowest-of width ms i j h l
+lowest-means ms i j h l = ap (λ (w : ℕ). first (marks w (maskOf maxFaceNodes ms))) (sym face-width) ∙ lowest-of maxFaceNodes ms i j h l
 
 -- Some node is the lowest, or none is marked
 pub lowest-mark : (ms : Marks) → ((i j : ℕ) × (j < length ms) × LowestMark i j ms) ⊎ Unmarked (length ms) ms
