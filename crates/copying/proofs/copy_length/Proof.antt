@@ -2,6 +2,7 @@
 use mathlib.Core.Path.{sym, _∙_}
 use Prim.Native.Nat.{_+_, _-_}
 use native.Mathlib.Omega.{arith}
+use Rattle.masks.specs.Sets.{mask}
 use Rattle.tokens.specs.Key.{at}
 use Rattle.copying.proofs.FixedLaws.{fixed-short}
 use Rattle.copying.proofs.SpanLaws.{term-inside}
@@ -11,10 +12,10 @@ use Rattle.copying.proofs.copy_length.Statement.{statement}
 use Rattle.copying.proofs.copy_length.Tie as tie
 
 abbrev Inv-loop : tie.InvT-loop
-Inv-loop es node mask n total₀ i₀ total i = Measuring es node mask n total i
+Inv-loop es node set n total₀ i₀ total i = Measuring es node (mask set) n total i
 
 abbrev μ-loop : tie.MeasureT-loop
-μ-loop es node mask n total₀ i₀ total i = n - i
+μ-loop es node set n total₀ i₀ total i = n - i
 
 mul-size : tie.Need-mul-size Inv-loop μ-loop
 mul-size c = let inside = term-inside (c .before .pre .there) in search needs
@@ -37,8 +38,8 @@ mul-x c = search needs
 shared-slice-read-x : tie.Need-shared-slice-read-x Inv-loop μ-loop
 shared-slice-read-x c = search needs
 
-marked-requires : tie.Need-marked-requires Inv-loop μ-loop
-marked-requires c κs = search needs
+has-requires : tie.Need-has-requires Inv-loop μ-loop
+has-requires c κs = search needs
 
 add-total : tie.Need-add-total Inv-loop μ-loop
 add-total c = search needs
@@ -57,7 +58,7 @@ loop-less c =
 loop-again : tie.Need-loop-again Inv-loop μ-loop
 loop-again c =
     let l = c .before .before .before .before in
-    measure-passes (l .before .loop .inv) (l .loop-test .taken) (sym (c .before .before .marked .ensures) ∙ c .before .if1 .taken)
+    measure-passes (l .before .loop .inv) (l .loop-test .taken) (sym (c .before .before .has .ensures) ∙ c .before .if1 .taken)
     (c .size2 .ensures)
 
 fixed-length-requires : tie.Need-fixed-length-requires Inv-loop μ-loop
@@ -84,7 +85,7 @@ loop-less-2 c = search needs
 loop-again-2 : tie.Need-loop-again-2 Inv-loop μ-loop
 loop-again-2 c =
     let l = c .before .before .before .before in
-    measure-goes-on (l .before .loop .inv) (l .loop-test .taken) (sym (c .before .before .marked .ensures) ∙ c .before .if1 .left)
+    measure-goes-on (l .before .loop .inv) (l .loop-test .taken) (sym (c .before .before .has .ensures) ∙ c .before .if1 .left)
     (c .fixed-length .ensures)
 
 returns : tie.Need-returns Inv-loop μ-loop
@@ -103,7 +104,7 @@ copy-length-spec =
     add-x
     mul-x
     shared-slice-read-x
-    marked-requires
+    has-requires
     add-total
     size-requires-2
     add-i

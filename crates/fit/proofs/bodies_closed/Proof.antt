@@ -47,7 +47,8 @@ returns c =
     closed-fails (s .args .es .now) (s .args .firsts .nodes) (masksIn (s .args .t3)) (s .args .firsts .count) (a .loop .k)
     (omega (arith, s .pre .fits .array, s .pre .fits .count))
     (omega (arith, s .pre .masks, s .pre .fits .count)) (c .before .before .before .loop-test .taken)
-    (ap not (sym (read-mask (s .args .es .now) (s .args .firsts .nodes) (s .args .t3) (a .loop .k) (c .before .body-closed .ensures))) ∙ c .if1 .taken) ∙ a .loop .inv
+    (ap not (sym (read-mask (s .args .es .now) (s .args .firsts .nodes) (s .args .t3) (a .loop .k) (c .before .body-closed .ensures)))
+    ∙ c .if1 .taken) ∙ a .loop .inv
 
 add-k : tie.Need-add-k Inv-loop μ-loop
 add-k c = search needs
@@ -63,7 +64,8 @@ loop-again c =
     closed-next (s .args .es .now) (s .args .firsts .nodes) (masksIn (s .args .t3)) (s .args .firsts .count) (a .loop .k)
     (omega (arith, s .pre .fits .array, s .pre .fits .count))
     (omega (arith, s .pre .masks, s .pre .fits .count)) (c .before .before .before .loop-test .taken)
-    (ap not (sym (read-mask (s .args .es .now) (s .args .firsts .nodes) (s .args .t3) (a .loop .k) (c .before .body-closed .ensures))) ∙ c .if1 .left) ∙ a .loop .inv
+    (ap not (sym (read-mask (s .args .es .now) (s .args .firsts .nodes) (s .args .t3) (a .loop .k) (c .before .body-closed .ensures)))
+    ∙ c .if1 .left) ∙ a .loop .inv
 
 returns-2 : tie.Need-returns-2 Inv-loop μ-loop
 unfolding maxFunctions
