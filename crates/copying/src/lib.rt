@@ -15,7 +15,7 @@ ghost use Rattle.meaning.specs.Field.{symbolBytes, word};
 ghost use Rattle.tokens.specs.Token.{payloadIn};
 ghost use Rattle.copying.specs.Fixed.{fixedIn, aHole, HeadRoom, Wrote, NodeRoom, NodeWrote};
 ghost use Rattle.copying.specs.Copied.{Copyable, Copied, TermCopyable, CopiedTerm, TermsCopyable, CopiedTerms};
-ghost use Rattle.copying.specs.Measure.{Measurable, Measured};
+ghost use Rattle.copying.specs.Measure.{Measurable, TermMeasured, BodyMeasurable, Measured};
 
 // "hole, length 0"
 const HOLE: u8 = 10;
@@ -153,23 +153,31 @@ pub fn copy(es: &[u64], node: usize, set: NodeSet, out: &mut [u8]) -> usize
     copy_term(es, node, set, node, out)
 }
 
-// How many bytes `copy` writes. What stands below a hole is passed.
-pub fn copy_length(es: &[u64], node: usize, set: NodeSet) -> usize
+// How many bytes the term at a node has.
+pub fn term_length(es: &[u64], node: usize) -> usize
     requires { ⌜ Measurable (now es) node ⌝ }
-    ensures { λ r. ⌜ Measured (now (es .entry)) node (mask set) r ⌝ }
+    ensures { λ r. ⌜ TermMeasured (now (es .entry)) node r ⌝ }
 {
     let n = size(es[node]) as usize;
     let mut total = 0;
     let mut i = 0;
     while i < n {
-        let x = es[node + i];
-        if set.has(i) {
-            total += 3;
-            i += size(x) as usize;
-        } else {
-            total += 3 + fixed_length(x);
-            i += 1;
-        }
+        total += 3 + fixed_length(es[node + i]);
+        i += 1;
     }
     total
+}
+
+// How many bytes `copy` writes for a body. What its holes stand for has the same length at each, and a hole has 3 bytes: a body is its face
+// less what one hole saves, as often as it has holes.
+pub fn copy_length(es: &[u64], node: usize, set: NodeSet) -> usize
+    requires { ⌜ BodyMeasurable (now es) node (mask set) ⌝ }
+    ensures { λ r. ⌜ Measured (now (es .entry)) node (mask set) r ⌝ }
+{
+    let whole = term_length(es, node);
+    if set.is_empty() {
+        return whole;
+    }
+    let hole = term_length(es, node + set.lowest());
+    whole - set.holes() * (hole - 3)
 }
