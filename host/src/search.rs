@@ -101,7 +101,7 @@ impl<'p> Search<'p> {
 }
 
 impl fmt::Debug for Search<'_> {
-    /// How many solutions came before it, and the place: a mask for each function up to the last that is not 0.
+    /// How many solutions came before it, and the place: the set of holes of each function up to the last that has one.
     fn fmt(&self, f: &mut fmt::Formatter) -> fmt::Result {
         let place = shown::place(&self.place);
         write!(f, "Search {{ found: {}, place: {place} }}", self.found)

@@ -66,6 +66,7 @@ fn limits() -> Numbers {
         ("METAVARIABLES", matcher::METAVARIABLES),
         ("MAX_FUNCTIONS", matcher::MAX_FUNCTIONS),
         ("MAX_FACE_NODES", matcher::MAX_FACE_NODES),
+        ("SET_WORDS", matcher::SET_WORDS),
         ("PLACE_WORDS", matcher::PLACE_WORDS),
     ])
 }
@@ -107,7 +108,7 @@ fn sorted(mut numbers: Numbers) -> Numbers {
 
 #[test]
 fn the_header_defines_what_is_here_and_nothing_else() {
-    let version = named(&[("VERSION", 1)]);
+    let version = named(&[("VERSION", 2)]);
     let here = [version, tags(), limits(), answers(), refusals()].concat();
     assert_eq!(sorted(defined()), sorted(here));
 }
@@ -174,7 +175,10 @@ fn the_proved_library_has_the_same_limits_and_answers() {
 }
 
 #[test]
-fn a_place_has_a_word_for_each_function_and_one_more() {
+fn a_place_has_a_set_for_each_function_and_one_word_more() {
     let functions = in_rattle("crates/metavariables/src/lib.rt", "MAX_FUNCTIONS");
-    assert!(defined().contains(&("PLACE_WORDS".to_string(), functions + 1)));
+    let nodes = in_rattle("crates/faces/src/first.rt", "MAX_FACE_NODES");
+    let words = nodes.div_ceil(64);
+    assert!(defined().contains(&("SET_WORDS".to_string(), words)));
+    assert!(defined().contains(&("PLACE_WORDS".to_string(), words * functions + 1)));
 }
