@@ -55,7 +55,14 @@ fn problems() -> Vec<Vec<u8>> {
     let functions = || (0..8).map(|m| call(m, SYMBOL));
     let metavariables = || (8..32).map(Tree::Meta);
     let sixteen = |pattern: Tree, expression: Tree| problem(&vec![(pattern, expression); 16]);
-    let each = |of: &dyn Fn(u8) -> (Tree, Tree)| problem(&(0..8).map(of).collect::<Vec<_>>());
+    let some = |n: u8, of: &dyn Fn(u8) -> (Tree, Tree)| problem(&(0..n).map(of).collect::<Vec<_>>());
+    let each = |of: &dyn Fn(u8) -> (Tree, Tree)| some(8, of);
+    let three = |of: &dyn Fn(u8) -> (Tree, Tree)| some(3, of);
+    // 1 + 8 * 31 + 7 nodes
+    let branches = |level: Level| {
+        let branches = [vec![below(level, 30, SYMBOL); 8], vec![SYMBOL; 7]].concat();
+        Tree::Apply(branches)
+    };
     let mut problems: Vec<Vec<u8>> = deep()
         .into_iter()
         .map(|term| problem(&[(Tree::Meta(1), term)]))
@@ -76,6 +83,12 @@ fn problems() -> Vec<Vec<u8>> {
         )]),
         each(&|m| (call(m, SYMBOL), wide(63, SYMBOL))),
         each(&|m| (call(m, below(apply, 29, SYMBOL)), wide(63, SYMBOL))),
+        // faces of 256 nodes: wide, and deep with 8 branches
+        three(&|m| (call(m, SYMBOL), wide(255, SYMBOL))),
+        three(&|m| (call(m, Tree::Meta(8 + m)), wide(255, SYMBOL))),
+        three(&|m| (call(m, Tree::Meta(8 + m)), branches(apply))),
+        some(2, &|m| (call(m, Tree::Meta(8 + m)), branches(bind))),
+        problem(&[(call(0, SYMBOL), wide(256, SYMBOL))]),
         each(&|m| (call(m, below(bind, 30, Tree::Meta(8 + m))), below(bind, 30, SYMBOL))),
         problem(&[(
             below(apply, 15, call(0, below(apply, 15, Tree::Meta(1)))),
