@@ -31,6 +31,10 @@ pub struct Search<'p> {
 /// What one call of a search gives.
 #[derive(Clone, Debug, PartialEq, Eq, Hash)]
 #[must_use = "a solution that is not taken is lost: the search has moved past it"]
+#[expect(
+    clippy::large_enum_variant,
+    reason = "a step is taken apart at once, and a row on the heap would cost each Found an allocation"
+)]
 pub enum Step<'p> {
     /// The first solution at or after the place; the search has moved to the row after it.
     Found(Solution<'p>),

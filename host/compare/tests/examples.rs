@@ -239,21 +239,17 @@ fn limits() {
     refused(&[(call(P, call(Q, meta(X))), s(1))], Refusal::FunctionInArgument);
 }
 
-/// T-10: symbol 1 stands at three nodes of a face of 256, in the first, the second and the last word of its set. X's value is copied from
-/// the lowest hole, with the bound name that it has there.
+/// T-10: symbol 1 stands at three nodes of a face of 256, in the first, the second and the last word of its set.
 #[test]
 fn nodes_in_several_words() {
     let [first, second, last] = [63, 64, 255];
-    let face = |at: &dyn Fn(usize) -> Option<Tree>| {
-        let symbol = |node: usize| at(node).unwrap_or_else(|| s(1_000 + node as u32));
-        Tree::Apply((1..256).map(symbol).collect())
-    };
     let ones = |holes: &[usize]| {
-        face(&|node| match node {
-            _ if holes.contains(&node) => Some(hole()),
-            _ if [first, second, last].contains(&node) => Some(s(1)),
-            _ => None,
-        })
+        let term = |node: usize| match node {
+            _ if holes.contains(&node) => hole(),
+            _ if [first, second, last].contains(&node) => s(1),
+            _ => s(1_000 + node as u32),
+        };
+        Tree::Apply((1..256).map(term).collect())
     };
     let sets: [&[usize]; 8] = [
         &[first, second, last],
@@ -267,7 +263,12 @@ fn nodes_in_several_words() {
     ];
     let solutions = sets.map(|holes| vec![body(P, ones(holes))]);
     lists(&[(call(P, s(1)), ones(&[]))], &solutions);
-    // nodes 63 and 64, and 254 and 255, are a binder and its variable, with two names
+}
+
+/// T-10: nodes 63 and 64 of a face of 256, and 254 and 255, are a binder and its variable, with two names. X's value is copied from the
+/// lowest hole, with the name that it has there.
+#[test]
+fn a_value_from_the_lowest_hole_of_several_words() {
     let bound = |name: u16| all(name, v(name));
     let named = |at_63: Tree, at_254: Tree| {
         let before = (1..63).map(|k| s(1_000 + k));
