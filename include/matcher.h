@@ -39,7 +39,7 @@ extern "C" {
 #endif
 
 /* Of this header. It rises whenever a number, a layout or a function in it changes. */
-#define MATCHER_VERSION 1
+#define MATCHER_VERSION 2
 
 /* Fields. A field is a tag, 1 byte; the length of its content, 2 bytes, high byte first; and its content:
 
@@ -79,13 +79,16 @@ extern "C" {
 #define MATCHER_MAX_DEPTH 32
 #define MATCHER_METAVARIABLES 32
 #define MATCHER_MAX_FUNCTIONS 8
-#define MATCHER_MAX_FACE_NODES 64
+#define MATCHER_MAX_FACE_NODES 256
 
-/* A place is so many words: a mask for each of 8 functions by ascending metavariable number, then 0 for a row or 1 for past the last. Node k
-   of a function's face is bit 63 - k of its mask, set where the node is a hole; masks past the last function are 0. A row is a place that
-   names a row. Past the last is eight words 0 and then 1. Fewer words, or another ninth, are no such place. A buffer may have more: those
-   after the nine are neither read nor changed. */
-#define MATCHER_PLACE_WORDS 9
+/* The words of a set of nodes of a face: node 64 * i + j is bit 63 - j of word i, so that node 0 is the highest bit of the first. */
+#define MATCHER_SET_WORDS 4
+
+/* A place is so many words: the set of holes of each of 8 functions by ascending metavariable number, then 0 for a row or 1 for past the last.
+   So words 4 * k to 4 * k + 3 say which nodes of the k-th function's face, from 0, are holes; sets past the last function are empty. A row is
+   a place that names a row. Past the last is 32 words 0 and then 1. Fewer words, or another 33rd, are no such place. A buffer may have more:
+   those after the 33 are neither read nor changed. */
+#define MATCHER_PLACE_WORDS 33
 
 /* Done: what matcher_start and matcher_write answer when they do not refuse. */
 #define MATCHER_OK 0
@@ -141,7 +144,7 @@ static inline const char *matcher_meaning(uint32_t refusal) {
     case MATCHER_METAVARIABLE_OVER_31: return "a metavariable's number is over 31";
     case MATCHER_TOO_MANY_CONSTRAINTS: return "there is a 17th constraint";
     case MATCHER_TOO_MANY_FUNCTIONS: return "there are over 8 functions";
-    case MATCHER_FACE_TOO_LARGE: return "a function's first application faces over 64 nodes";
+    case MATCHER_FACE_TOO_LARGE: return "a function's first application faces over 256 nodes";
     case MATCHER_NO_ALLOWANCE: return "the allowance is 0";
     case MATCHER_NO_SUCH_PLACE: return "there is no such place or row in this problem";
     case MATCHER_NOT_A_SOLUTION: return "the row is not a solution row";

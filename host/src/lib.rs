@@ -61,6 +61,7 @@
 
 mod fields;
 mod filling;
+mod node_set;
 mod problem;
 pub mod raw;
 mod refusal;
@@ -72,8 +73,9 @@ mod term;
 mod verdict;
 
 pub use filling::{text_of, Given};
+pub use node_set::NodeSet;
 pub use problem::Problem;
-pub use raw::{LARGEST_PROBLEM, LARGEST_TEXT, LARGEST_WRITTEN, PLACE_WORDS};
+pub use raw::{LARGEST_PROBLEM, LARGEST_TEXT, LARGEST_WRITTEN, PLACE_WORDS, SET_WORDS};
 pub use raw::{MAX_CONSTRAINTS, MAX_DEPTH, MAX_FACE_NODES, MAX_FUNCTIONS, METAVARIABLES};
 pub use refusal::Refusal;
 pub use saved::{ResumeError, SAVED_BYTES};

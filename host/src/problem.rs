@@ -90,8 +90,8 @@ impl Problem {
     /// A search that goes on where another one was [suspended](Search::suspend), in this process or another.
     ///
     /// # Errors
-    /// The bytes are not those of a search of this problem, or are damaged. The search that they came from can still be
-    /// resumed from bytes that are not.
+    /// The bytes are not those of a search of this problem, were saved by a version of this crate whose places were shorter,
+    /// or are damaged. The search that they came from can still be resumed from bytes that are not.
     ///
     /// # Panics
     /// Only if the proved library answers what it is proved not to answer.
@@ -143,12 +143,15 @@ mod tests {
     #[test]
     fn a_place_that_is_made_up_is_told() {
         let problem = Problem::new(&[]).expect("no constraint is a problem");
-        let [mut mask, mut flag] = [problem.start; 2];
-        mask[0] = 1;
-        flag[PLACE_WORDS - 1] = 2;
-        for place in [mask, flag] {
+        for at in 0..PLACE_WORDS {
+            let mut place = problem.start;
+            place[at] = 2;
             let saved = saved::bytes(&place, 0, problem.bytes());
-            assert_eq!(problem.resume(&saved).err(), Some(ResumeError::NoSuchPlace));
+            assert_eq!(
+                problem.resume(&saved).err(),
+                Some(ResumeError::NoSuchPlace),
+                "word {at}"
+            );
         }
         let saved = saved::bytes(&problem.start, 0, problem.bytes());
         assert_eq!(problem.resume(&saved).map(Iterator::count), Ok(1));

@@ -26,12 +26,15 @@ pub const METAVARIABLES: usize = 32;
 pub const MAX_FUNCTIONS: usize = 8;
 
 /// The most nodes of a face, the expression that a function's first application shall equal.
-pub const MAX_FACE_NODES: usize = 64;
+pub const MAX_FACE_NODES: usize = 256;
 
-/// A place has so many words: a mask for each of 8 functions by ascending number, then 0 for a row or 1 for past the last.
-/// Node k of a function's face, a hole of its body, is bit 63 - k of its mask. A slice may have more: the place stands at its
-/// front, and later words are neither read nor changed.
-pub const PLACE_WORDS: usize = MAX_FUNCTIONS + 1;
+/// A set of nodes of a face has so many words: node 64 i + j is bit 63 - j of word i, so that node 0 is the highest bit of
+/// the first. [`NodeSet`](crate::NodeSet) lists the nodes.
+pub const SET_WORDS: usize = MAX_FACE_NODES / u64::BITS as usize;
+
+/// A place has so many words: the set of holes of each of 8 functions by ascending number, then 0 for a row or 1 for past
+/// the last. A slice may have more: the place stands at its front, and later words are neither read nor changed.
+pub const PLACE_WORDS: usize = SET_WORDS * MAX_FUNCTIONS + 1;
 
 /// Done: what [`start`] and [`write()`] answer when they do not refuse.
 pub const OK: u32 = 0;

@@ -46,7 +46,7 @@ refusals! {
     MetavariableOver31 = 10, "a metavariable's number is over 31";
     TooManyConstraints = 11, "there is a 17th constraint";
     TooManyFunctions = 13, "there are over 8 functions";
-    FaceTooLarge = 14, "a function's first application faces over 64 nodes";
+    FaceTooLarge = 14, "a function's first application faces over 256 nodes";
     NoAllowance = 15, "the allowance is 0";
     NoSuchPlace = 16, "there is no such place or row in this problem";
     NotASolution = 17, "the row is not a solution row";

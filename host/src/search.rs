@@ -31,6 +31,10 @@ pub struct Search<'p> {
 /// What one call of a search gives.
 #[derive(Clone, Debug, PartialEq, Eq, Hash)]
 #[must_use = "a solution that is not taken is lost: the search has moved past it"]
+#[expect(
+    clippy::large_enum_variant,
+    reason = "a step is taken apart at once, and a row on the heap would cost each Found an allocation"
+)]
 pub enum Step<'p> {
     /// The first solution at or after the place; the search has moved to the row after it.
     Found(Solution<'p>),
@@ -101,7 +105,7 @@ impl<'p> Search<'p> {
 }
 
 impl fmt::Debug for Search<'_> {
-    /// How many solutions came before it, and the place: a mask for each function up to the last that is not 0.
+    /// How many solutions came before it, and the place: the set of holes of each function up to the last that has one.
     fn fmt(&self, f: &mut fmt::Formatter) -> fmt::Result {
         let place = shown::place(&self.place);
         write!(f, "Search {{ found: {}, place: {place} }}", self.found)

@@ -1,5 +1,6 @@
 //! Bytes and places as `Debug` shows them: short, in hexadecimal.
 
+use crate::node_set::NodeSet;
 use crate::raw::{MAX_FUNCTIONS, PLACE_WORDS};
 
 /// Of more bytes than this only the first are shown.
@@ -15,13 +16,21 @@ pub(crate) fn bytes(bytes: &[u8]) -> String {
     digits
 }
 
-/// The masks of a place up to the last that is not 0.
+/// The sets of a place up to the last that is not empty.
 pub(crate) fn place(place: &[u64; PLACE_WORDS]) -> String {
-    let (masks, flag) = place.split_at(MAX_FUNCTIONS);
-    if flag != [0] {
+    if place[PLACE_WORDS - 1] != 0 {
         return "past the last".to_string();
     }
-    let holes = masks.iter().rposition(|mask| *mask != 0).map_or(0, |last| last + 1);
-    let masks: Vec<String> = masks[..holes].iter().map(|mask| format!("{mask:016X}")).collect();
-    format!("[{}]", masks.join(", "))
+    let mut sets: Vec<NodeSet> = (0..MAX_FUNCTIONS).map(|rank| NodeSet::in_place(place, rank)).collect();
+    let last = sets.iter().rposition(|set| !set.is_empty());
+    sets.truncate(last.map_or(0, |last| last + 1));
+    let sets: Vec<String> = sets.iter().map(set).collect();
+    format!("[{}]", sets.join(", "))
+}
+
+/// The words of a set, as far as there are nodes, and one at least.
+fn set(set: &NodeSet) -> String {
+    let words = set.words();
+    let last = words.iter().rposition(|word| *word != 0).unwrap_or(0);
+    words[..=last].iter().map(|word| format!("{word:016X}")).collect()
 }

@@ -2,8 +2,9 @@
 
 use crate::fields;
 use crate::filling::Given;
+use crate::node_set::NodeSet;
 use crate::problem::Problem;
-use crate::raw::{self, LARGEST_WRITTEN, MAX_FACE_NODES, PLACE_WORDS};
+use crate::raw::{self, LARGEST_WRITTEN, PLACE_WORDS};
 use crate::shown;
 use std::fmt;
 
@@ -56,12 +57,11 @@ impl<'p> Solution<'p> {
     pub fn holes(&self, metavariable: u8) -> Option<Vec<usize>> {
         let filling = self.filling();
         let mut functions = filling.iter().filter(|(_, given)| matches!(given, Given::Body(_)));
-        let mask = self.row[functions.position(|(number, _)| *number == metavariable)?];
-        let is_hole = |node: &usize| mask >> (MAX_FACE_NODES - 1 - node) & 1 == 1;
-        Some((0..MAX_FACE_NODES).filter(is_hole).collect())
+        let rank = functions.position(|(number, _)| *number == metavariable)?;
+        Some(NodeSet::in_place(&self.row, rank).nodes().collect())
     }
 
-    /// Its row in the form that the functions of [`raw`] take.
+    /// Its row in the form that the functions of [`raw`] take; [`NodeSet`] reads its sets of holes.
     #[must_use]
     pub fn row(&self) -> [u64; PLACE_WORDS] {
         self.row
@@ -81,9 +81,9 @@ impl<'p> Solution<'p> {
 }
 
 impl fmt::Debug for Solution<'_> {
-    /// Its number, and a mask of holes for each function up to the last that has one.
+    /// Its number, and the set of holes of each function up to the last that has one.
     fn fmt(&self, f: &mut fmt::Formatter) -> fmt::Result {
-        let masks = shown::place(&self.row);
-        write!(f, "Solution {{ number: {}, row: {masks} }}", self.number)
+        let holes = shown::place(&self.row);
+        write!(f, "Solution {{ number: {}, row: {holes} }}", self.number)
     }
 }

@@ -74,6 +74,6 @@ fn it_tells_what_is_wrong_and_loses_nothing() {
     assert!(told("1").contains("refused 3: a field's length goes past the enclosing end"));
     assert!(told("many").contains("COUNT is a number, not 'many'"));
     std::fs::write(&problem, []).unwrap();
-    assert!(told("1").contains("a suspended search has 100 bytes"));
+    assert!(told("1").contains("a suspended search has 292 bytes"));
     assert_eq!(std::fs::read(&saved).unwrap(), b"not a place");
 }

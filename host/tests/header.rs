@@ -66,6 +66,7 @@ fn limits() -> Numbers {
         ("METAVARIABLES", matcher::METAVARIABLES),
         ("MAX_FUNCTIONS", matcher::MAX_FUNCTIONS),
         ("MAX_FACE_NODES", matcher::MAX_FACE_NODES),
+        ("SET_WORDS", matcher::SET_WORDS),
         ("PLACE_WORDS", matcher::PLACE_WORDS),
     ])
 }
@@ -107,7 +108,7 @@ fn sorted(mut numbers: Numbers) -> Numbers {
 
 #[test]
 fn the_header_defines_what_is_here_and_nothing_else() {
-    let version = named(&[("VERSION", 1)]);
+    let version = named(&[("VERSION", 2)]);
     let here = [version, tags(), limits(), answers(), refusals()].concat();
     assert_eq!(sorted(defined()), sorted(here));
 }
@@ -154,7 +155,7 @@ fn in_rattle(path: &str, name: &str) -> usize {
 #[test]
 fn the_proved_library_has_the_same_limits_and_answers() {
     let here: BTreeMap<String, usize> = [limits(), answers(), refusals()].concat().into_iter().collect();
-    let sources: [(&str, &[&str]); 7] = [
+    let sources: [(&str, &[&str]); 6] = [
         (
             "tivagyesz/src/codes.rt",
             &["FOUND", "PAUSED", "END", "YES", "NO", "BUFFER_TOO_SHORT"],
@@ -164,7 +165,6 @@ fn the_proved_library_has_the_same_limits_and_answers() {
         ("listing/src/lib.rt", &["LARGEST_WRITTEN"]),
         ("fields/src/limit.rt", &["MAX_DEPTH"]),
         ("metavariables/src/lib.rt", &["METAVARIABLES", "MAX_FUNCTIONS"]),
-        ("faces/src/first.rt", &["MAX_FACE_NODES"]),
     ];
     for (path, names) in sources {
         for name in names {
@@ -174,7 +174,13 @@ fn the_proved_library_has_the_same_limits_and_answers() {
 }
 
 #[test]
-fn a_place_has_a_word_for_each_function_and_one_more() {
+fn a_place_has_a_set_for_each_function_and_one_word_more() {
     let functions = in_rattle("crates/metavariables/src/lib.rt", "MAX_FUNCTIONS");
-    assert!(defined().contains(&("PLACE_WORDS".to_string(), functions + 1)));
+    let [nodes, words] = ["WORD", "WORDS"].map(|name| in_rattle("crates/masks/src/lib.rt", name));
+    let expected = named(&[
+        ("MAX_FACE_NODES", nodes * words),
+        ("SET_WORDS", words),
+        ("PLACE_WORDS", words * functions + 1),
+    ]);
+    assert!(expected.iter().all(|number| defined().contains(number)), "{expected:?}");
 }

@@ -150,6 +150,85 @@ fn bytes_that_are_no_suspended_search_are_told() {
     assert_eq!(problem.resume(&saved).unwrap().count(), 4);
 }
 
+/// Searches of [`FOUR`] that this crate suspended before T-10, when places had nine words: at the start, after the first
+/// solution, and at the end. They are what `Search::suspend` of commit c4b30b8 gave.
+const EARLIER: [&str; 3] = [
+    "54565331EB62A82492F3AF1000000000000000008000000000000000\
+     000000000000000000000000000000000000000000000000000000000000000000000000\
+     0000000000000000000000000000000000000000000000000000000032551852A87E1182",
+    "54565331EB62A82492F3AF1000000000000000012000000000000000\
+     000000000000000000000000000000000000000000000000000000000000000000000000\
+     000000000000000000000000000000000000000000000000000000003E7055A44F3186F5",
+    "54565331EB62A82492F3AF1000000000000000040000000000000000\
+     000000000000000000000000000000000000000000000000000000000000000000000000\
+     0000000000000000000000000000000000000000000000000000000134F356030A067F69",
+];
+
+fn bytes(digits: &str) -> Vec<u8> {
+    let byte = |pair: &[u8]| {
+        std::str::from_utf8(pair)
+            .ok()
+            .and_then(|pair| u8::from_str_radix(pair, 16).ok())
+    };
+    let pairs = digits.as_bytes().chunks(2);
+    pairs.map(|pair| byte(pair).expect("two digits")).collect()
+}
+
+#[test]
+fn a_search_that_an_earlier_version_suspended_is_told() {
+    let problem = Problem::new(&FOUR).unwrap();
+    for saved in EARLIER.map(bytes) {
+        let error = problem.resume(&saved).unwrap_err();
+        assert_eq!(error, ResumeError::EarlierVersion);
+        assert_eq!(
+            error.to_string(),
+            "the search was suspended by an earlier version, whose places had 9 words and not 33"
+        );
+        // cut off or made longer, it is no search of any version
+        for length in [4, saved.len() - 1, SAVED_BYTES] {
+            let mut other = saved.clone();
+            other.resize(length, 0);
+            let told = if length == SAVED_BYTES {
+                ResumeError::Damaged
+            } else {
+                ResumeError::Length
+            };
+            assert_eq!(problem.resume(&other).unwrap_err(), told);
+        }
+    }
+}
+
+/// Symbols that are all different but for symbol 1, at these nodes of the application.
+fn ones_at(nodes: &[usize]) -> Term {
+    let symbol = |node| if nodes.contains(&node) { 1 } else { 1000 + node as u32 };
+    Term::application((1..=255).map(|node| Term::symbol(symbol(node))))
+}
+
+/// T-10: the face has 256 nodes, and a hole in each of its set's four words.
+#[test]
+fn holes_in_every_word() {
+    let nodes = [63, 64, 128, 255];
+    let problem = Problem::of([(Term::function(0, Term::symbol(1)), ones_at(&nodes))]).unwrap();
+    let mut search = problem.search();
+    let first = search.next().unwrap();
+    assert_eq!(first.holes(0), Some(nodes.to_vec()));
+    assert_eq!(
+        format!("{first:?}"),
+        "Solution { number: 1, row: [0000000000000001800000000000000080000000000000000000000000000001] }"
+    );
+    let saved = search.suspend();
+    let rest: Vec<_> = search.map(|solution| solution.holes(0).unwrap()).collect();
+    let resumed: Vec<_> = problem
+        .resume(&saved)
+        .unwrap()
+        .map(|solution| solution.holes(0).unwrap())
+        .collect();
+    assert_eq!(resumed, rest);
+    assert_eq!(rest.len(), 15);
+    assert_eq!(rest[0], [63, 64, 128]);
+    assert_eq!(rest[14], []);
+}
+
 #[test]
 fn texts_are_checked() {
     let problem = Problem::new(&TWO).unwrap();

@@ -93,7 +93,7 @@ fn the_matcher_refuses_what_is_wrong() {
             Refusal::FunctionInArgument,
         ),
         (Term::metavariable(32), s(1), Refusal::MetavariableOver31),
-        (Term::function(1, x()), symbols(64, 0), Refusal::FaceTooLarge),
+        (Term::function(1, x()), symbols(256, 0), Refusal::FaceTooLarge),
     ];
     for (pattern, expression, refusal) in cases {
         assert_eq!(Problem::of([(pattern, expression)]), Err(refusal));

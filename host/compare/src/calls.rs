@@ -6,7 +6,7 @@ use crate::random::Random;
 use crate::report::{differ, each_seed, same, Tally};
 use crate::subject::{words, Subject, Words, PAST, UNTOUCHED};
 use crate::tree;
-use matcher::raw::{END, FOUND, OK, PAUSED};
+use matcher::raw::{END, FOUND, OK, PAUSED, PLACE_WORDS};
 use second::Problem;
 use std::collections::HashMap;
 use std::ops::Range;
@@ -52,14 +52,24 @@ impl Rows {
 pub fn random(subject: &dyn Subject, seeds: Range<u64>) -> Result<Tally, String> {
     each_seed(seeds, |random, tally| {
         let problem = tree::problem(&generate::problem(random).constraints);
-        match Problem::read(&problem).ok().and_then(|read| Rows::of(&read)) {
-            Some(rows) => Calls::new(subject, &problem, &rows).run(random, tally),
-            None => {
-                tally.count("left out");
-                Ok(())
-            }
-        }
+        one_list(subject, &problem, random, tally)
     })
+}
+
+/// Makes a random list of calls on a problem.
+pub(crate) fn one_list(
+    subject: &dyn Subject,
+    problem: &[u8],
+    random: &mut Random,
+    tally: &mut Tally,
+) -> Result<(), String> {
+    match Problem::read(problem).ok().and_then(|read| Rows::of(&read)) {
+        Some(rows) => Calls::new(subject, problem, &rows).run(random, tally),
+        None => {
+            tally.count("left out");
+            Ok(())
+        }
+    }
 }
 
 /// A list of calls under way.
@@ -199,7 +209,9 @@ impl<'a> Calls<'a> {
         let before = self.place;
         let expected = if n == 0 { 15 } else { 18 };
         tally.count(format!("refused {expected}"));
-        let answer = self.subject.search(self.problem, &mut self.place, &mut row[..8], n);
+        let answer = self
+            .subject
+            .search(self.problem, &mut self.place, &mut row[..PLACE_WORDS - 1], n);
         same(self.problem, "a call with a short row buffer", answer, expected)?;
         same(self.problem, "the place of a refused call", self.place, before)?;
         same(self.problem, "the row buffer of a refused call", row, UNTOUCHED)

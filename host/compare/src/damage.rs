@@ -7,6 +7,7 @@ use crate::random::Random;
 use crate::report::{each_seed, same, Tally};
 use crate::subject::{Subject, UNTOUCHED};
 use crate::tree::{self, field, Tree};
+use matcher::raw::{MAX_FACE_NODES, PLACE_WORDS};
 use second::Problem;
 use std::ops::Range;
 
@@ -30,7 +31,7 @@ fn compare(subject: &dyn Subject, problem: &[u8], tally: &mut Tally) -> Result<(
 }
 
 /// Every entry point gives the refusal, whatever else it is given, and changes no buffer.
-fn everywhere(subject: &dyn Subject, problem: &[u8], refusal: u32) -> Result<(), String> {
+pub(crate) fn everywhere(subject: &dyn Subject, problem: &[u8], refusal: u32) -> Result<(), String> {
     let (mut place, mut row, mut out, mut written) = (UNTOUCHED, UNTOUCHED, [0xA5; 64], 77);
     same(problem, "a start", subject.start(problem, &mut place), refusal)?;
     same(
@@ -50,7 +51,7 @@ fn everywhere(subject: &dyn Subject, problem: &[u8], refusal: u32) -> Result<(),
     same(
         problem,
         "writing",
-        subject.write(problem, &[0; 9], &mut out, &mut written),
+        subject.write(problem, &[0; PLACE_WORDS], &mut out, &mut written),
         refusal,
     )?;
     same(problem, "checking no text", subject.check(problem, &[]), refusal)?;
@@ -134,11 +135,13 @@ fn crowd(random: &mut Random, made: &mut Made, tally: &mut Tally) {
                 .push((Tree::Apply(calls), Tree::Apply(vec![symbol(); usize::from(n)])));
         }
         _ => {
-            let n = random.between(60, 66);
+            let near = *random.pick(&[64, MAX_FACE_NODES, MAX_FACE_NODES]);
+            let n = random.between(near - 4, near + 2);
             let call = Tree::Call(random.below(32) as u8, Box::new(Tree::Symbol(9)));
             let many = (0..n).map(|k| Tree::Symbol(k as u32)).collect();
             made.constraints.insert(0, (call, Tree::Apply(many)));
-            if n > 63 && features::has(made, BOTH_WAYS) {
+            tally.add("a face of 65 to 256 nodes", usize::from((64..256).contains(&n)));
+            if n >= MAX_FACE_NODES && features::has(made, BOTH_WAYS) {
                 tally.count("a large face beside a letter used both ways");
             }
         }

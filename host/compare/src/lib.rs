@@ -1,8 +1,9 @@
 //! The proved matcher held against a second implementation, on the same problems.
 //!
 //! Each comparison is a function over a [`subject::Subject`], so that it can be tried on wrong matchers too ([`wrong`]):
-//! one that passes any of them would be no test. [`pairs`] and [`numbers`] are over what a program prints, with wrong ones of
-//! their own ([`wrong_pairs`], [`wrong_numbers`]). [`textbook`] has no second implementation: it tries everything that a definition speaks of.
+//! one that passes any of them would be no test. [`large`] has wrong ones of its own ([`wrong_sets`]). [`pairs`] and [`numbers`]
+//! are over what a program prints, with wrong ones of their own too ([`wrong_pairs`], [`wrong_numbers`]). [`textbook`] has no
+//! second implementation: it tries everything that a definition speaks of.
 
 #![forbid(unsafe_code)]
 #![warn(missing_docs)]
@@ -14,6 +15,7 @@ pub mod damage;
 pub mod features;
 pub mod generate;
 pub mod hex;
+pub mod large;
 pub mod lists;
 pub mod nameless;
 pub mod nodes;
@@ -32,11 +34,12 @@ pub mod vectors;
 pub mod wrong;
 pub mod wrong_numbers;
 pub mod wrong_pairs;
+pub mod wrong_sets;
 
 /// A comparison of random inputs, one for each seed.
 pub type Comparison = fn(&dyn subject::Subject, std::ops::Range<u64>) -> Result<report::Tally, String>;
 
-/// All of them, with their names.
+/// All of them but [`large`], of which a seed takes far longer, with their names.
 pub const COMPARISONS: [(&str, Comparison); 6] = [
     ("lists", lists::random),
     ("calls", calls::random),

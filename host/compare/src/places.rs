@@ -6,9 +6,9 @@ use crate::hex::hex;
 use crate::lists::MOST_ROWS;
 use crate::random::Random;
 use crate::report::{each_seed, same, Tally};
-use crate::subject::{named, place, with_front, words, Subject, PAST, UNTOUCHED};
+use crate::subject::{named, place, with_front, words, Subject, Words, PAST, UNTOUCHED};
 use crate::tree;
-use matcher::raw::{END, FOUND, LARGEST_TEXT, OK, PLACE_WORDS};
+use matcher::raw::{END, FOUND, LARGEST_TEXT, OK, PLACE_WORDS, SET_WORDS};
 use second::{Problem, Row, Solution};
 use std::ops::Range;
 
@@ -19,17 +19,41 @@ const PLACES: usize = 8;
 pub fn random(subject: &dyn Subject, seeds: Range<u64>) -> Result<Tally, String> {
     each_seed(seeds, |random, tally| {
         let problem = tree::problem(&generate::problem(random).constraints);
-        let Some(known) = Known::of(&problem) else {
-            return Ok(());
-        };
-        for _ in 0..PLACES {
-            let place = known.some_place(random);
-            known.started(subject, &place, tally)?;
-            known.searched(subject, &place, random, tally)?;
-            known.written(subject, &place, random, tally)?;
-        }
-        Ok(())
+        some_places(subject, &problem, random, tally)
     })
+}
+
+/// Hands random words to a problem.
+pub(crate) fn some_places(
+    subject: &dyn Subject,
+    problem: &[u8],
+    random: &mut Random,
+    tally: &mut Tally,
+) -> Result<(), String> {
+    let Some(known) = Known::of(problem) else {
+        return Ok(());
+    };
+    for _ in 0..PLACES {
+        let place = known.some_place(random);
+        known.started(subject, &place, tally)?;
+        known.searched(subject, &place, random, tally)?;
+        known.written(subject, &place, random, tally)?;
+    }
+    Ok(())
+}
+
+/// Changes some of the places: any bit, one of the first nodes of a function, a word, or two words of a set for each other.
+fn bend(random: &mut Random, place: &mut Words) {
+    match random.below(8) {
+        0 => place[random.below(PLACE_WORDS)] ^= 1 << random.below(64),
+        1 => place[SET_WORDS * random.below(4)] ^= 1 << random.between(52, 63),
+        2 => place[random.below(PLACE_WORDS)] = random.word(),
+        3 => {
+            let set = SET_WORDS * random.below(2);
+            place.swap(set + random.below(SET_WORDS), set + random.below(SET_WORDS));
+        }
+        _ => (),
+    }
 }
 
 /// A problem with its rows and its list.
@@ -66,15 +90,12 @@ impl Known<'_> {
         if !self.solutions.is_empty() && random.once_in(3) {
             place = words(&random.pick(&self.solutions).row);
         }
-        match random.below(6) {
-            0 => place[random.below(PLACE_WORDS)] ^= 1 << random.below(64),
-            1 => place[random.below(4)] ^= 1 << random.between(52, 63),
-            2 => place[random.below(PLACE_WORDS)] = random.word(),
-            _ => (),
-        }
+        bend(random, &mut place);
         let mut place = place.to_vec();
         if random.once_in(8) {
-            place.resize(*random.pick(&[0, 8, 10, 12]), random.word());
+            // 9 words were a place before T-10
+            let lengths = [0, 9, PLACE_WORDS - 1, PLACE_WORDS + 1, PLACE_WORDS + 3];
+            place.resize(*random.pick(&lengths), random.word());
         }
         place
     }

@@ -1,7 +1,7 @@
 //! What is tested: the proved matcher, or a wrong one in its place.
 
-use matcher::raw::{self, PLACE_WORDS};
-use second::{Problem, Row};
+use matcher::raw::{self, MAX_FUNCTIONS, PLACE_WORDS, SET_WORDS};
+use second::{Choice, Problem, Row};
 
 /// The entry points of a matcher, as `matcher::raw` has them.
 pub trait Subject {
@@ -40,18 +40,30 @@ impl Subject for Proved {
 pub type Words = [u64; PLACE_WORDS];
 
 /// Past the last.
-pub const PAST: Words = [0, 0, 0, 0, 0, 0, 0, 0, 1];
+pub const PAST: Words = {
+    let mut words = [0; PLACE_WORDS];
+    words[PLACE_WORDS - 1] = 1;
+    words
+};
 
 /// Words that no call should leave in a buffer that it fills.
 pub const UNTOUCHED: Words = [0xA5A5_A5A5_A5A5_A5A5; PLACE_WORDS];
 
-/// The words of a row: node k of a face is bit 63 - k of its function's mask.
+/// The words of a row: node 64 i + j of a face is bit 63 - j of word i of its function's set.
 pub fn words(row: &Row) -> Words {
     let mut words = [0; PLACE_WORDS];
-    for (word, choice) in words.iter_mut().zip(row) {
-        *word = choice.iter().map(|node| 1 << (63 - node)).sum();
+    for (set, choice) in words.chunks_exact_mut(SET_WORDS).zip(row) {
+        for node in choice {
+            set[node / 64] |= 1 << (63 - node % 64);
+        }
     }
     words
+}
+
+/// The choice that the words of a set are.
+fn choice(set: &[u64]) -> Choice {
+    let has = |node: &usize| set[node / 64] >> (63 - node % 64) & 1 == 1;
+    (0..64 * set.len()).filter(has).collect()
 }
 
 /// The words of a buffer with a place put at its front.
@@ -70,11 +82,8 @@ pub fn named(read: &Problem, words: &[u64]) -> Option<Option<Row>> {
     if place == PAST {
         return Some(None);
     }
-    let functions = read.functions().len();
-    if place[functions..].iter().any(|word| *word != 0) {
-        return None;
-    }
-    let nodes = |word: u64| (0..64).filter(|node| word >> (63 - node) & 1 == 1).collect();
-    let row: Row = place[..functions].iter().map(|word| nodes(*word)).collect();
-    read.is_row(&row).then_some(Some(row))
+    let mut row: Row = place.chunks_exact(SET_WORDS).take(MAX_FUNCTIONS).map(choice).collect();
+    let others = row.split_off(read.functions().len());
+    let rest_is_0 = others.iter().all(Choice::is_empty) && place[PLACE_WORDS - 1] == 0;
+    (rest_is_0 && read.is_row(&row)).then_some(Some(row))
 }

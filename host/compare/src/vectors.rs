@@ -1,11 +1,12 @@
 //! What the vectors' programs and `readings` print, from the second implementation.
 //!
-//! Only the form of the lines is theirs: `crates/vectors/src/main.rt`, `crates/vectors_texts/src/main.rt` and the modules that this one
-//! names describe it.
+//! Only the form of the lines is theirs: `src/main.rt` of `crates/vectors`, `crates/vectors_texts` and `crates/vectors_calls` and the
+//! modules that they name describe it.
 
 use crate::calls::Rows;
 use crate::hex::{bytes, hex};
 use crate::subject::{named, Words, PAST};
+use matcher::raw::{LARGEST_TEXT, PLACE_WORDS};
 use second::{Compared, Kind, Problem};
 
 /// The allowance of `readings`, and the most solutions that it prints.
@@ -36,8 +37,8 @@ pub fn readings(problem: &[u8]) -> String {
         lines += &format!("solution {}:{}\n", k + 1, hex(&solution.text));
         passed = at + 1;
     }
-    let rows = read.row_count().expect("no more rows are asked for");
-    let last = if rows - passed > ALLOWANCE { "paused" } else { "end" };
+    let pauses = read.row_count().is_none_or(|rows| rows - passed > ALLOWANCE);
+    let last = if pauses { "paused" } else { "end" };
     lines + &format!("{last} {}\n", solutions.len())
 }
 
@@ -99,23 +100,30 @@ pub fn texts_numbered(input: &str, numbers: impl Fn(&[u8]) -> Numbers) -> String
 }
 
 fn text_line(line: &str, says: impl Fn(&[u8], usize, usize) -> Said, numbers: impl Fn(&[u8]) -> Numbers) -> String {
-    let parts = letter(line).and_then(|(kind, rest)| {
-        let (problem, rest) = part(rest)?;
-        let (text, label) = part(rest)?;
-        Some((kind, problem, text, label))
-    });
-    match parts {
+    match parts(line) {
         Some(('S', problem, text, label)) if text.is_empty() => format!("{label}\n{}", readings(&problem)),
         Some(('C', problem, text, label)) => format!("{label}: {}\n", verdict(&problem, &text)),
-        Some(('W', problem, asked, label)) => match Asked::of(&asked) {
-            Some(asked) => format!("{label}: {}\n", written(&problem, &asked)),
-            None => bad(label) + "\n",
-        },
         Some(('N', problem, asked, label)) => match nodes(&asked) {
             Some((a, b)) => format!("{label}: {}\n", pair(says(&problem, a, b))),
             None => bad(label) + "\n",
         },
         Some(('A', problem, text, label)) if text.is_empty() => format!("{label}: {}\n", lowest(numbers(&problem))),
+        Some((_, _, _, label)) => bad(label) + "\n",
+        None => bad(line) + "\n",
+    }
+}
+
+/// What the program `vectors_calls` prints for its input.
+pub fn calls(input: &str) -> String {
+    input.lines().map(call_line).collect()
+}
+
+fn call_line(line: &str) -> String {
+    match parts(line) {
+        Some(('W', problem, asked, label)) => match Asked::of(&asked) {
+            Some(asked) => format!("{label}: {}\n", written(&problem, &asked)),
+            None => bad(label) + "\n",
+        },
         Some(('L' | 'H', problem, calls, label)) if calls.len() % 5 == 0 => {
             format!("{label}\n{}", held(&problem, &calls))
         }
@@ -181,7 +189,7 @@ fn held(problem: &[u8], calls: &[u8]) -> String {
 
 fn answered(rows: &Rows, answer: Answer) -> String {
     match answer {
-        Answer::Found(row) => format!("found {}", masks(&rows.places[row])),
+        Answer::Found(row) => format!("found {}", sets(&rows.places[row])),
         Answer::Paused => "paused".to_string(),
         Answer::End => "end".to_string(),
         Answer::Refused(refusal) => format!("refused {refusal}"),
@@ -192,12 +200,13 @@ fn holds(place: &Words) -> String {
     if *place == PAST {
         return "holds past the last".to_string();
     }
-    format!("holds {}", masks(place))
+    format!("holds {}", sets(place))
 }
 
-/// The masks of a row.
-fn masks(place: &Words) -> String {
-    place[..8].iter().map(u64::to_string).collect::<Vec<_>>().join(" ")
+/// The sets of a row, each as its words.
+fn sets(place: &Words) -> String {
+    let words = place[..PLACE_WORDS - 1].iter().map(u64::to_string);
+    words.collect::<Vec<_>>().join(" ")
 }
 
 /// A list of calls, each of 4 bytes: how many Founds, whether there is an End, and the rows of the Founds.
@@ -208,7 +217,7 @@ fn list(problem: &[u8], calls: &[u8]) -> String {
             let (answer, next) = call(rows, at, allowance(asked));
             at = next;
             match answer {
-                Answer::Found(row) => found.push(masks(&rows.places[row]) + "\n"),
+                Answer::Found(row) => found.push(sets(&rows.places[row]) + "\n"),
                 Answer::End => ended = true,
                 Answer::Paused | Answer::Refused(_) => (),
             }
@@ -233,19 +242,20 @@ struct Asked {
 }
 
 impl Asked {
-    /// A mask of 8 bytes for each of 8 functions, a byte that is 1 past the last and else 0, a length of 2 bytes.
+    /// The words of a place, of 8 bytes each but for the last, which has one and is 1 past the last and else 0; a length of 2 bytes.
     fn of(bytes: &[u8]) -> Option<Asked> {
-        if bytes.len() != 67 || bytes[64] > 1 {
+        const PAST: usize = 8 * (PLACE_WORDS - 1);
+        if bytes.len() != PAST + 3 || bytes[PAST] > 1 {
             return None;
         }
         let number = |part: &[u8]| part.iter().fold(0, |n, byte| n << 8 | u64::from(*byte));
-        let mut place = [0; 9];
-        for (word, mask) in place.iter_mut().zip(bytes[..64].chunks(8)) {
-            *word = number(mask);
+        let mut place = [0; PLACE_WORDS];
+        for (word, part) in place.iter_mut().zip(bytes[..PAST].chunks(8)) {
+            *word = number(part);
         }
-        place[8] = u64::from(bytes[64]);
-        let room = number(&bytes[65..]) as usize;
-        (room <= matcher::LARGEST_TEXT).then_some(Asked { place, room })
+        place[PLACE_WORDS - 1] = u64::from(bytes[PAST]);
+        let room = number(&bytes[PAST + 1..]) as usize;
+        (room <= LARGEST_TEXT).then_some(Asked { place, room })
     }
 }
 
@@ -307,6 +317,14 @@ fn lowest(numbers: Numbers) -> String {
         Ok(nodes) if nodes.is_empty() => "none".to_string(),
         Ok(nodes) => nodes.iter().map(usize::to_string).collect::<Vec<_>>().join(" "),
     }
+}
+
+/// A line's kind, problem, text and label.
+fn parts(line: &str) -> Option<(char, Vec<u8>, Vec<u8>, &str)> {
+    let (kind, rest) = letter(line)?;
+    let (problem, rest) = part(rest)?;
+    let (text, label) = part(rest)?;
+    Some((kind, problem, text, label))
 }
 
 /// The letter that a line begins with, and what stands after the space behind it.

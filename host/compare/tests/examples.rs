@@ -1,4 +1,4 @@
-//! Document 01's examples, and those of T-05, T-07 and T-09, worked out by hand: what the proved matcher lists and says of a
+//! Document 01's examples, and those of T-05, T-07, T-09 and T-10, worked out by hand: what the proved matcher lists and says of a
 //! text, and what the second implementation does.
 
 use compare::tree::{self, Entry, Tree};
@@ -222,21 +222,69 @@ fn deep(depth: usize) -> Tree {
 #[test]
 fn limits() {
     let many = |nodes: usize| Tree::Apply((1..nodes).map(|k| s(k as u32)).collect());
-    let with_hole = |k: usize| {
-        let mut term = many(64);
-        *term.node_mut(k) = hole();
-        term
-    };
-    lists(
-        &[(call(P, s(63)), many(64))],
-        &[vec![body(P, with_hole(63))], vec![body(P, many(64))]],
-    );
-    refused(&[(call(P, s(63)), many(65))], Refusal::FaceTooLarge);
+    // each hole is the only node with its symbol
+    for (nodes, k) in [(64, 63), (65, 64), (65, 63), (256, 255), (256, 192), (256, 1)] {
+        let mut with_hole = many(nodes);
+        *with_hole.node_mut(k) = hole();
+        lists(
+            &[(call(P, s(k as u32)), many(nodes))],
+            &[vec![body(P, with_hole)], vec![body(P, many(nodes))]],
+        );
+    }
+    refused(&[(call(P, s(63)), many(257))], Refusal::FaceTooLarge);
     lists(&[(meta(X), deep(32))], &[vec![value(X, deep(32))]]);
     refused(&[(meta(X), deep(33))], Refusal::TooDeep);
     lists(&vec![(meta(X), s(1)); 16], &[vec![value(X, s(1))]]);
     refused(&vec![(meta(X), s(1)); 17], Refusal::TooManyConstraints);
     refused(&[(call(P, call(Q, meta(X))), s(1))], Refusal::FunctionInArgument);
+}
+
+/// T-10: symbol 1 stands at three nodes of a face of 256, in the first, the second and the last word of its set.
+#[test]
+fn nodes_in_several_words() {
+    let [first, second, last] = [63, 64, 255];
+    let ones = |holes: &[usize]| {
+        let term = |node: usize| match node {
+            _ if holes.contains(&node) => hole(),
+            _ if [first, second, last].contains(&node) => s(1),
+            _ => s(1_000 + node as u32),
+        };
+        Tree::Apply((1..256).map(term).collect())
+    };
+    let sets: [&[usize]; 8] = [
+        &[first, second, last],
+        &[first, second],
+        &[first, last],
+        &[first],
+        &[second, last],
+        &[second],
+        &[last],
+        &[],
+    ];
+    let solutions = sets.map(|holes| vec![body(P, ones(holes))]);
+    lists(&[(call(P, s(1)), ones(&[]))], &solutions);
+}
+
+/// T-10: nodes 63 and 64 of a face of 256, and 254 and 255, are a binder and its variable, with two names. X's value is copied from the
+/// lowest hole, with the name that it has there.
+#[test]
+fn a_value_from_the_lowest_hole_of_several_words() {
+    let bound = |name: u16| all(name, v(name));
+    let named = |at_63: Tree, at_254: Tree| {
+        let before = (1..63).map(|k| s(1_000 + k));
+        let between = (65..254).map(|k| s(1_000 + k));
+        Tree::Apply(before.chain([at_63]).chain(between).chain([at_254]).collect())
+    };
+    let problem = [
+        (call(P, meta(X)), named(bound(5), bound(7))),
+        (call(P, s(3)), named(s(3), s(3))),
+    ];
+    lists(&problem, &[vec![body(P, named(hole(), hole())), value(X, bound(5))]]);
+    let problem = [
+        (call(P, meta(X)), named(bound(5), bound(7))),
+        (call(P, s(3)), named(bound(5), s(3))),
+    ];
+    lists(&problem, &[vec![body(P, named(bound(5), hole())), value(X, bound(7))]]);
 }
 
 /// T-05: 65,541 has four bytes and the low half 5, but is not 5.
@@ -304,7 +352,7 @@ fn bound_names_are_free() {
 /// T-09: a rule in which P stands both as a function and alone fits nothing, and no text passes.
 #[test]
 fn a_letter_both_ways() {
-    let large = Tree::Apply((1..65).map(s).collect());
+    let large = Tree::Apply((1..257).map(s).collect());
     let itself = (call(P, meta(P)), s(1));
     let problems = [
         vec![itself.clone()],

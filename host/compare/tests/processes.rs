@@ -4,7 +4,7 @@ use compare::generate;
 use compare::hex::hex;
 use compare::random::Random;
 use compare::report::differ;
-use compare::tree;
+use compare::tree::{self, Tree};
 use second::Problem;
 use std::io::Write;
 use std::process::{Command, Stdio};
@@ -81,4 +81,18 @@ fn the_same_list_from_many_processes() {
         solutions >= 100 && pauses >= 100,
         "only {solutions} solutions and {pauses} pauses"
     );
+}
+
+/// T-10: a face of 256 nodes, where symbol 1 stands in three words of its set.
+#[test]
+fn the_same_list_of_a_large_face() {
+    let symbol = |node: u32| Tree::Symbol(if [63, 64, 255].contains(&node) { 1 } else { 1_000 + node });
+    let face = Tree::Apply((1..256).map(symbol).collect());
+    let problem = tree::problem(&[(Tree::Call(0, Box::new(Tree::Symbol(1))), face)]);
+    let read = Problem::read(&problem).expect("it is accepted");
+    let solutions = read.solutions(8).expect("one for each set of the three nodes");
+    let expected: Vec<String> = solutions.iter().map(|s| hex(&s.text)).collect();
+    let (texts, pauses) = listed(&problem, &mut Random::new(0));
+    assert_eq!(texts, expected, "{}", differ(&problem, "the list"));
+    assert!(texts.len() == 8 && pauses >= 50, "{} and {pauses}", texts.len());
 }

@@ -4,7 +4,7 @@
 use compare::features::{BOTH_WAYS, FEATURES};
 use compare::report::Tally;
 use compare::subject::Proved;
-use compare::{calls, damage, lists, places, textbook, texts};
+use compare::{calls, damage, large, lists, places, textbook, texts};
 
 /// The comparison holds, and met at least so many of each case.
 fn met(compared: Result<Tally, String>, cases: &[(&str, usize)]) {
@@ -48,6 +48,7 @@ fn damaged_problems_agree() {
     let refusals = (1..=11).chain([13, 14, 25]);
     let mut cases: Vec<(String, usize)> = refusals.map(|refusal| (format!("refused {refusal}"), 50)).collect();
     cases.push(("problems".to_string(), 3_000));
+    cases.push(("a face of 65 to 256 nodes".to_string(), 500));
     cases.push(("a large face beside a letter used both ways".to_string(), 50));
     let cases: Vec<(&str, usize)> = cases.iter().map(|(case, least)| (&case[..], *least)).collect();
     met(damage::random(&Proved, 200_000..230_000), &cases);
@@ -83,6 +84,30 @@ fn places_and_rows_agree() {
         ("refused 18", 500),
     ];
     met(places::random(&Proved, 400_000..404_000), &cases);
+}
+
+/// T-10: each seed takes as long as some hundreds of the others.
+#[test]
+fn large_faces_agree() {
+    let nodes: Vec<String> = [63, 64, 65, 128, 129, 192, 193, 255, 256, 257]
+        .iter()
+        .map(|n| format!("{n} nodes"))
+        .collect();
+    let words: Vec<String> = (0..4).map(|word| format!("copies in word {word}")).collect();
+    let mut cases: Vec<(&str, usize)> = nodes.iter().map(|case| (&case[..], 8)).collect();
+    cases.extend(words.iter().map(|case| (&case[..], 80)));
+    cases.extend([
+        ("copies in every word", 30),
+        ("refused 14", 8),
+        ("problems", 60),
+        ("solutions", 2_000),
+        ("lists", 60),
+        ("found", 1_000),
+        ("paused", 1_000),
+        ("place", 200),
+        ("no place", 50),
+    ]);
+    met(large::random(&Proved, 700_000..700_400), &cases);
 }
 
 #[test]

@@ -50,12 +50,30 @@ fn deep() -> Vec<Tree> {
         .collect()
 }
 
+/// A problem of so many functions, each with what it faces.
+fn functions(n: u8, of: &dyn Fn(u8) -> (Tree, Tree)) -> Vec<u8> {
+    problem(&(0..n).map(of).collect::<Vec<_>>())
+}
+
+/// Faces of 256 nodes: wide ones, and eight branches that are as deep as they may be; and one node more.
+fn large() -> Vec<Vec<u8>> {
+    let branches = |level: Level| Tree::Apply([vec![below(level, 30, SYMBOL); 8], vec![SYMBOL; 7]].concat());
+    let value = |m: u8| Tree::Meta(8 + m);
+    vec![
+        functions(3, &|m| (call(m, SYMBOL), wide(255, SYMBOL))),
+        functions(3, &|m| (call(m, value(m)), wide(255, SYMBOL))),
+        functions(3, &|m| (call(m, value(m)), branches(apply))),
+        functions(2, &|m| (call(m, value(m)), branches(bind))),
+        functions(1, &|m| (call(m, SYMBOL), wide(256, SYMBOL))),
+    ]
+}
+
 fn problems() -> Vec<Vec<u8>> {
     let nested = below(apply, 29, SYMBOL);
-    let functions = || (0..8).map(|m| call(m, SYMBOL));
+    let calls = || (0..8).map(|m| call(m, SYMBOL));
     let metavariables = || (8..32).map(Tree::Meta);
     let sixteen = |pattern: Tree, expression: Tree| problem(&vec![(pattern, expression); 16]);
-    let each = |of: &dyn Fn(u8) -> (Tree, Tree)| problem(&(0..8).map(of).collect::<Vec<_>>());
+    let each = |of: &dyn Fn(u8) -> (Tree, Tree)| functions(8, of);
     let mut problems: Vec<Vec<u8>> = deep()
         .into_iter()
         .map(|term| problem(&[(Tree::Meta(1), term)]))
@@ -71,7 +89,7 @@ fn problems() -> Vec<Vec<u8>> {
         problem(&[(Tree::Meta(1), wide(817, SYMBOL))]),
         sixteen(nested.clone(), nested.clone()),
         problem(&[(
-            Tree::Apply(functions().chain(metavariables()).collect()),
+            Tree::Apply(calls().chain(metavariables()).collect()),
             Tree::Apply([vec![wide(3, SYMBOL); 8], vec![nested.clone(); 24]].concat()),
         )]),
         each(&|m| (call(m, SYMBOL), wide(63, SYMBOL))),
@@ -148,9 +166,9 @@ fn in_little_stack(number: usize, problem: &[u8], texts: &[Vec<u8>]) -> Answers 
 fn every_entry_point_needs_little_stack() {
     let texts = texts();
     let (mut accepted, mut refused, mut written) = (0, 0, 0);
-    for (number, problem) in problems().iter().enumerate() {
-        let answers = in_little_stack(number, problem, &texts);
-        let expected: Vec<u32> = match Problem::read(problem) {
+    for (number, problem) in problems().into_iter().chain(large()).enumerate() {
+        let answers = in_little_stack(number, &problem, &texts);
+        let expected: Vec<u32> = match Problem::read(&problem) {
             Err(refusal) => {
                 refused += 1;
                 assert_eq!(answers.start, u32::from(refusal), "problem {number}");

@@ -30,6 +30,12 @@ fn vectors_texts() {
 }
 
 #[test]
+fn vectors_calls() {
+    let input = String::from_utf8(stored("vectors_calls/stdin")).expect("the vectors are text");
+    same_lines(&vectors::calls(&input), &stored("vectors_calls/stdout"));
+}
+
+#[test]
 fn readings() {
     same_lines(
         &vectors::readings(&stored("readings/stdin")),

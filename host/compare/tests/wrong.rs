@@ -2,10 +2,14 @@
 
 use compare::subject::Proved;
 use compare::wrong::Wrong;
-use compare::COMPARISONS;
+use compare::wrong_sets::WrongSets;
+use compare::{large, COMPARISONS};
 use std::ops::Range;
 
 const SEEDS: Range<u64> = 500_000..501_000;
+
+/// For large faces.
+const FEW_SEEDS: Range<u64> = 500_000..500_150;
 
 /// The proved matcher passes here: what is caught below is the fault and nothing else.
 fn the_proved_one_passes() {
@@ -32,5 +36,16 @@ fn every_wrong_matcher_is_caught() {
             .iter()
             .any(|(_, comparison)| comparison(&wrong, SEEDS).is_err());
         assert!(caught, "nothing catches {wrong:?}");
+    }
+}
+
+#[test]
+fn every_wrong_set_of_nodes_is_caught() {
+    large::random(&Proved, FEW_SEEDS).unwrap_or_else(|difference| panic!("{difference}"));
+    for wrong in [Wrong::Refuses, Wrong::Ends] {
+        assert!(large::random(&wrong, FEW_SEEDS).is_err(), "it passes {wrong:?}");
+    }
+    for wrong in WrongSets::ALL {
+        assert!(large::random(&wrong, FEW_SEEDS).is_err(), "it passes {wrong:?}");
     }
 }

@@ -1,11 +1,12 @@
 //! A second, independent matcher for patterns with one-place functions.
 //!
 //! It renders the definitions of document 01, as request T-05 widens them, T-07
-//! puts a text's fields in number order and T-09 changes them for a letter used
-//! both ways, by the Huet–Lang procedure of document 001 on named terms, and is
-//! there to be compared with another matcher. By request T-02 a comparison of
-//! two subexpressions says how far it went, and by T-08 equal ones have the same
-//! number. Errors are the documents' refusal numbers.
+//! puts a text's fields in number order, T-09 changes them for a letter used
+//! both ways and T-10 lets faces have 256 nodes, by the Huet–Lang procedure of
+//! document 001 on named terms, and is there to be compared with another
+//! matcher. By request T-02 a comparison of two subexpressions says how far it
+//! went, and by T-08 equal ones have the same number. Errors are the documents'
+//! refusal numbers.
 
 #![forbid(unsafe_code)]
 #![warn(missing_docs)]

@@ -8,6 +8,8 @@
 //! T-09 withdraws 12. A problem in which a letter stands both as a function and
 //! alone "has by definition no solutions", "and so no rows; 14 isn't looked for
 //! in it".
+//!
+//! T-10: "A face may have 256; refusal 14 now begins at 257."
 
 use crate::faces::{faces, Face};
 use crate::matches::{matches, Bodies};
@@ -19,7 +21,7 @@ use crate::{body, check, spelling, text};
 use std::collections::BTreeSet;
 
 const MAX_FUNCTIONS: usize = 8;
-const MAX_FACE_NODES: usize = 64;
+const MAX_FACE_NODES: usize = 256;
 
 /// A solution row with its solution's text.
 #[derive(Debug, Clone, PartialEq, Eq)]
@@ -87,6 +89,13 @@ impl Problem {
         self.faces.is_some()
     }
 
+    /// The number of nodes of each function's face, by ascending function.
+    /// Nothing if there are no rows.
+    pub fn face_nodes(&self) -> Option<Vec<usize>> {
+        let faces = self.function_faces()?;
+        Some(faces.iter().map(|face| face.spelled.size()).collect())
+    }
+
     /// The functions, ascending.
     pub fn functions(&self) -> Vec<u8> {
         self.functions.iter().map(|meta| meta.number()).collect()
@@ -104,7 +113,8 @@ impl Problem {
             return Some(Vec::new());
         };
         let faces: Vec<&Term> = faces.iter().map(|face| &face.apart).collect();
-        (row::count_rows(&faces) <= limit as u128).then(|| row::rows(&faces))
+        let few = row::count_rows(&faces).is_some_and(|count| count <= limit as u128);
+        few.then(|| row::rows(&faces))
     }
 
     /// Whether that is a row of the problem.

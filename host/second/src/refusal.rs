@@ -1,6 +1,6 @@
 //! The refusals, by document 01's table "Where each check is made", 25 by
 //! request T-05 and 27 by T-07. Request T-09: "Refusal 12 is withdrawn and its
-//! number stays unused."
+//! number stays unused." T-10: "refusal 14 now begins at 257".
 
 /// 1: the input is over 4,096 bytes.
 pub const INPUT_TOO_LONG: u8 = 1;
@@ -26,7 +26,7 @@ pub const META_NUMBER: u8 = 10;
 pub const TOO_MANY_CONSTRAINTS: u8 = 11;
 /// 13: over 8 functions, those included that stand alone too.
 pub const TOO_MANY_FUNCTIONS: u8 = 13;
-/// 14: a face over 64 nodes.
+/// 14: a face over 256 nodes.
 pub const FACE_TOO_LARGE: u8 = 14;
 /// 16: no such row.
 pub const NO_SUCH_ROW: u8 = 16;

@@ -52,10 +52,11 @@ pub fn choices(face: &Term) -> Vec<Choice> {
 }
 
 /// How many choices there are: a class of n equal nodes has 2^n - 1 subsets
-/// that are not empty, and the empty set comes once.
-pub fn count_choices(face: &Term) -> u128 {
-    let sizes = classes(face).into_iter().map(|class| class.len() as u32);
-    1 + sizes.map(|size| 2u128.pow(size) - 1).sum::<u128>()
+/// that are not empty, and the empty set comes once. Nothing where the number
+/// has over 128 bits.
+pub fn count_choices(face: &Term) -> Option<u128> {
+    let mut sizes = classes(face).into_iter().map(|class| class.len() as u32);
+    sizes.try_fold(1u128, |count, size| count.checked_add(2u128.checked_pow(size)? - 1))
 }
 
 /// The nodes that may be in a choice, in classes of equal ones.
@@ -120,8 +121,8 @@ pub fn rows(faces: &[&Term]) -> Vec<Row> {
     rows
 }
 
-/// How many rows there are, or the largest number if they are more.
-pub fn count_rows(faces: &[&Term]) -> u128 {
-    let counts = faces.iter().map(|face| count_choices(face));
-    counts.fold(1, u128::saturating_mul)
+/// How many rows there are. Nothing where the number has over 128 bits.
+pub fn count_rows(faces: &[&Term]) -> Option<u128> {
+    let mut counts = faces.iter().map(|face| count_choices(face));
+    counts.try_fold(1u128, |rows, count| rows.checked_mul(count?))
 }

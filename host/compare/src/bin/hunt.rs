@@ -4,7 +4,11 @@
 //!
 //! It ends at the first difference, with the problem in hexadecimal and in readable notation.
 
+use compare::large;
 use compare::subject::Proved;
+
+/// A problem with a large face takes as long as so many others.
+const LARGE: u64 = 100;
 
 fn main() {
     if let Err(error) = hunt() {
@@ -27,5 +31,7 @@ fn hunt() -> Result<(), String> {
     for (name, comparison) in compare::COMPARISONS {
         println!("{name}: {:?}", comparison(&Proved, from..to)?);
     }
+    let few = from..from + (to - from).div_ceil(LARGE);
+    println!("large faces: {:?}", large::random(&Proved, few)?);
     Ok(())
 }

@@ -335,9 +335,9 @@ fn all_accepted_problems_have_an_answer() {
         assert_eq!(answer(text, 1, 2), yes(1));
         assert_eq!(answer(text, 0, 2), no(1));
     }
-    // A face of 64 nodes: 0 application, 1 to 63.
-    let face = format!("?0{{s1}} = ({})", ["s1"; 63].join(" "));
-    assert_eq!(answer(&face, 0, 0), yes(64));
+    // A face of 256 nodes: 0 application, 1 to 255.
+    let face = format!("?0{{s1}} = ({})", ["s1"; 255].join(" "));
+    assert_eq!(answer(&face, 0, 0), yes(256));
     // A value may have more: 0 application, 1 to 700.
     let large = format!("?0 = ({})", ["s1"; 700].join(" "));
     assert_eq!(answer(&large, 0, 0), yes(701));
@@ -372,9 +372,9 @@ fn a_refused_problem_has_no_answer() {
     assert_eq!(of_bytes(&hex("0700")), Err(2));
     assert_eq!(of_bytes(&bytes("s1 = (s1 ?0)")), Err(8));
     assert_eq!(of_bytes(&hex("07000F 0100020005 030007 01000400000001")), Err(25));
-    // After reading: nine functions, then a face of 65 nodes.
+    // After reading: nine functions, then a face of 257 nodes.
     let nine: Vec<String> = (0..9).map(|n| format!("?{n}{{s1}} = (s1 s1)")).collect();
     assert_eq!(of_bytes(&bytes(&nine.join(" ; "))), Err(13));
-    let face = format!("?0{{s1}} = ({})", ["s1"; 64].join(" "));
+    let face = format!("?0{{s1}} = ({})", ["s1"; 256].join(" "));
     assert_eq!(of_bytes(&bytes(&face)), Err(14));
 }

@@ -208,7 +208,10 @@ fn face(nodes: usize) -> String {
 
 #[test]
 fn refusal_14_face_too_large() {
-    let [fits, too_large] = [64, 65].map(face);
+    let [fits, too_large] = [256, 257].map(face);
+    for nodes in [63, 64, 65, 128, 255] {
+        assert_eq!(refusal_in(&format!("?0{{s1}} = {}", face(nodes))), 0);
+    }
     assert_eq!(refusal_in(&format!("?0{{s1}} = {fits}")), 0);
     assert_eq!(refusal_in(&format!("?0{{s1}} = {too_large}")), 14);
     // Not if shapes disagree, in any constraint.
@@ -222,7 +225,7 @@ fn refusal_14_face_too_large() {
 
 #[test]
 fn refusal_14_is_not_looked_for_where_a_letter_is_used_both_ways() {
-    let too_large = face(65);
+    let too_large = face(257);
     let another = format!("?1{{?2}} = {too_large}");
     assert_eq!(refusal_in(&another), 14);
     assert_eq!(refusal_in(&format!("{another} ; ?0{{?0}} = s1")), 0);
@@ -453,7 +456,7 @@ fn refusal_25_before_what_is_met_later() {
     }
     let many = format!("{} ; s1 = s4294967295", functions(9));
     assert_eq!((refusal_in(&many), refusal(&narrowed(&many))), (13, 25));
-    let large = format!("?0{{s4294967295}} = {}", face(65));
+    let large = format!("?0{{s4294967295}} = {}", face(257));
     assert_eq!((refusal_in(&large), refusal(&narrowed(&large))), (14, 25));
 }
 

@@ -80,6 +80,51 @@ fn many_rows_are_only_counted() {
     assert_eq!(large.write(&vec![Choice::from([0]); 8]), Err(17));
 }
 
+/// T-10: a face of 256 nodes.
+#[test]
+fn more_rows_than_128_bits_count() {
+    let large = problem(&format!("?0{{s1}} = ({})", vec!["s1"; 255].join(" ")));
+    assert_eq!(large.face_nodes(), Some(vec![256]));
+    assert_eq!((large.rows(usize::MAX), large.row_count()), (None, None));
+    // The root is first, then come the choices with node 1, the full one first.
+    assert_eq!(large.rank(&row(&[0])), Some(0));
+    let full: Vec<usize> = (1..256).collect();
+    assert_eq!(large.rank(&row(&full)), Some(1));
+    assert_eq!(large.rank(&row(&full[..253])), Some(4));
+    assert_eq!(large.rank(&row(&[])), None);
+    assert!(large.write(&row(&full)).is_ok());
+    assert_eq!(large.write(&row(&[256])), Err(16));
+}
+
+/// The s1 of an application stand at nodes 1, 64, 128 and 255, and every other
+/// symbol comes once.
+#[test]
+fn rows_with_nodes_far_apart() {
+    let far = [1, 64, 128, 255];
+    let symbol = |node: usize| match far.contains(&node) {
+        true => "s1".to_string(),
+        false => format!("s{}", 1000 + node),
+    };
+    let symbols: Vec<String> = (1..256).map(symbol).collect();
+    let large = problem(&format!("?0{{s1}} = ({})", symbols.join(" ")));
+    // The empty set, the root, 251 symbols by themselves, 15 subsets of s1.
+    let rows = large.rows(1_000).unwrap();
+    assert_eq!(rows.len(), 268);
+    let nodes = |row: &Row| row[0].iter().copied().collect::<Vec<usize>>();
+    assert_eq!(nodes(&rows[0]), [0]);
+    assert_eq!(nodes(&rows[1]), [1, 64, 128, 255]);
+    assert_eq!(nodes(&rows[2]), [1, 64, 128]);
+    assert_eq!(nodes(&rows[5]), [1, 128, 255]);
+    assert_eq!(nodes(&rows[8]), [1]);
+    assert_eq!(nodes(&rows[9]), [2]);
+    let solutions = large.solutions(1_000).unwrap();
+    assert_eq!(solutions.len(), 16);
+    assert_eq!(nodes(&solutions[0].row), far);
+    assert_eq!(nodes(&solutions[8].row), [64, 128, 255]);
+    assert_eq!(nodes(&solutions[14].row), [255]);
+    assert_eq!(nodes(&solutions[15].row), []);
+}
+
 #[test]
 fn a_rank_is_the_place_in_the_list() {
     let texts = [

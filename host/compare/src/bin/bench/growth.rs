@@ -9,6 +9,8 @@ use matcher::Problem;
 pub fn tables() {
     let title = "nodes: an application of so many symbols, read by the start";
     growing("nodes", title, &[50, 100, 200, 400, 800], nodes);
+    let title = "the nodes of a face: (P(X), so many different symbols), read by the start";
+    growing("nodes", title, &[31, 63, 127, 255], faces);
     let title = "rows: (P(X), so many equal symbols), (P(X), v0), in one call that finds none";
     growing("rows", title, &[4, 8, 12, 16], rows);
     let title = "solutions: (P(X), so many equal symbols), the whole list with its texts";
@@ -32,6 +34,11 @@ fn growing(what: &str, title: &str, sizes: &[usize], measured: fn(usize) -> (f64
 
 fn nodes(n: usize) -> (f64, f64) {
     let problem = tree::problem(&[(Tree::Meta(0), different_symbols(n))]);
+    (n as f64 + 1.0, nanoseconds(|| Problem::new(&problem)))
+}
+
+fn faces(n: usize) -> (f64, f64) {
+    let problem = tree::problem(&[(call(0, &Tree::Meta(1)), different_symbols(n))]);
     (n as f64 + 1.0, nanoseconds(|| Problem::new(&problem)))
 }
 

@@ -23,6 +23,23 @@ pub fn different_symbols(n: usize) -> Tree {
     Tree::Apply((0..n).map(|k| symbol(k as u32)).collect())
 }
 
+/// An application of 15 terms of 17 nodes each, applications of one term over the symbol that has this number for it.
+pub fn branches(number: fn(u32) -> u32) -> Tree {
+    let branch = |k: u32| (0..16).fold(symbol(number(k)), |inner, _| Tree::Apply(vec![inner]));
+    Tree::Apply((0..15).map(branch).collect())
+}
+
+/// An application of 255 symbols: 0 at four nodes, one for each 64 that follow each other, and else each another one.
+pub fn four_equal() -> Tree {
+    let number = |node: u32| if [1, 64, 150, 255].contains(&node) { 0 } else { node };
+    Tree::Apply((1..256).map(|node| symbol(number(node))).collect())
+}
+
+/// An application of 256 nodes: nested binders, as deep as they may be.
+pub fn all_nested() -> Tree {
+    Tree::Apply([15, 15, 15, 5].map(nested).into_iter().chain([symbol(3)]).collect())
+}
+
 /// An application of n symbols 0, but that the last is symbol 1.
 fn last_differs(n: usize) -> Tree {
     let mut symbols = vec![symbol(0); n];
@@ -65,7 +82,15 @@ pub fn listed() -> Vec<(&'static str, Constraints)> {
             "(P(0) P(1), 14 symbols each), 16,385 rows",
             together(&[p(&symbol(0)), p(&symbol(1))], &fourteens),
         ),
-        ("16 constraints (X, 20 symbols)", vec![(x, different_symbols(20)); 16]),
+        (
+            "16 constraints (X, 20 symbols)",
+            vec![(x.clone(), different_symbols(20)); 16],
+        ),
+        ("(P(X), 256 nodes, 4 of them equal)", vec![(p(&x), four_equal())]),
+        (
+            "(P(0), 256 nodes, 4 of them equal), 268 rows",
+            vec![(p(&symbol(0)), four_equal())],
+        ),
     ]
 }
 

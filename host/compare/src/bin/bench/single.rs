@@ -22,7 +22,10 @@ pub fn table() {
     texts();
     println!();
     calls();
-    class_tables();
+    calls_on_a_large_face();
+    class_tables(63, 8);
+    class_tables(255, 3);
+    starts();
     println!();
 }
 
@@ -70,20 +73,54 @@ fn calls() {
     );
 }
 
-/// Making the class table of a face of 64 nodes: what the start of eight functions with such a face takes longer than that of eight plain
-/// metavariables.
-fn class_tables() {
-    let (equal, different) = (problems::equal_symbols(63), problems::different_symbols(63));
+/// The same on a face of 256 nodes.
+fn calls_on_a_large_face() {
+    let face = problems::different_symbols(255);
+    let pattern = problems::call(0, &Tree::Meta(1));
+    let bytes = tree::problem(&[(pattern.clone(), face), (pattern, Tree::Variable(0))]);
+    let problem = Problem::new(&bytes).expect("the problem is accepted");
+    let rows = read_by_the_second(&bytes).row_count().expect("they are few");
+    let one = nanoseconds(|| problem.search().call(1));
+    let all = nanoseconds(|| problem.search().call(u32::MAX));
+    println!("a search call that judges one row, a face of 256 nodes: {}", shown(one));
+    let more = shown((all - one) / (rows - 1) as f64);
+    println!("judging a row more, of {rows}, a face of 256 nodes: {more}");
+}
+
+/// What the start of a problem takes longer where functions face so many symbols than where plain metavariables do, for each of them: it
+/// prepares their faces.
+fn class_tables(symbols: usize, functions: u8) {
+    let (equal, different) = (problems::equal_symbols(symbols), problems::different_symbols(symbols));
     for (name, face) in [("equal", equal), ("different", different)] {
         let start = |pattern: fn(u8) -> Tree| {
-            let constraints: Vec<_> = (0..8).map(|m| (pattern(m), face.clone())).collect();
+            let constraints: Vec<_> = (0..functions).map(|m| (pattern(m), face.clone())).collect();
             let bytes = tree::problem(&constraints);
             nanoseconds(|| Problem::new(&bytes).is_ok())
         };
         let longer = start(|m| problems::call(m, &Tree::Meta(20))) - start(Tree::Meta);
         println!(
-            "the class table of a face of 63 {name} symbols: {}",
-            shown(longer / 8.0)
+            "the class table of a face of {symbols} {name} symbols: {}",
+            shown(longer / f64::from(functions))
+        );
+    }
+}
+
+/// The whole start of a problem whose function faces 256 nodes.
+fn starts() {
+    let faces = [
+        ("equal symbols", problems::equal_symbols(255)),
+        ("different symbols", problems::different_symbols(255)),
+        ("equal branches", problems::branches(|_| 0)),
+        ("different branches", problems::branches(|k| k)),
+        ("nested binders", problems::all_nested()),
+    ];
+    for (name, face) in faces {
+        let nodes = face.nodes();
+        let bytes = tree::problem(&[(problems::call(0, &Tree::Meta(1)), face)]);
+        let time = nanoseconds(|| Problem::new(&bytes).is_ok());
+        println!(
+            "the start of a problem with a face of {nodes} nodes, {name}: {}",
+            shown(time)
         );
     }
 }
