@@ -20,6 +20,7 @@ use Rattle.masks.specs.Mask.{marks, first}
 use Rattle.masks.specs.Sets.{width}
 use Rattle.masks.proofs.Marks.{length-marks}
 use Rattle.masks.proofs.Nodes.{first-min}
+use Rattle.masks.proofs.Words.{first-le}
 use Rattle.lockstep.specs.Walk.{Stop, faceCode, lockstep}
 use Rattle.lockstep.proofs.WalkLaws.{lockstep-end, lockstep-out, lockstep-differs, lockstep-same, lockstep-face, lockstep-skip}
 use Rattle.bodies.specs.Marked.{marked, lowestMarked}
@@ -37,15 +38,9 @@ module _ (q : Tests) (e lowest node : ℕ) where
   hole-same h = sym (ap (λ (b : Bool). not b && q .same node lowest) h)
 
 -- The lowest node of a mask
-first-room : (l : List Bool) → first l ≤ length l
-unfolding first
-first-room [] = omega arith
-first-room (true ∷ l) = omega arith
-first-room (false ∷ l) = omega (arith, first-room l)
-
 pub lowest-room : (mask : ℕ) → lowestMarked mask ≤ 256
 unfolding width
-lowest-room mask = omega (arith, first-room (marks width mask), length-marks width mask)
+lowest-room mask = omega (arith, first-le (marks width mask), length-marks width mask)
 
 lowest-min : (mask i : ℕ) → marked mask i ≡ true → lowestMarked mask ≤ i
 lowest-min mask i h = first-min (marks width mask) i h

@@ -15,7 +15,8 @@ use Rattle.composing.specs.declared.entry.Plan.{Plan}
 use Rattle.composing.specs.declared.entry.Entry.{Entry}
 use Rattle.composing.specs.declared.entry.Entry.the-variants as entries
 
-pub body-returned : (plan : Plan) (k : ℕ) → entries.Body (at (plan .nodes) k) (getD (plan .row) k (record { w0 = 0; w1 = 0; w2 = 0; w3 = 0 })) ≡ bodyAt plan k
+pub body-returned : (plan : Plan) (k : ℕ)
+    → entries.Body (at (plan .nodes) k) (getD (plan .row) k (record { w0 = 0; w1 = 0; w2 = 0; w3 = 0 })) ≡ bodyAt plan k
 unfolding bodyAt
 body-returned plan k = refl
 

@@ -1,6 +1,6 @@
 -- What `copy_length` owes: "a body is its face less the number of holes times one hole's saving".
 --   Lowest   the lowest node of a choice that is not empty, what stands there, and that it stands in the table
-use mathlib.Core.Path.{_≡_, refl, ap, ap₂, sym, _∙_, subst}
+use mathlib.Core.Path.{_≡_, refl, ap, ap₂, sym, _∙_}
 use mathlib.Core.Logic.{_⊎_, inl, inr}
 use Prim.Native.Nat.{ℕ, _+_, _-_, _*_, _<_, _≤_}
 use native.Mathlib.Omega.{arith}
@@ -14,7 +14,6 @@ use Rattle.meaning.specs.Term.{NamedTerm, one, size}
 use Rattle.meaning.specs.Scope.{enter, namelessLabel}
 use Rattle.meaning.specs.Field.{encode}
 use Rattle.meaning.specs.Choice.{setSize}
-use Rattle.meaning.specs.PlaceValue.{maskOf}
 use Rattle.meaning.proofs.ShiftLaws.{relabel-size}
 use Rattle.meaning.proofs.NodeReading.{encode-long}
 use Rattle.meaning.proofs.Nodes.{Stands, node-there}

@@ -1,7 +1,7 @@
 -- How long the bytes of a term are: over its tokens, and that this is the length of its encoding.
 --   left        the bytes of the nodes of a list from node i on
 --   Measuring   the invariant of the loop of `term_length`
-use mathlib.Core.Path.{_≡_, refl, ap, sym, _∙_}
+use mathlib.Core.Path.{_≡_, ap, sym, _∙_}
 use Prim.Native.Nat.{ℕ, _+_, _*_, _<_, _≤_}
 use native.Mathlib.Omega.{arith}
 use native.Mathlib.Numerals.{add-one}

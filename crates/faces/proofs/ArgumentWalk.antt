@@ -5,13 +5,12 @@
 use mathlib.Core.Path.{_≡_, refl, ap, ap₂, sym, _∙_, subst}
 use mathlib.Core.List.{List, _++_, append-nil}
 use mathlib.Core.Option.{Option, some}
-use Prim.Native.Nat.{ℕ, zero, suc, _+_, _-_, _<_, _≤_}
+use Prim.Native.Nat.{ℕ, zero, suc, _+_, _-_, _≤_}
 use native.Mathlib.Omega.{arith}
 use native.Mathlib.Numerals.{add-one}
-use native.Mathlib.Decide.{decLt}
 use lib.ListN.{length, take, drop}
 use lib.Seq.{drop-drop, take-at}
-use Rattle.meaning.specs.Term.{Forest, Tree, nil, cons, one, size, trees, nodeAt, symbol, variable, application, binder, own, slot}
+use Rattle.meaning.specs.Term.{Forest, nil, cons, one, size, trees, nodeAt, symbol, variable, application, binder, own, slot}
 use Rattle.meaning.specs.Term.{metavariable, function, hole, Named, NamedTerm, Terms, Term}
 use Rattle.meaning.specs.Scope.{enter, namelessLabel, nameless}
 use Rattle.meaning.specs.Problem.{Problem, patterns, expressions}

@@ -185,7 +185,7 @@ trues-le (false ∷ l) = omega (arith, trues-le l)
 pub few-ones : (w : ℕ) → trues (marks wordNodes w) ≤ wordNodes
 few-ones w = omega (arith, trues-le (marks wordNodes w), length-marks wordNodes w)
 
-first-le : (l : List Bool) → first l ≤ length l
+pub first-le : (l : List Bool) → first l ≤ length l
 unfolding first
 first-le [] = omega arith
 first-le (true ∷ l) = omega arith

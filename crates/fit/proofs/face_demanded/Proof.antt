@@ -100,7 +100,8 @@ returns-2 c =
     let k : ℕ = c .before .before .before .before .before .rank .result in
     face-applies (a .ps .now) (a .es .now) (a .ns .now) (a .functions) (a .t6) (masksIn (a .t7)) (a .face) (a .kept .nodes)
     (c .before .before .before .before .before .before .before .before .tag .result)
-    (c .before .before .before .before .before .before .before .before .tag .ensures) (c .before .before .before .before .before .before .before .if1 .left)
+    (c .before .before .before .before .before .before .before .before .tag .ensures)
+    (c .before .before .before .before .before .before .before .if1 .left)
     k _
     (c .before .before .before .before .before .rank .ensures ∙ ap (λ (m : ℕ). count m (a .functions))
     (c .before .before .before .before .before .before .payload .ensures)) (masks-at (a .t7) k) (r .result) (r .ensures)

@@ -15,7 +15,8 @@ use Rattle.fit.proofs.faces_demanded.Tie as tie
 abbrev Inv-loop : tie.InvT-loop
 Inv-loop ps es ns faces functions nodes row scratch₀ kept₀ k₀ scratch kept k =
     (length scratch ≡ length scratch₀)
-    × Going ps es ns functions nodes (masksIn row) faces (facesKept (told ns) ps es functions nodes (masksIn row) faces (kept₀ .nodes)) k (kept .nodes)
+    × Going ps es ns functions nodes (masksIn row) faces
+    (facesKept (told ns) ps es functions nodes (masksIn row) faces (kept₀ .nodes)) k (kept .nodes)
 
 abbrev μ-loop : tie.MeasureT-loop
 μ-loop ps es ns faces functions nodes row scratch₀ kept₀ k₀ scratch kept k = length faces - k

@@ -21,7 +21,8 @@ none-requires c κs = search needs
 
 write-copied-requires : tie.Need-write-copied-requires
 write-copied-requires c κs =
-    value-room (c .before .none .ensures) (c .before .before .before .entry .given .1) (c .before .before .before .before .before .before .before .pre)
+    value-room (c .before .none .ensures) (c .before .before .before .entry .given .1)
+    (c .before .before .before .before .before .before .before .pre)
 
 enum-known-entry-2 : tie.Need-enum-known-entry-2
 enum-known-entry-2 c = search needs
