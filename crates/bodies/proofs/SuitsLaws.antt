@@ -16,7 +16,8 @@ use Rattle.meaning.specs.Basics.{join}
 use Rattle.tokens.specs.Token.{depthIn, sizeIn, Table}
 use Rattle.tokens.specs.Key.{keyOf, at, part, Inside}
 use Rattle.numbers.specs.Tests.{Tests}
-use Rattle.masks.specs.Mask.{width, marks, first}
+use Rattle.masks.specs.Mask.{marks, first}
+use Rattle.masks.specs.Sets.{width}
 use Rattle.masks.proofs.Marks.{length-marks}
 use Rattle.masks.proofs.Nodes.{first-min}
 use Rattle.lockstep.specs.Walk.{Stop, faceCode, lockstep}
@@ -42,12 +43,11 @@ first-room [] = omega arith
 first-room (true ∷ l) = omega arith
 first-room (false ∷ l) = omega (arith, first-room l)
 
-pub lowest-room : (mask : ℕ) → lowestMarked mask ≤ width
-unfolding lowestMarked
+pub lowest-room : (mask : ℕ) → lowestMarked mask ≤ 256
+unfolding width
 lowest-room mask = omega (arith, first-room (marks width mask), length-marks width mask)
 
 lowest-min : (mask i : ℕ) → marked mask i ≡ true → lowestMarked mask ≤ i
-unfolding marked lowestMarked
 lowest-min mask i h = first-min (marks width mask) i h
 
 faced-join : (test : ℕ → Bool) (i j : ℕ) (o : Option (List ℕ)) → i < 65536

@@ -3,11 +3,12 @@
 use Prim.Native.Nat.{ℕ}
 use mathlib.Core.Bool.{Bool, false}
 use lib.ListN.{getD}
-use Rattle.masks.specs.Mask.{width, marks, first}
+use Rattle.masks.specs.Mask.{marks, first}
+use Rattle.masks.specs.Sets.{width}
 
-unfoldable pub marked : ℕ → ℕ → Bool
+abbrev pub marked : ℕ → ℕ → Bool
 marked mask i = getD (marks width mask) i false
 
 -- The lowest node that is marked, where there is one
-unfoldable pub lowestMarked : ℕ → ℕ
+abbrev pub lowestMarked : ℕ → ℕ
 lowestMarked mask = first (marks width mask)

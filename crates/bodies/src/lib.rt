@@ -1,6 +1,7 @@
-// One function with its mask by itself: whether the body that the mask makes of its face is closed, and whether it suits what an
+// One function with its set of nodes by itself: whether the body that the set makes of its face is closed, and whether it suits what an
 // application faces. Everything is looked up in the token table of the expressions, except what stands across a hole: there the numbers of
 // the nodes are asked. What the answers mean is proofs/BodyMeaning and proofs/SuitsMeaning.
+use masks::NodeSet;
 use numbers::ask::same;
 use numbers::ask::uses;
 use tokens::same::reaches;
@@ -10,31 +11,17 @@ use tokens::token::size;
 ghost use mathlib.Core.Path.{_≡_};
 ghost use Prim.Native.Nat.{_<_};
 ghost use lib.ListN.{length};
+ghost use Rattle.masks.specs.Sets.{mask};
 ghost use Rattle.tokens.specs.Token.{Table};
 ghost use Rattle.tokens.specs.Key.{Inside};
 ghost use Rattle.numbers.specs.Tests.{told};
-ghost use Rattle.bodies.specs.Marked.{marked, lowestMarked};
 ghost use Rattle.bodies.specs.BodyClosed.{bodyClosedAt};
 ghost use Rattle.bodies.specs.Suits.{holeFits, suitsAt, Nested};
 
-// Whether node i of the face becomes a hole. Only this and `lowest` look into a mask.
-pub fn marked(mask: u64, i: usize) -> bool
-    ensures { λ r. ⌜ r ≡ marked mask i ⌝ }
-{
-    masks::has(mask, i)
-}
-
-// The lowest node of the face that becomes a hole, where there is one.
-pub fn lowest(mask: u64) -> usize
-    ensures { λ r. ⌜ r ≡ lowestMarked mask ⌝ }
-{
-    masks::lowest(mask)
-}
-
-// Whether the body that the mask makes of the face at a node uses no binder above the face. What stands below a hole is passed.
-pub fn body_closed(es: &[u64], face: usize, mask: u64) -> bool
+// Whether the body that the set makes of the face at a node uses no binder above the face. What stands below a hole is passed.
+pub fn body_closed(es: &[u64], face: usize, set: NodeSet) -> bool
     requires { ⌜ Table (now es) ⌝ ∗ ⌜ Inside (now es) face ⌝ }
-    ensures { λ r. ⌜ r ≡ bodyClosedAt (now (es .entry)) face mask ⌝ }
+    ensures { λ r. ⌜ r ≡ bodyClosedAt (now (es .entry)) face (mask set) ⌝ }
 {
     let root = es[face];
     let n = size(root) as usize;
@@ -42,7 +29,7 @@ pub fn body_closed(es: &[u64], face: usize, mask: u64) -> bool
     let mut i = 0;
     while i < n {
         let x = es[face + i];
-        if marked(mask, i) {
+        if set.has(i) {
             i += size(x) as usize;
         } else {
             if reaches(0, d, x) {
@@ -66,18 +53,18 @@ fn hole_fits(ns: &[u64], e: u64, lowest: usize, node: usize) -> bool
     same(ns, node, lowest)
 }
 
-// Whether the body that the mask makes of the face at a node is, with some argument in its holes, what stands at node `faced`. Up to the
+// Whether the body that the set makes of the face at a node is, with some argument in its holes, what stands at node `faced`. Up to the
 // lowest hole the two agree node by node, so that it stands as far from `faced` as its node from the face.
-pub fn suits(es: &[u64], ns: &[u64], face: usize, faced: usize, mask: u64) -> bool
+pub fn suits(es: &[u64], ns: &[u64], face: usize, faced: usize, set: NodeSet) -> bool
     requires { ⌜ Table (now es) ⌝ ∗ ⌜ Nested (now es) ⌝ ∗ ⌜ face < length (now es) ⌝ ∗ ⌜ faced < length (now es) ⌝
         ∗ ⌜ length (now ns) ≡ length (now es) ⌝ }
-    ensures { λ r. ⌜ r ≡ suitsAt (told (now (ns .entry))) (now (es .entry)) face faced mask ⌝ }
+    ensures { λ r. ⌜ r ≡ suitsAt (told (now (ns .entry))) (now (es .entry)) face faced (mask set) ⌝ }
 {
     let root = es[face];
     let n = size(root) as usize;
     let d = depth(root);
     let e = depth(es[faced]);
-    let low = faced + lowest(mask);
+    let low = faced + set.lowest();
     let mut i = 0;
     let mut j = faced;
     while i < n {
@@ -86,7 +73,7 @@ pub fn suits(es: &[u64], ns: &[u64], face: usize, faced: usize, mask: u64) -> bo
         }
         let x = es[face + i];
         let y = es[j];
-        if marked(mask, i) {
+        if set.has(i) {
             if !hole_fits(ns, e, low, j) {
                 return false;
             }

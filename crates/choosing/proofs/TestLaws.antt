@@ -9,7 +9,7 @@ use mathlib.Core.List.{List, [], _∷_, _++_, map}
 use mathlib.Core.Option.{Option, none, some}
 use Prim.Native.Nat.{ℕ, zero, suc, _+_, _-_, _≤_, _<_}
 use native.Mathlib.Omega.{arith}
-use lib.ListN.{length, getD, getElem?, take, drop, replicate, length-map, length-drop, take-append-drop}
+use lib.ListN.{length, getD, getElem?, take, drop, length-map, length-drop, take-append-drop}
 use lib.Seq.{getD-take, take-suc, take-at, length-take-le}
 use lib.Dec.{T, eqb, leb}
 use borrow.Author.Tests.{eq-eqb, eqb-true, leb-true, leb-false}

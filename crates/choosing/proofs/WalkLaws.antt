@@ -1,23 +1,19 @@
 -- The walk through a face's nodes as the code makes it, in terms of paths: what a node may become, the first path from a node on, and the
 -- test of a set node by node.
 use mathlib.Core.Path.{_≡_, refl, sym, ap, ap₂, _∙_, subst}
-use mathlib.Core.Bool.{Bool, true, false, _&&_, true≢false, false≢true}
-use mathlib.Core.List.{List, [], _∷_, _++_, append-assoc}
+use mathlib.Core.Bool.{Bool, true, false, _&&_, false≢true}
+use mathlib.Core.List.{List, _∷_}
 use mathlib.Core.Option.{Option, none, some}
 use Prim.Native.Nat.{ℕ, suc, _+_, _-_, _≤_, _<_}
-use native.Mathlib.Omega.{arith}
-use lib.ListN.{length, drop, length-append}
+use lib.ListN.{length, drop}
 use lib.Dec.{leb, eqb}
 use borrow.Author.Tests.{lt-leb, le-leb, leb-true, leb-false}
 use Rattle.meaning.specs.Basics.{choose, holds}
 use Rattle.meaning.specs.Choice.{Marks}
-use Rattle.meaning.proofs.Lists.{never}
-use Rattle.tokens.specs.Token.{depthIn, sizeIn}
+use Rattle.tokens.specs.Token.{depthIn}
 use Rattle.tokens.specs.Key.{at}
 use Rattle.numbers.specs.Tests.{told}
-use Rattle.masks.specs.Mask.{join}
 use Rattle.masks.specs.Sets.{nodes}
-use Rattle.masks.specs.declared.NodeSet.{NodeSet}
 use Rattle.paths.specs.Paths.{Node, firstPath, onePlace, takes}
 use Rattle.paths.proofs.OnePlace.{first-at-below, first-at-hole, first-at-none}
 use Rattle.choosing.specs.FaceNodes.{sizeFrom, classFrom, nodesFrom}

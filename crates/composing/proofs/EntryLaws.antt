@@ -3,6 +3,7 @@ use mathlib.Core.Path.{_≡_, refl, ap, sym, _∙_}
 use mathlib.Core.Bool.{Bool, true, false}
 use Prim.Native.Nat.{ℕ, _<_}
 use native.Mathlib.Omega.{arith}
+use lib.ListN.{getD}
 use borrow.Author.Tests.{eq-eqb, ne-eqb}
 use Rattle.meaning.specs.Limits.{maxFunctions, metavariableCount}
 use Rattle.meaning.proofs.Lists.{choose-true, choose-false}
@@ -14,7 +15,7 @@ use Rattle.composing.specs.declared.entry.Plan.{Plan}
 use Rattle.composing.specs.declared.entry.Entry.{Entry}
 use Rattle.composing.specs.declared.entry.Entry.the-variants as entries
 
-pub body-returned : (plan : Plan) (k : ℕ) → entries.Body (at (plan .nodes) k) (at (plan .row) k) ≡ bodyAt plan k
+pub body-returned : (plan : Plan) (k : ℕ) → entries.Body (at (plan .nodes) k) (getD (plan .row) k (record { w0 = 0; w1 = 0; w2 = 0; w3 = 0 })) ≡ bodyAt plan k
 unfolding bodyAt
 body-returned plan k = refl
 

@@ -13,10 +13,12 @@ use Rattle.meaning.specs.Filling as meant
 use Rattle.meaning.specs.Field.{encode, field, word}
 use Rattle.meaning.specs.Encoded.{encodeEntry}
 use Rattle.meaning.proofs.ByteLaws.{field-length}
+use Rattle.masks.specs.Sets.{mask}
+use Rattle.masks.specs.declared.NodeSet.{NodeSet}
 use Rattle.slices.proofs.Slices.{rest-all, rows-joined}
 use Rattle.copying.specs.Fixed.{Wrote}
 use Rattle.copying.specs.Copied.{Copied, Copyable, TermIn, copied}
-use Rattle.copying.specs.Measure.{Measurable, Measured}
+use Rattle.copying.specs.Measure.{BodyMeasurable, Measurable, Measured, TermMeasured}
 use Rattle.copying.proofs.CopiedMeaning.{copied-whole}
 use Rattle.copying.proofs.WriteLaws.{Part, part-begins, part-ends, part-goes, part-long}
 use Rattle.composing.specs.Entries.{Denotes, DenotesAll, Entries, entryAt, fieldsOf}
@@ -31,6 +33,10 @@ use Rattle.composing.proofs.FieldLaws.{fields-end, fields-length, field
 numbered-length : (tag m : ℕ) (bytes : Bytes) → length (field tag (m ∷ bytes)) ≡ 4 + length bytes
 numbered-length tag m bytes = omega (arith, field-length tag (m ∷ bytes))
 
+-- Without a node as a hole a term is itself
+copied-none : (mask : ℕ) (t : NamedTerm) → mask ≡ 0 → copied mask t ≡ encode (one t)
+copied-none mask t e = ap (λ (m : ℕ). copied m t) e ∙ copied-whole t
+
 -- How long an entry's field is
 module _ {es : List ℕ} {entry : Entry} where
   pub absent-length : entry ≡ entries.Absent → EntryMeasured es entry 0
@@ -43,38 +49,37 @@ module _ {es : List ℕ} {entry : Entry} where
         measured = λ m e d. sym (ap (λ (x : meant.Entry NamedTerm). length (encodeEntry m x)) d ∙ numbered-length 11 m []);
       })
 
-  pub value-length : {node : ℕ} (n : ℕ) → entry ≡ entries.Value node → Measured es node 0 n → EntryMeasured es entry (4 + n)
-  unfolding Measured
+  pub value-length : {node : ℕ} (n : ℕ) → entry ≡ entries.Value node → TermMeasured es node n → EntryMeasured es entry (4 + n)
   value-length {node} n q measured = subst (λ (x : Entry). EntryMeasured es x (4 + n)) (sym q) (record { measured = go })
     where
       go : (m : ℕ) (e : meant.Entry NamedTerm) → Denotes es (entries.Value node) e → 4 + n ≡ length (encodeEntry m e)
       go m e (t, there, d) =
-          ap (λ (k : ℕ). 4 + k) (measured t there ∙ ap length (copied-whole t)) ∙ sym (numbered-length 8 m (encode (one t)))
+          ap (λ (k : ℕ). 4 + k) (measured .long t there) ∙ sym (numbered-length 8 m (encode (one t)))
           ∙ ap (λ (x : meant.Entry NamedTerm). length (encodeEntry m x)) (sym d)
 
-  pub body-length : {node mask : ℕ} (n : ℕ) → entry ≡ entries.Body node mask → Measured es node mask n → EntryMeasured es entry (4 + n)
-  unfolding Measured
-  body-length {node} {mask} n q measured = subst (λ (x : Entry). EntryMeasured es x (4 + n)) (sym q) (record { measured = go })
+  pub body-length : {node : ℕ} {set : NodeSet} (n : ℕ) → entry ≡ entries.Body node set → Measured es node (mask set) n
+      → EntryMeasured es entry (4 + n)
+  body-length {node} {set} n q measured = subst (λ (x : Entry). EntryMeasured es x (4 + n)) (sym q) (record { measured = go })
     where
-      go : (m : ℕ) (e : meant.Entry NamedTerm) → Denotes es (entries.Body node mask) e → 4 + n ≡ length (encodeEntry m e)
-      go m e (t, b, there, d, same) =
-          ap (λ (k : ℕ). 4 + k) (measured t there ∙ ap length same) ∙ sym (numbered-length 9 m (encode (one b)))
+      go : (m : ℕ) (e : meant.Entry NamedTerm) → Denotes es (entries.Body node set) e → 4 + n ≡ length (encodeEntry m e)
+      go m e (t, b, there, d, same, chosen) =
+          ap (λ (k : ℕ). 4 + k) (measured .long t there chosen ∙ ap length same) ∙ sym (numbered-length 9 m (encode (one b)))
           ∙ ap (λ (x : meant.Entry NamedTerm). length (encodeEntry m x)) (sym d)
 
   -- A sum that fits
   pub measured-small : {r : ℕ} → EntryThere es entry → EntryMeasured es entry r → r < 65536
   measured-small h e = omega (arith, e .measured (h .number) (h .says) (h .denotes), h .short)
 
-  -- What `copy_length` requires
+  -- What `term_length` and `copy_length` require
   pub value-measurable : {node : ℕ} → entry ≡ entries.Value node → EntryThere es entry → Measurable es node
   value-measurable {node} q h =
       let d = subst (λ (x : Entry). Denotes es x (h .says)) q (h .denotes) in
       record { term = d .0; there = d .1; table = h .table }
 
-  pub body-measurable : {node mask : ℕ} → entry ≡ entries.Body node mask → EntryThere es entry → Measurable es node
-  body-measurable {node} {mask} q h =
-      let d = subst (λ (x : Entry). Denotes es x (h .says)) q (h .denotes) in
-      record { term = d .0; there = d .2; table = h .table }
+  pub body-measurable : {node : ℕ} {set : NodeSet} → entry ≡ entries.Body node set → EntryThere es entry → BodyMeasurable es node (mask set)
+  body-measurable {node} {set} q h =
+      let (t, b, there, d, same, chosen) = subst (λ (x : Entry). Denotes es x (h .says)) q (h .denotes) in
+      record { face = record { term = t; there = there; table = h .table }; chosen = chosen }
 
 -- Writing an entry: what is asked of each writer, and what it gives
 module _ {es : List ℕ} {m : ℕ} {entry : Entry} where
@@ -84,17 +89,18 @@ module _ {es : List ℕ} {m : ℕ} {entry : Entry} where
       let l = ap (λ (x : meant.Entry NamedTerm). length (encodeEntry m x)) d ∙ numbered-length 11 m [] in
       omega (arith, h .fits .inside)
 
-  pub value-room : {node room : ℕ} → entry ≡ entries.Value node → EntryRoom es m entry room → CopyRoom es node 0 m 8 room
-  value-room {node} {room} q h =
+  pub value-room : {node room : ℕ} {mask : ℕ} → mask ≡ 0 → entry ≡ entries.Value node → EntryRoom es m entry room → CopyRoom es node mask m 8 room
+  value-room {node} {room} {mask} none q h =
       let (t, there, d) = subst (λ (x : Entry). Denotes es x (h .says)) q (h .denotes) in
-      let same : encodeEntry m (h .says) ≡ field 8 (m ∷ copied 0 t) =
-      ap (encodeEntry m) d ∙ ap (λ (bs : Bytes). field 8 (m ∷ bs)) (sym (copied-whole t)) in
+      let same : encodeEntry m (h .says) ≡ field 8 (m ∷ copied mask t) =
+      ap (encodeEntry m) d ∙ ap (λ (bs : Bytes). field 8 (m ∷ bs)) (sym (copied-none mask t none)) in
       record { term = t; there = there; fits = subst (λ (bs : Bytes). BytesFit bs room) same (h .fits) }
 
-  pub body-room : {node mask room : ℕ} → entry ≡ entries.Body node mask → EntryRoom es m entry room → CopyRoom es node mask m 9 room
-  body-room {node} {mask} {room} q h =
-      let (t, b, there, d, same) = subst (λ (x : Entry). Denotes es x (h .says)) q (h .denotes) in
-      let bytes : encodeEntry m (h .says) ≡ field 9 (m ∷ copied mask t) =
+  pub body-room : {node room : ℕ} {set : NodeSet} → entry ≡ entries.Body node set → EntryRoom es m entry room
+      → CopyRoom es node (mask set) m 9 room
+  body-room {node} {room} {set} q h =
+      let (t, b, there, d, same, chosen) = subst (λ (x : Entry). Denotes es x (h .says)) q (h .denotes) in
+      let bytes : encodeEntry m (h .says) ≡ field 9 (m ∷ copied (mask set) t) =
       ap (encodeEntry m) d ∙ ap (λ (bs : Bytes). field 9 (m ∷ bs)) (sym same) in
       record { term = t; there = there; fits = subst (λ (bs : Bytes). BytesFit bs room) bytes (h .fits) }
 
@@ -109,21 +115,21 @@ module _ {es : List ℕ} {m : ℕ} {entry : Entry} where
     open-written q h = subst (λ (x : Entry). EntryWritten es m x before after r) (sym q)
         (record { wrote = λ e d. subst (λ (x : meant.Entry NamedTerm). Wrote (encodeEntry m x) before after r) (sym d) h })
 
-    pub value-written : {node : ℕ} → entry ≡ entries.Value node → CopyWritten es node 0 m 8 before after r
+    pub value-written : {node mask : ℕ} → mask ≡ 0 → entry ≡ entries.Value node → CopyWritten es node mask m 8 before after r
         → EntryWritten es m entry before after r
-    value-written {node} q h = subst (λ (x : Entry). EntryWritten es m x before after r) (sym q) (record { wrote = go })
+    value-written {node} {mask} none q h = subst (λ (x : Entry). EntryWritten es m x before after r) (sym q) (record { wrote = go })
       where
         go : (e : meant.Entry NamedTerm) → Denotes es (entries.Value node) e → Wrote (encodeEntry m e) before after r
         go e (t, there, d) =
             subst (λ (bs : Bytes). Wrote bs before after r)
-            (ap (λ (bs : Bytes). field 8 (m ∷ bs)) (copied-whole t) ∙ ap (encodeEntry m) (sym d)) (h .wrote t there)
+            (ap (λ (bs : Bytes). field 8 (m ∷ bs)) (copied-none mask t none) ∙ ap (encodeEntry m) (sym d)) (h .wrote t there)
 
-    pub body-written : {node mask : ℕ} → entry ≡ entries.Body node mask → CopyWritten es node mask m 9 before after r
+    pub body-written : {node : ℕ} {set : NodeSet} → entry ≡ entries.Body node set → CopyWritten es node (mask set) m 9 before after r
         → EntryWritten es m entry before after r
-    body-written {node} {mask} q h = subst (λ (x : Entry). EntryWritten es m x before after r) (sym q) (record { wrote = go })
+    body-written {node} {set} q h = subst (λ (x : Entry). EntryWritten es m x before after r) (sym q) (record { wrote = go })
       where
-        go : (e : meant.Entry NamedTerm) → Denotes es (entries.Body node mask) e → Wrote (encodeEntry m e) before after r
-        go e (t, b, there, d, same) =
+        go : (e : meant.Entry NamedTerm) → Denotes es (entries.Body node set) e → Wrote (encodeEntry m e) before after r
+        go e (t, b, there, d, same, chosen) =
             subst (λ (bs : Bytes). Wrote bs before after r)
             (ap (λ (bs : Bytes). field 9 (m ∷ bs)) same ∙ ap (encodeEntry m) (sym d)) (h .wrote t there)
 

@@ -1,4 +1,5 @@
 // What the text of a row has for each metavariable: "one field for each metavariable that occurs, ascending".
+use masks::NodeSet;
 use metavariables::MAX_FUNCTIONS;
 use metavariables::Occurring;
 use metavariables::in_set;
@@ -9,12 +10,12 @@ ghost use mathlib.Core.Path.{_≡_};
 ghost use Prim.Native.Nat.{_<_};
 ghost use Rattle.composing.specs.Entries.{Planned, bodyAt, valueAt, entryAt};
 
-// Where the entries of a row are looked up: the problem's metavariables, the face and the mask of each function, and the nodes that the
+// Where the entries of a row are looked up: the problem's metavariables, the face and the node set of each function, and the nodes that the
 // values are copied from.
 pub struct Plan {
     pub occurring: Occurring,
     pub nodes: [usize; MAX_FUNCTIONS],
-    pub row: [u64; MAX_FUNCTIONS],
+    pub row: [NodeSet; MAX_FUNCTIONS],
     pub sources: Sources,
 }
 
@@ -26,7 +27,7 @@ pub enum Entry {
     // "8 (value)": the node that it is copied from.
     Value(usize),
     // "9 (body)": the node of the face, and which of its nodes become holes.
-    Body(usize, u64),
+    Body(usize, NodeSet),
 }
 
 // The entry of a function, by its place among the functions.

@@ -4,11 +4,14 @@ use crate::entry::Plan;
 use crate::entry::entry_of;
 use copying::copy;
 use copying::copy_length;
+use copying::term_length;
 use copying::write_head;
+use masks::NodeSet;
 use metavariables::METAVARIABLES;
 ghost use mathlib.Core.List.{[], _∷_};
 ghost use Prim.Native.Nat.{_≤_};
 ghost use lib.ListN.{length};
+ghost use Rattle.masks.specs.Sets.{mask};
 ghost use Rattle.meaning.specs.Field.{field};
 ghost use Rattle.copying.specs.Fixed.{Wrote};
 ghost use Rattle.composing.specs.Composing.{EntryThere, EntryMeasured, Writable, TextMeasured, CopyRoom, CopyWritten};
@@ -22,8 +25,8 @@ fn entry_length(es: &[u64], entry: Entry) -> usize
     match entry {
         Entry::Absent => 0,
         Entry::Open => 4,
-        Entry::Value(node) => 4 + copy_length(es, node, 0),
-        Entry::Body(node, mask) => 4 + copy_length(es, node, mask),
+        Entry::Value(node) => 4 + term_length(es, node),
+        Entry::Body(node, set) => 4 + copy_length(es, node, set),
     }
 }
 
@@ -52,11 +55,11 @@ fn write_open(m: u8, out: &mut [u8]) -> usize
 
 // A field with a number and a term: "8 (value: number, 1 byte, then an expression)", and 9 likewise. The term first, then its number and
 // the head before it.
-fn write_copied(tag: u8, m: u8, es: &[u64], node: usize, mask: u64, out: &mut [u8]) -> usize
-    requires { ⌜ CopyRoom (now es) node mask m tag (length (now out)) ⌝ }
-    ensures { λ r. ⌜ CopyWritten (now (es .entry)) node mask m tag (now (out .entry)) (now (out .exit)) r ⌝ }
+fn write_copied(tag: u8, m: u8, es: &[u64], node: usize, set: NodeSet, out: &mut [u8]) -> usize
+    requires { ⌜ CopyRoom (now es) node (mask set) m tag (length (now out)) ⌝ }
+    ensures { λ r. ⌜ CopyWritten (now (es .entry)) node (mask set) m tag (now (out .entry)) (now (out .exit)) r ⌝ }
 {
-    let n = copy(es, node, mask, &mut out[4..]);
+    let n = copy(es, node, set, &mut out[4..]);
     out[3] = m;
     write_head(tag, n + 1, out);
     n + 4
@@ -69,8 +72,8 @@ fn write_entry(m: u8, es: &[u64], entry: Entry, out: &mut [u8]) -> usize
     match entry {
         Entry::Absent => 0,
         Entry::Open => write_open(m, out),
-        Entry::Value(node) => write_copied(8, m, es, node, 0, out),
-        Entry::Body(node, mask) => write_copied(9, m, es, node, mask, out),
+        Entry::Value(node) => write_copied(8, m, es, node, NodeSet::none(), out),
+        Entry::Body(node, set) => write_copied(9, m, es, node, set, out),
     }
 }
 

@@ -87,7 +87,7 @@ copied-choice ms t few places =
     (λ i j e. let small = places i j (mark-some ms i j e) in omega arith) 0 (one t) ∙ sym (punch-one ms t))
 
 -- Each node of terms that stand in a table stands there
-node-in : {es : List ℕ} {node to n : ℕ} {u : Forest Named} {t : NamedTerm} → Stands n u t → Spans es node to u
+pub node-in : {es : List ℕ} {node to n : ℕ} {u : Forest Named} {t : NamedTerm} → Stands n u t → Spans es node to u
     → (m : ℕ) → m ≡ node + n → TermIn es m t
 node-in {es} {node} {t} here h m e = let same : m ≡ node = omega arith in subst (λ (k : ℕ). TermIn es k t) (sym same) (span-first h)
 node-in {es} {node} (below g) h m e = node-in g (term-below (span-first h) (sizeIn (at es node)) refl) m (omega arith)

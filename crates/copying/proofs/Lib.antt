@@ -6,3 +6,4 @@ pub mod SpanLaws
 pub mod CopyLaws
 pub mod MeasureLaws
 pub mod CopiedMeaning
+pub mod BodyLaws

@@ -1,8 +1,8 @@
 // Copies terms out of the table of expressions as bytes: "Bodies and values are copied from the problem with its bound names, lengths made
 // right inside out". The tail of the buffer is lent on to the inner terms' writer, then the head is written before what it wrote.
-use bodies::marked;
 use fields::limit::FIRST_WIDE;
 use fields::number::Symbol;
+use masks::NodeSet;
 use tokens::token::payload;
 use tokens::token::size;
 use tokens::token::tag;
@@ -10,11 +10,12 @@ ghost use mathlib.Core.Path.{_≡_};
 ghost use Prim.Native.Nat.{_<_, _≤_};
 ghost use mathlib.Core.List.{_∷_, _++_};
 ghost use lib.ListN.{length, drop};
+ghost use Rattle.masks.specs.Sets.{mask};
 ghost use Rattle.meaning.specs.Field.{symbolBytes, word};
 ghost use Rattle.tokens.specs.Token.{payloadIn};
 ghost use Rattle.copying.specs.Fixed.{fixedIn, aHole, HeadRoom, Wrote, NodeRoom, NodeWrote};
 ghost use Rattle.copying.specs.Copied.{Copyable, Copied, TermCopyable, CopiedTerm, TermsCopyable, CopiedTerms};
-ghost use Rattle.copying.specs.Measure.{Measurable, Measured};
+ghost use Rattle.copying.specs.Measure.{Measurable, TermMeasured, BodyMeasurable, Measured};
 
 // "hole, length 0"
 const HOLE: u8 = 10;
@@ -115,60 +116,68 @@ fn write_node(x: u64, n: usize, out: &mut [u8]) -> usize
 }
 
 // The term at node `at`, which is the copied one, at node `from`, or stands below it.
-fn copy_term(es: &[u64], from: usize, mask: u64, at: usize, out: &mut [u8]) -> usize
-    requires { ⌜ TermCopyable (now es) from mask at (length (now out)) ⌝ }
-    ensures { λ r. ⌜ CopiedTerm (now (es .entry)) from mask at (now (out .entry)) (now (out .exit)) r ⌝ }
+fn copy_term(es: &[u64], from: usize, set: NodeSet, at: usize, out: &mut [u8]) -> usize
+    requires { ⌜ TermCopyable (now es) from (mask set) at (length (now out)) ⌝ }
+    ensures { λ r. ⌜ CopiedTerm (now (es .entry)) from (mask set) at (now (out .entry)) (now (out .exit)) r ⌝ }
 {
-    if marked(mask, at - from) {
+    if set.has(at - from) {
         return write_hole(out);
     }
     let x = es[at];
     let inner = 3 + fixed_length(x);
     let end = at + size(x) as usize;
-    let n = copy_terms(es, from, mask, at + 1, end, &mut out[inner..]);
+    let n = copy_terms(es, from, set, at + 1, end, &mut out[inner..]);
     write_node(x, n, out)
 }
 
 // The terms from node `at` up to node `to`, each into the part of the buffer after those before it. A loop, so that the stack grows with
 // the depth of a term and not with the number of its children.
-fn copy_terms(es: &[u64], from: usize, mask: u64, at: usize, to: usize, out: &mut [u8]) -> usize
-    requires { ⌜ TermsCopyable (now es) from mask at to (length (now out)) ⌝ }
-    ensures { λ r. ⌜ CopiedTerms (now (es .entry)) from mask at to (now (out .entry)) (now (out .exit)) r ⌝ }
+fn copy_terms(es: &[u64], from: usize, set: NodeSet, at: usize, to: usize, out: &mut [u8]) -> usize
+    requires { ⌜ TermsCopyable (now es) from (mask set) at to (length (now out)) ⌝ }
+    ensures { λ r. ⌜ CopiedTerms (now (es .entry)) from (mask set) at to (now (out .entry)) (now (out .exit)) r ⌝ }
 {
     let mut next = at;
     let mut n = 0;
     while next < to {
-        n += copy_term(es, from, mask, next, &mut out[n..]);
+        n += copy_term(es, from, set, next, &mut out[n..]);
         next += size(es[next]) as usize;
     }
     n
 }
 
 // The term at a node with the marked nodes as holes.
-pub fn copy(es: &[u64], node: usize, mask: u64, out: &mut [u8]) -> usize
-    requires { ⌜ Copyable (now es) node mask (length (now out)) ⌝ }
-    ensures { λ r. ⌜ Copied (now (es .entry)) node mask (now (out .entry)) (now (out .exit)) r ⌝ }
+pub fn copy(es: &[u64], node: usize, set: NodeSet, out: &mut [u8]) -> usize
+    requires { ⌜ Copyable (now es) node (mask set) (length (now out)) ⌝ }
+    ensures { λ r. ⌜ Copied (now (es .entry)) node (mask set) (now (out .entry)) (now (out .exit)) r ⌝ }
 {
-    copy_term(es, node, mask, node, out)
+    copy_term(es, node, set, node, out)
 }
 
-// How many bytes `copy` writes. What stands below a hole is passed.
-pub fn copy_length(es: &[u64], node: usize, mask: u64) -> usize
+// How many bytes the term at a node has.
+pub fn term_length(es: &[u64], node: usize) -> usize
     requires { ⌜ Measurable (now es) node ⌝ }
-    ensures { λ r. ⌜ Measured (now (es .entry)) node mask r ⌝ }
+    ensures { λ r. ⌜ TermMeasured (now (es .entry)) node r ⌝ }
 {
     let n = size(es[node]) as usize;
     let mut total = 0;
     let mut i = 0;
     while i < n {
-        let x = es[node + i];
-        if marked(mask, i) {
-            total += 3;
-            i += size(x) as usize;
-        } else {
-            total += 3 + fixed_length(x);
-            i += 1;
-        }
+        total += 3 + fixed_length(es[node + i]);
+        i += 1;
     }
     total
+}
+
+// How many bytes `copy` writes for a body. What its holes stand for has the same length at each, and a hole has 3 bytes: a body is its face
+// less what one hole saves, as often as it has holes.
+pub fn copy_length(es: &[u64], node: usize, set: NodeSet) -> usize
+    requires { ⌜ BodyMeasurable (now es) node (mask set) ⌝ }
+    ensures { λ r. ⌜ Measured (now (es .entry)) node (mask set) r ⌝ }
+{
+    let whole = term_length(es, node);
+    if set.is_empty() {
+        return whole;
+    }
+    let hole = term_length(es, node + set.lowest());
+    whole - set.holes() * (hole - 3)
 }

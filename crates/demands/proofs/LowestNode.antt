@@ -4,7 +4,6 @@
 --   HoleAt     the lowest hole of a place, and the node where it stands
 use mathlib.Core.Path.{_≡_, refl, ap, sym, _∙_, subst}
 use Prim.Native.Nat.{ℕ, zero, suc, _+_, _-_, _<_, _≤_}
-use native.Mathlib.Nat.{suc-add}
 use mathlib.Core.Bool.{Bool, true, false}
 use mathlib.Core.List.{List, [], _∷_, _++_}
 use mathlib.Core.Option.{none, some}
@@ -17,18 +16,12 @@ use Rattle.meaning.specs.Term.{nil, cons, one, size, nodeAt, own, slot, hole, O
 use Rattle.meaning.specs.Face.{Face, agrees, walk}
 use Rattle.meaning.specs.Choice.{Marks, punch, punchTerm}
 use Rattle.meaning.specs.Value.{isHole, lowestHole}
-use Rattle.meaning.proofs.Lists.{never, choose-true, choose-false, eqb-self}
+use Rattle.meaning.proofs.Lists.{never, at-drop, choose-true, choose-false, eqb-self}
 use Rattle.meaning.proofs.ShiftLaws.{ltb-yes, ltb-no}
 use Rattle.meaning.proofs.Lockstep.{agrees-eq}
 use Rattle.meaning.proofs.RowBodies.{punch-one}
 use Rattle.meaning.proofs.Nodes.{stands-size, node-stands, WalkedOwn, walked-own, walked-slot}
 use Rattle.demands.specs.LowestMark.{LowestMark, bindersAbove}
-
--- Marks past the first n
-at-drop : {A : Type 0} (n : ℕ) (xs : List A) (i : ℕ) → getElem? (drop n xs) i ≡ getElem? xs (n + i)
-at-drop zero xs i = ap (getElem? xs) (let e : i ≡ 0 + i = omega arith in e)
-at-drop (suc n) [] i = refl
-at-drop (suc n) (x ∷ xs) i = rw (suc-add n i) (at-drop n xs i)
 
 abbrev pub Unmarked : ℕ → Marks → Type 0
 Unmarked n ms = (k : ℕ) → k < n → getElem? ms k ≡ some none

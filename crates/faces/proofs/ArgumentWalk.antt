@@ -39,21 +39,9 @@ use Rattle.lockstep.proofs.LoweredWalk.{lowered-walk}
 use Rattle.faces.proofs.NodeTokens.{AtNode, pattern-node, expression-node}
 
 -- A subterm stands in the whole from its node on
-node-there : {L : Type 0} (m : ℕ) (u : Forest L) → m < size u → (t : Tree L) × nodes.Stands m u t
-node-there m nil h = absurd (omega arith)
-node-there zero (cons l c s) h = ((l, c), nodes.here)
-node-there (suc m) (cons l c s) h =
-    elim (decLt m (size c)) [
-      | yes g ↦ let (t, r) = node-there m c g in (t, nodes.below r)
-      | no g ↦
-          let (t, r) = node-there (m - size c) s (omega arith) in
-          let e : suc m ≡ suc (size c + (m - size c)) = omega arith in
-          (t, nodes.beside r e)
-    ]
-
 looks-at : (u : Terms) (i : ℕ) (t : Term) → nodeAt i u ≡ some t → Looks (λ m. nodeAt m u) i (one t)
 looks-at u i t e m h =
-    let (v, s) = node-there m (one t) h in
+    let (v, s) = nodes.node-there m (one t) h in
     nodes.stands-node (nodes.stands-in {m = i + m} (nodes.node-stands i u t e) s refl) ∙ sym (nodes.stands-node s)
 
 -- The one argument

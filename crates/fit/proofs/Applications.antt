@@ -36,7 +36,7 @@ use Rattle.demands.specs.LowestMark.{LowestMark}
 use Rattle.demands.proofs.LowestNode.{Unmarked, unmarked-walk}
 use Rattle.demands.proofs.Suiting.{suits-walked}
 use Rattle.bodies.specs.Suits.{suitsAt}
-use Rattle.bodies.proofs.MarkLaws.{lowest-mark}
+use Rattle.bodies.proofs.MarkLaws.{lowest-mark, empty-mask}
 use Rattle.bodies.proofs.HoleTests.{Spotted}
 use Rattle.bodies.proofs.SuitsMeaning.{suits-means}
 use Rattle.sources.specs.Demand.{demandsIn, keptAfter}
@@ -45,14 +45,7 @@ use Rattle.fit.specs.Judging.{argumentSpan, argumentKept, applicationKep
 use Rattle.fit.proofs.Steps.{Step, step-nothing, step-none, step-told, step-guard, step-as}
 use Rattle.fit.proofs.Arguments.{RecordedFace, SameDemands, Argued, argued}
 
--- Whether a mask is empty is whether nothing is marked
-empty-mask : (w : ℕ) (ms : Marks) → Unmarked (length ms) ms → maskOf w ms ≡ 0
-unfolding maskOf
-empty-mask w [] u = refl
-empty-mask zero (m ∷ ms) u = refl
-empty-mask (suc w) (some i ∷ ms) u = let q : some (some i) ≡ some none = u 0 (omega arith) in never (cc)
-empty-mask (suc w) (none ∷ ms) u = let e = empty-mask w ms (λ k h. u (suc k) (omega arith)) in omega arith
-
+-- With a node marked the mask is not 0
 filled-mask : (w : ℕ) (ms : Marks) (i j : ℕ) → length ms ≤ w → getElem? ms j ≡ some (some i) → 0 < maskOf w ms
 unfolding maskOf
 filled-mask w [] i j h e = never (cc)

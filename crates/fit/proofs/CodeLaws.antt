@@ -5,7 +5,7 @@ use mathlib.Core.List.{List, [], _∷_}
 use mathlib.Core.Option.{Option, none, some}
 use Prim.Native.Nat.{ℕ, suc, _+_, _<_, _≤_}
 use native.Mathlib.Omega.{arith}
-use lib.ListN.{length, take, drop, drop-of-length-le, getD-replicate}
+use lib.ListN.{length, getD, take, drop, drop-of-length-le, getD-replicate}
 use lib.Seq.{drop-cons, length-take-le, getD-take}
 use lib.Dec.{eqb}
 use borrow.Author.Tests.{eq-eqb, ne-eqb, eqb-true, eqb-false}
@@ -13,6 +13,9 @@ use Rattle.meaning.specs.Limits.{metavariableCount}
 use Rattle.meaning.specs.Basics.{choose, All, andThen, guard}
 use Rattle.meaning.proofs.Lists.{never, by-test, choose-true, choose-false, all-append}
 use Rattle.demands.proofs.Answers.{then-some}
+use Rattle.masks.specs.Sets.{mask, masksIn}
+use Rattle.masks.specs.declared.NodeSet.{NodeSet}
+use Rattle.masks.proofs.Words.{masks-at}
 use Rattle.tokens.specs.Token.{tagIn, depthIn, sizeIn}
 use Rattle.tokens.specs.Key.{at}
 use Rattle.numbers.specs.Tests.{told}
@@ -33,6 +36,12 @@ use Rattle.fit.specs.Judging.{demandedAt, judgedAt, Judges}
 use Rattle.fit.specs.Ready.{Tables, Walkable, Applicable, Slots}
 
 -- ---- the bodies, from function k on
+
+-- As the code reads a set out of a row
+pub read-mask : (es nodes : List ℕ) (row : List NodeSet) (k : ℕ) {b : Bool}
+    → b ≡ bodyClosedAt es (at nodes k) (mask (getD row k (record { w0 = 0; w1 = 0; w2 = 0; w3 = 0 })))
+    → b ≡ bodyClosedAt es (at nodes k) (at (masksIn row) k)
+read-mask es nodes row k e = e ∙ ap (bodyClosedAt es (at nodes k)) (masks-at row k)
 
 module _ (es nodes row : List ℕ) (end k : ℕ) (fits : end ≤ length nodes) (masks : end ≤ length row) where
   abbrev left : List ℕ
@@ -141,11 +150,11 @@ module _ (ps es ns : List ℕ) (functions : ℕ) (nodes row : List ℕ) (n : ℕ
   unfolding faceKept
   face-plain h = rw (← is, ne-eqb tag 6 h) (answers-yes kept)
 
-  pub face-applies : tag ≡ 6 → (k : ℕ) → k ≡ rankAt ps functions n → (r : Agreed)
-      → Answers (applicationKept (told ns) ps es n (at nodes k) (at row k) kept) r
+  pub face-applies : tag ≡ 6 → (k mask : ℕ) → k ≡ rankAt ps functions n → mask ≡ at row k → (r : Agreed)
+      → Answers (applicationKept (told ns) ps es n (at nodes k) mask kept) r
       → Answers (faceKept (told ns) ps es functions nodes row n kept) r
   unfolding faceKept
-  face-applies h k e r a = rw (← is, eq-eqb tag 6 h, ← e) a
+  face-applies h k mask e i r a = rw (← is, eq-eqb tag 6 h, ← e, ← i) a
 
 -- The nodes kept stay nodes of the table
 reads-ask : (ps ns ms : List ℕ) → All (Demandable ps ns) ms → All (Askable ns) (demandsIn ps ms)

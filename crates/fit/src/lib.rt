@@ -1,12 +1,12 @@
 // The test of a row: whether it is a solution row, and where the value of each metavariable is copied from. It looks at the token tables,
 // at the numbers of the expressions' nodes and at the recorded faces alone. That its answer is document 01's is proofs/Meaning.
 use bodies::body_closed;
-use bodies::lowest;
 use bodies::suits;
 use faces::first::Firsts;
 use lockstep::Shapes;
 use lockstep::Span;
 use lockstep::walk_at;
+use masks::NodeSet;
 use metavariables::MAX_FUNCTIONS;
 use metavariables::METAVARIABLES;
 use metavariables::rank;
@@ -21,6 +21,7 @@ use tokens::token::tag;
 ghost use mathlib.Core.Path.{_≡_};
 ghost use mathlib.Core.Bool.{true};
 ghost use Rattle.faces.specs.First.{listed};
+ghost use Rattle.masks.specs.Sets.{mask, masksIn};
 ghost use Rattle.meaning.specs.Basics.{All};
 ghost use Rattle.numbers.specs.Tests.{told};
 ghost use Rattle.sources.specs.Kept.{Kept, Answers};
@@ -34,9 +35,9 @@ pub struct Judged {
 }
 
 // Whether the body of each function is closed.
-fn bodies_closed(es: &[u64], firsts: Firsts, row: [u64; MAX_FUNCTIONS]) -> bool
-    requires { ⌜ Bodies (now es) firsts row ⌝ }
-    ensures { λ r. ⌜ r ≡ bodiesClosed (now (es .entry)) (listed firsts) row ⌝ }
+fn bodies_closed(es: &[u64], firsts: Firsts, row: [NodeSet; MAX_FUNCTIONS]) -> bool
+    requires { ⌜ Bodies (now es) firsts (masksIn row) ⌝ }
+    ensures { λ r. ⌜ r ≡ bodiesClosed (now (es .entry)) (listed firsts) (masksIn row) ⌝ }
 {
     let nodes = firsts.nodes;
     let end = firsts.count;
@@ -56,17 +57,17 @@ fn argument_demanded(
     es: &[u64],
     ns: &[u64],
     face: u64,
-    mask: u64,
+    set: NodeSet,
     kept: Sources,
     scratch: &mut [u64],
 ) -> Agreed
-    requires { ⌜ Tables (now ps) (now es) (now ns) (now scratch) × Walkable (now ps) (now es) (now ns) face mask
+    requires { ⌜ Tables (now ps) (now es) (now ns) (now scratch) × Walkable (now ps) (now es) (now ns) face (mask set)
         × Kept (now ns) (kept .nodes) ⌝ }
-    ensures { λ r. ⌜ Answers (argumentKept (told (now (ns .entry))) (now (ps .entry)) (now (es .entry)) face mask (kept .nodes)) r ⌝ }
+    ensures { λ r. ⌜ Answers (argumentKept (told (now (ns .entry))) (now (ps .entry)) (now (es .entry)) face (mask set) (kept .nodes)) r ⌝ }
 {
     let i = (face % 65536) as usize;
     let x = ps[i];
-    let at = (face / 65536) as usize + lowest(mask);
+    let at = (face / 65536) as usize + set.lowest();
     let span = Span {
         from: i + 1,
         to: i + size(x) as usize,
@@ -83,7 +84,7 @@ fn argument_demanded(
     }
 }
 
-// One application, by the face and the mask of its function: the body has to suit what is faced, and without a hole the argument demands
+// One application, by the face and the set of its function: the body has to suit what is faced, and without a hole the argument demands
 // nothing.
 fn application_demanded(
     ps: &[u64],
@@ -91,28 +92,28 @@ fn application_demanded(
     ns: &[u64],
     face: u64,
     node: usize,
-    mask: u64,
+    set: NodeSet,
     kept: Sources,
     scratch: &mut [u64],
 ) -> Agreed
-    requires { ⌜ Tables (now ps) (now es) (now ns) (now scratch) × Applicable (now ps) (now es) (now ns) face node mask
+    requires { ⌜ Tables (now ps) (now es) (now ns) (now scratch) × Applicable (now ps) (now es) (now ns) face node (mask set)
         × Kept (now ns) (kept .nodes) ⌝ }
     ensures { λ r. ⌜ Answers (applicationKept (told (now (ns .entry))) (now (ps .entry)) (now (es .entry))
-        face node mask (kept .nodes)) r ⌝ }
+        face node (mask set) (kept .nodes)) r ⌝ }
 {
-    if !suits(es, ns, node, (face / 65536) as usize, mask) {
+    if !suits(es, ns, node, (face / 65536) as usize, set) {
         return Agreed {
             ok: false,
             sources: kept,
         };
     }
-    if mask == 0 {
+    if set.is_empty() {
         return Agreed {
             ok: true,
             sources: kept,
         };
     }
-    argument_demanded(ps, es, ns, face, mask, kept, scratch)
+    argument_demanded(ps, es, ns, face, set, kept, scratch)
 }
 
 // One recorded face: that of an application, by the rank of its function.
@@ -123,14 +124,14 @@ fn face_demanded(
     face: u64,
     functions: u32,
     nodes: [usize; MAX_FUNCTIONS],
-    row: [u64; MAX_FUNCTIONS],
+    row: [NodeSet; MAX_FUNCTIONS],
     kept: Sources,
     scratch: &mut [u64],
 ) -> Agreed
-    requires { ⌜ Tables (now ps) (now es) (now ns) (now scratch) × Slots (now ps) (now es) (now ns) functions nodes row face
+    requires { ⌜ Tables (now ps) (now es) (now ns) (now scratch) × Slots (now ps) (now es) (now ns) functions nodes (masksIn row) face
         × Kept (now ns) (kept .nodes) ⌝ }
     ensures { λ r. ⌜ Answers (faceKept (told (now (ns .entry))) (now (ps .entry)) (now (es .entry))
-        functions nodes row face (kept .nodes)) r ⌝ }
+        functions nodes (masksIn row) face (kept .nodes)) r ⌝ }
 {
     let x = ps[(face % 65536) as usize];
     if tag(x) != 6 {
@@ -151,14 +152,14 @@ fn faces_demanded(
     faces: &[u64],
     functions: u32,
     nodes: [usize; MAX_FUNCTIONS],
-    row: [u64; MAX_FUNCTIONS],
+    row: [NodeSet; MAX_FUNCTIONS],
     sources: Sources,
     scratch: &mut [u64],
 ) -> Agreed
-    requires { ⌜ Tables (now ps) (now es) (now ns) (now scratch) × All (Slots (now ps) (now es) (now ns) functions nodes row) (now faces)
+    requires { ⌜ Tables (now ps) (now es) (now ns) (now scratch) × All (Slots (now ps) (now es) (now ns) functions nodes (masksIn row)) (now faces)
         × Kept (now ns) (sources .nodes) ⌝ }
     ensures { λ r. ⌜ Answers (facesKept (told (now (ns .entry))) (now (ps .entry)) (now (es .entry))
-        functions nodes row (now (faces .entry)) (sources .nodes)) r ⌝ }
+        functions nodes (masksIn row) (now (faces .entry)) (sources .nodes)) r ⌝ }
 {
     let mut kept = sources;
     let mut k = 0;
@@ -185,13 +186,13 @@ fn all_faces(
     faces: &[u64],
     functions: u32,
     firsts: Firsts,
-    row: [u64; MAX_FUNCTIONS],
+    row: [NodeSet; MAX_FUNCTIONS],
     scratch: &mut [u64],
 ) -> Agreed
-    requires { ⌜ Ready (now ps) (now es) (now ns) (now faces) functions firsts row (now scratch)
-        × (bodiesClosed (now es) (listed firsts) row ≡ true) ⌝ }
+    requires { ⌜ Ready (now ps) (now es) (now ns) (now faces) functions firsts (masksIn row) (now scratch)
+        × (bodiesClosed (now es) (listed firsts) (masksIn row) ≡ true) ⌝ }
     ensures { λ r. ⌜ Answers (demandedAt (told (now (ns .entry))) (now (ps .entry)) (now (es .entry))
-        (now (faces .entry)) functions firsts row) r ⌝ }
+        (now (faces .entry)) functions firsts (masksIn row)) r ⌝ }
 {
     let none = Sources {
         nodes: [OPEN; METAVARIABLES as usize],
@@ -213,12 +214,12 @@ pub fn judge(
     faces: &[u64],
     functions: u32,
     firsts: Firsts,
-    row: [u64; MAX_FUNCTIONS],
+    row: [NodeSet; MAX_FUNCTIONS],
     scratch: &mut [u64],
 ) -> Judged
-    requires { ⌜ Ready (now ps) (now es) (now ns) (now faces) functions firsts row (now scratch) ⌝ }
+    requires { ⌜ Ready (now ps) (now es) (now ns) (now faces) functions firsts (masksIn row) (now scratch) ⌝ }
     ensures { λ r. ⌜ Judges (judgedAt (told (now (ns .entry))) (now (ps .entry)) (now (es .entry))
-        (now (faces .entry)) functions firsts row) r ⌝ }
+        (now (faces .entry)) functions firsts (masksIn row)) r ⌝ }
 {
     if !bodies_closed(es, firsts, row) {
         return Judged {

@@ -54,6 +54,7 @@ pub mod NoCapture
 pub mod Nodes
 pub mod Sums
 pub mod Weights
+pub mod BodyLength
 pub mod TextLaws
 pub mod TextLength
 pub mod SecondDemand

@@ -6,6 +6,7 @@ use mathlib.Core.Bool.{Bool, true, false, _||_, _&&_, true≢false, false≢true
 use mathlib.Core.List.{List, [], _∷_, _++_, map, append-assoc, List·Memᴰ·head, List·Memᴰ·tail, List·Memᴰ·cases-cons, List·Memᴰ·not-nil}
 use mathlib.Core.List.{List·Memᴰ·append-cases, Memᴰ·append-left, Memᴰ·append-right}
 use mathlib.Core.Option.{Option, none, some}
+use native.Mathlib.Nat.{suc-add}
 use native.Mathlib.Omega.{arith}
 use lib.ListN.{length, drop, getElem?}
 use lib.Dec.{eqb, eqb→eq, eqb-refl, T}
@@ -203,6 +204,11 @@ at-append [] ys k x e = inr (k, omega arith, e)
 at-append (z ∷ xs) ys zero x e = inl (omega arith, e)
 at-append (z ∷ xs) ys (suc k) x e =
     ⊎-elim (λ r. inl (let h = r .0 in omega arith, r .1)) (λ r. inr (r .0, (let h = r .1 in omega arith), r .2)) (at-append xs ys k x e)
+
+pub at-drop : {A : Type 0} (n : ℕ) (xs : List A) (i : ℕ) → getElem? (drop n xs) i ≡ getElem? xs (n + i)
+at-drop zero xs i = ap (getElem? xs) (let e : i ≡ 0 + i = omega arith in e)
+at-drop (suc n) [] i = refl
+at-drop (suc n) (x ∷ xs) i = rw (suc-add n i) (at-drop n xs i)
 
 pub drop-mem : {A : Type 0} (x : A) (n : ℕ) (xs : List A) → x ∈ drop n xs → x ∈ xs
 drop-mem x zero xs q = q

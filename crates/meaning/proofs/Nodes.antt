@@ -64,6 +64,18 @@ node-stands (suc n) (cons l c s) t e =
           (sym (choose-false (nodeAt n c) (nodeAt (n - size c) s) (ltb-no n (size c) (omega arith))) ∙ e)) d
     ]
 
+pub node-there : {L : Type 0} (n : ℕ) (u : Forest L) → n < size u → (t : Tree L) × Stands n u t
+node-there n nil h = absurd (omega arith)
+node-there zero (cons l c s) h = ((l, c), here)
+node-there (suc n) (cons l c s) h =
+    elim (decLt n (size c)) [
+      | yes g ↦ let (t, r) = node-there n c g in (t, below r)
+      | no g ↦
+          let (t, r) = node-there (n - size c) s (omega arith) in
+          let e : suc n ≡ suc (size c + (n - size c)) = omega arith in
+          (t, beside r e)
+    ]
+
 -- The nodes of a subterm are nodes of the whole
 renumbered : {L : Type 0} {n m : ℕ} {u : Forest L} {t : Tree L} → Stands n u t → n ≡ m → Stands m u t
 renumbered {L} {u} {t} h e = subst (λ k. Stands k u t) e h

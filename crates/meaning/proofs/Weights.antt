@@ -12,7 +12,8 @@ use lib.Dec.{T}
 use Rattle.meaning.specs.Term.{Forest, nil, cons, one, size, trees, relabel, Own, symbol, variable, application, binder, Label, own}
 use Rattle.meaning.specs.Term.{slot, metavariable, function, hole, Named, Variable, Nameless, Terms, Term, inner}
 use Rattle.meaning.specs.Scope.{enter, namelessLabel, nameless}
-use Rattle.meaning.specs.Shift.{shiftLabel}
+use Rattle.meaning.specs.Shift.{shiftLabel, withVariable}
+use Rattle.meaning.specs.Equal.{see, view}
 use Rattle.meaning.specs.Lower.{lowerTerm}
 use Rattle.meaning.specs.Problem.{Problem, namedPatterns, namedExpressions}
 use Rattle.meaning.specs.Face.{Face, agrees, walk}
@@ -96,6 +97,18 @@ nameless-weight sc u = relabel-weight enter namelessLabel same sc u
     same sc (slot (metavariable m)) = refl
     same sc (slot (function f n)) = refl
     same sc (slot (hole i)) = refl
+
+pub view-weight : {W : Type 0} (who : ℕ → W) (u : Terms) → weight (view who u) ≡ weight u
+view-weight {W} who u = relabel-weight inner (λ k. withVariable (see who k)) same 0 u
+  where
+    same : (k : ℕ) (l : Nameless) → labelWeight (withVariable (see who k) l) ≡ labelWeight l
+    same k (own (symbol m)) = refl
+    same k (own (variable x)) = refl
+    same k (own (application m)) = refl
+    same k (own (binder b x)) = refl
+    same k (slot (metavariable m)) = refl
+    same k (slot (function f m)) = refl
+    same k (slot (hole i)) = refl
 
 pub lower-weight : (n : ℕ) (t u : Term) → lowerTerm n t ≡ some u → weight (one u) ≡ weight (one t)
 lower-weight n t u e = sym (relabel-weight inner (shiftLabel n) same 0 (one u))

@@ -12,7 +12,7 @@ use mathlib.Core.Option.{Option, none, some}
 use native.Mathlib.Omega.{arith}
 use lib.ListN.{length, drop, getElem?, replicate, take, drop-of-length-le, length-drop}
 use lib.Seq.{drop-drop}
-use lib.Dec.{T, eqb}
+use lib.Dec.{T}
 use Rattle.meaning.specs.Basics.{andThen, guard, holds, orElse}
 use Rattle.meaning.specs.Choice.{Mark, Marks}
 use Rattle.meaning.specs.Choices.{marksOf}

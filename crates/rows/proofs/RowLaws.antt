@@ -1,10 +1,10 @@
 -- Rows of sets by the laws of rows of masks (crate `choosing`).
 --   Freshly    from function k on each set is its function's first choice
 --   Carrying   what a step knows on its way from the last function to the first
-use mathlib.Core.Path.{_≡_, refl, ap, ap₂, sym, _∙_, subst}
+use mathlib.Core.Path.{_≡_, ap, sym, _∙_, subst}
 use mathlib.Core.Logic.{_↔_, ⊎-elim}
 use mathlib.Core.Bool.{true, false}
-use mathlib.Core.List.{List, [], _∷_, List·Memᴰ·head, List·Memᴰ·cases-cons, List·Memᴰ·not-nil}
+use mathlib.Core.List.{List, [], List·Memᴰ·head, List·Memᴰ·cases-cons, List·Memᴰ·not-nil}
 use Prim.Native.Nat.{ℕ, suc, _-_, _≤_, _<_}
 use native.Mathlib.Nat.{eq-or-lt-of-le}
 use native.Mathlib.Omega.{arith}
@@ -18,7 +18,7 @@ use Rattle.tokens.specs.Key as table
 use Rattle.masks.specs.Sets.{mask, masksIn}
 use Rattle.masks.specs.declared.NodeSet.{NodeSet}
 use Rattle.masks.proofs.Cases.{lt-or-ge}
-use Rattle.masks.proofs.Words.{masks-at, masks-set}
+use Rattle.masks.proofs.Words.{masks-set}
 use Rattle.faces.specs.declared.first.Firsts.{Firsts}
 use Rattle.choosing.specs.Rows.{Next, Steps, behind, choicesAt, choicesFrom, firstAt, firstFrom}
 use Rattle.choosing.proofs.Stepping.{Carried, Fresh, carried-at, carried-more, carried-none, fresh-more, fresh-none}

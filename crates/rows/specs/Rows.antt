@@ -7,8 +7,6 @@ use mathlib.Core.Bool.{Bool}
 use mathlib.Core.List.{List}
 use Prim.Native.Nat.{ℕ}
 use lib.ListN.{length}
-use Rattle.masks.specs.Sets.{masksIn}
-use Rattle.masks.specs.declared.NodeSet.{NodeSet}
 use Rattle.faces.specs.declared.first.Firsts.{Firsts}
 use Rattle.choosing.specs.FaceNodes.{Faces}
 use Rattle.choosing.specs.Rows.{MaskRow, Steps, choicesAt, maskRows}

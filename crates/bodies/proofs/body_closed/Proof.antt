@@ -2,16 +2,17 @@
 use mathlib.Core.Path.{sym, _∙_}
 use Prim.Native.Nat.{_-_}
 use native.Mathlib.Omega.{arith}
+use Rattle.masks.specs.Sets.{mask}
 use Rattle.bodies.proofs.ClosedLaws.{Testing, size-counted, closed-begins, closed-ends, closed-passes, closed-goes-on, closed-stops}
 use borrow.Author.Needs.{needs}
 use Rattle.bodies.proofs.body_closed.Statement.{statement}
 use Rattle.bodies.proofs.body_closed.Tie as tie
 
 abbrev Inv-loop : tie.InvT-loop
-Inv-loop es face mask root n d i₀ i = Testing es face mask n d i
+Inv-loop es face set root n d i₀ i = Testing es face (mask set) n d i
 
 abbrev μ-loop : tie.MeasureT-loop
-μ-loop es face mask root n d i₀ i = n - i
+μ-loop es face set root n d i₀ i = n - i
 
 mul-root : tie.Need-mul-root Inv-loop μ-loop
 mul-root c = search needs
@@ -28,7 +29,7 @@ depth-requires c κs = search needs
 loop-holds : tie.Need-loop-holds Inv-loop μ-loop
 loop-holds c =
     let s = c .before .before .before .before in
-    closed-begins (s .args .mask) (s .pre .0) (s .pre .1) (c .before .size .ensures) (c .depth .ensures)
+    closed-begins (mask (s .args .set)) (s .pre .0) (s .pre .1) (c .before .size .ensures) (c .depth .ensures)
 
 add-x : tie.Need-add-x Inv-loop μ-loop
 add-x c = search needs
@@ -39,8 +40,8 @@ mul-x c = search needs
 shared-slice-read-x : tie.Need-shared-slice-read-x Inv-loop μ-loop
 shared-slice-read-x c = search needs
 
-marked-requires : tie.Need-marked-requires Inv-loop μ-loop
-marked-requires c κs = search needs
+has-requires : tie.Need-has-requires Inv-loop μ-loop
+has-requires c κs = search needs
 
 size-requires-2 : tie.Need-size-requires-2 Inv-loop μ-loop
 size-requires-2 c κs = search needs
@@ -57,7 +58,7 @@ loop-again : tie.Need-loop-again Inv-loop μ-loop
 loop-again c =
     let l = c .before .before .before .before .before .loop in
     closed-passes (l .inv) (c .before .before .before .before .loop-test .taken)
-    (sym (c .before .before .marked .ensures) ∙ c .before .if1 .taken)
+    (sym (c .before .before .has .ensures) ∙ c .before .if1 .taken)
     (c .size2 .result) (c .size2 .ensures)
 
 reaches-requires : tie.Need-reaches-requires Inv-loop μ-loop
@@ -67,7 +68,7 @@ returns : tie.Need-returns Inv-loop μ-loop
 returns c =
     let l = c .before .before .before .before .before .before .loop in
     closed-stops (l .inv) (c .before .before .before .before .before .loop-test .taken)
-    (sym (c .before .before .before .marked .ensures) ∙ c .before .before .if1 .left)
+    (sym (c .before .before .before .has .ensures) ∙ c .before .before .if1 .left)
     (sym (c .before .reaches .ensures) ∙ c .if2 .taken)
 
 add-i-2 : tie.Need-add-i-2 Inv-loop μ-loop
@@ -80,7 +81,7 @@ loop-again-2 : tie.Need-loop-again-2 Inv-loop μ-loop
 loop-again-2 c =
     let l = c .before .before .before .before .before .before .loop in
     closed-goes-on (l .inv) (c .before .before .before .before .before .loop-test .taken)
-    (sym (c .before .before .before .marked .ensures) ∙ c .before .before .if1 .left)
+    (sym (c .before .before .before .has .ensures) ∙ c .before .before .if1 .left)
     (sym (c .before .reaches .ensures) ∙ c .if2 .left)
 
 returns-2 : tie.Need-returns-2 Inv-loop μ-loop
@@ -100,7 +101,7 @@ body-closed-spec =
     add-x
     mul-x
     shared-slice-read-x
-    marked-requires
+    has-requires
     size-requires-2
     add-i
     loop-less

@@ -4,6 +4,7 @@ use Prim.Native.Nat.{_-_}
 use native.Mathlib.Omega.{arith}
 use borrow.Author.Tests.{not-true, not-false}
 use Rattle.numbers.specs.Tests.{told}
+use Rattle.masks.specs.Sets.{mask}
 use Rattle.bodies.proofs.SuitsLaws.{lowest-room, Walking, suits-begins, suits-ends, suits-out, node-counted, lowest-inside}
 use Rattle.bodies.proofs.SuitsLaws.{hole-stops, hole-goes-on, node-stops, node-goes-on}
 use borrow.Author.Needs.{needs}
@@ -11,10 +12,10 @@ use Rattle.bodies.proofs.suits.Statement.{statement}
 use Rattle.bodies.proofs.suits.Tie as tie
 
 abbrev Inv-loop : tie.InvT-loop
-Inv-loop es ns face faced mask root n d e low i₀ j₀ i j = Walking (told ns) es face faced mask n d e low i j
+Inv-loop es ns face faced set root n d e low i₀ j₀ i j = Walking (told ns) es face faced (mask set) n d e low i j
 
 abbrev μ-loop : tie.MeasureT-loop
-μ-loop es ns face faced mask root n d e low i₀ j₀ i j = n - i
+μ-loop es ns face faced set root n d e low i₀ j₀ i j = n - i
 
 mul-root : tie.Need-mul-root Inv-loop μ-loop
 mul-root c = search needs
@@ -43,12 +44,12 @@ lowest-requires c κs = search needs
 add-low : tie.Need-add-low Inv-loop μ-loop
 add-low c =
     let s = c .before .before .before .before .before .before .before .before in
-    omega (arith, lowest-room (s .args .mask), c .lowest .ensures, s .pre .0 .small, s .pre .1 .1 .1 .0)
+    omega (arith, lowest-room (mask (s .args .set)), c .lowest .ensures, s .pre .0 .small, s .pre .1 .1 .1 .0)
 
 loop-holds : tie.Need-loop-holds Inv-loop μ-loop
 loop-holds c =
     let s = c .before .before .before .before .before .before .before .before in
-    suits-begins (s .args .faced) (s .args .mask) (s .pre .0) (s .pre .1 .0 (s .args .face) (s .pre .1 .1 .0))
+    suits-begins (s .args .faced) (mask (s .args .set)) (s .pre .0) (s .pre .1 .0 (s .args .face) (s .pre .1 .1 .0))
     (c .before .before .before .before .size .ensures)
     (c .before .before .before .depth .ensures) (c .before .depth2 .ensures) (c .lowest .ensures)
 
@@ -72,8 +73,8 @@ mul-y c = search needs
 shared-slice-read-y : tie.Need-shared-slice-read-y Inv-loop μ-loop
 shared-slice-read-y c = search needs
 
-marked-requires : tie.Need-marked-requires Inv-loop μ-loop
-marked-requires c κs = search needs
+has-requires : tie.Need-has-requires Inv-loop μ-loop
+has-requires c κs = search needs
 
 hole-fits-requires : tie.Need-hole-fits-requires Inv-loop μ-loop
 hole-fits-requires c κs =
@@ -81,14 +82,14 @@ hole-fits-requires c κs =
     let l = c .before .before .before .before .before .before .loop in
     let low =
     lowest-inside (l .inv) (c .before .before .before .before .before .loop-test .taken) (omega arith)
-    (sym (c .before .marked .ensures) ∙ c .if2 .taken) in
+    (sym (c .before .has .ensures) ∙ c .if2 .taken) in
     (omega (arith, low, s .pre .1 .1 .1 .1), omega (arith, s .pre .1 .1 .1 .1))
 
 returns-2 : tie.Need-returns-2 Inv-loop μ-loop
 returns-2 c =
     hole-stops (c .before .before .before .before .before .before .before .before .loop .inv)
     (c .before .before .before .before .before .before .before .loop-test .taken) (omega arith)
-    (sym (c .before .before .before .marked .ensures) ∙ c .before .before .if2 .taken)
+    (sym (c .before .before .before .has .ensures) ∙ c .before .before .if2 .taken)
     (sym (c .before .hole-fits .ensures) ∙ not-true _ (c .if3 .taken))
 
 size-requires-2 : tie.Need-size-requires-2 Inv-loop μ-loop
@@ -117,7 +118,7 @@ loop-again : tie.Need-loop-again Inv-loop μ-loop
 loop-again c =
     let l = c .before .before .before .before .before .before .before .before .before .before .loop in
     hole-goes-on (l .inv) (c .before .before .before .before .before .before .before .before .before .loop-test .taken) (omega arith)
-    (sym (c .before .before .before .before .before .marked .ensures) ∙ c .before .before .before .before .if2 .taken)
+    (sym (c .before .before .before .before .before .has .ensures) ∙ c .before .before .before .before .if2 .taken)
     (c .before .size2 .result) (c .size3 .result) (c .before .size2 .ensures) (c .size3 .ensures)
     (sym (c .before .before .before .hole-fits .ensures) ∙ not-false _ (c .before .before .if3 .left))
 
@@ -128,7 +129,7 @@ returns-3 : tie.Need-returns-3 Inv-loop μ-loop
 returns-3 c =
     node-stops (c .before .before .before .before .before .before .before .before .loop .inv)
     (c .before .before .before .before .before .before .before .loop-test .taken) (omega arith)
-    (sym (c .before .before .before .marked .ensures) ∙ c .before .before .if2 .left)
+    (sym (c .before .before .before .has .ensures) ∙ c .before .before .if2 .left)
     (sym (c .before .same-node .ensures) ∙ not-true _ (c .if4 .taken))
 
 add-i-2 : tie.Need-add-i-2 Inv-loop μ-loop
@@ -144,7 +145,7 @@ loop-again-2 : tie.Need-loop-again-2 Inv-loop μ-loop
 loop-again-2 c =
     node-goes-on (c .before .before .before .before .before .before .before .before .loop .inv)
     (c .before .before .before .before .before .before .before .loop-test .taken) (omega arith)
-    (sym (c .before .before .before .marked .ensures) ∙ c .before .before .if2 .left)
+    (sym (c .before .before .before .has .ensures) ∙ c .before .before .if2 .left)
     (sym (c .before .same-node .ensures) ∙ not-false _ (c .if4 .left))
 
 returns-4 : tie.Need-returns-4 Inv-loop μ-loop
@@ -172,7 +173,7 @@ suits-spec =
     shared-slice-read-x
     mul-y
     shared-slice-read-y
-    marked-requires
+    has-requires
     hole-fits-requires
     returns-2
     size-requires-2

@@ -2,7 +2,7 @@
 use borrow.Author.Needs.{needs}
 use mathlib.Core.Path.{_≡_, sym, _∙_, subst}
 use native.Mathlib.Omega.{arith}
-use Prim.Native.Nat.{ℕ, suc, _+_, _-_, _≤_, _<_}
+use Prim.Native.Nat.{suc, _+_, _-_, _≤_, _<_}
 use Rattle.choosing.specs.FaceNodes.{sizeFrom}
 use Rattle.choosing.proofs.FillLaws.{Filling, filling-begun, filling-opened, filling-passed, filling-done}
 use Rattle.choosing.proofs.fill.Statement.{statement}

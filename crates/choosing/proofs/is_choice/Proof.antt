@@ -4,7 +4,7 @@ use mathlib.Core.Path.{_≡_, sym, _∙_, subst, subst₂}
 use mathlib.Core.Bool.{false≢true}
 use native.Mathlib.Omega.{arith}
 use borrow.Author.Tests.{not-true, not-false}
-use Prim.Native.Nat.{ℕ, suc, _+_, _-_, _≤_, _<_}
+use Prim.Native.Nat.{suc, _+_, _-_, _≤_}
 use Rattle.meaning.specs.Limits.{maxFaceNodes}
 use Rattle.choosing.specs.FaceNodes.{sizeFrom}
 use Rattle.choosing.proofs.TestLaws.{Tested, tested-begun, tested-done, tested-hole, tested-none, tested-refused}

@@ -14,6 +14,7 @@ use borrow.Fn.PlainCycle.{Measures, is, falls, and}
 use Rattle.meaning.specs.Basics.{Bytes}
 use Rattle.tokens.specs.Token.{sizeIn}
 use Rattle.tokens.specs.Key.{at}
+use Rattle.masks.specs.Sets.{mask}
 use Rattle.bodies.specs.Marked.{marked}
 use Rattle.copying.specs.Copied.{TermCopyable}
 use Rattle.copying.proofs.SpanLaws.{term-inside}
@@ -26,7 +27,7 @@ use Rattle.copying.proofs.+copy_term+copy_terms.Lts-copy_term as copy-t
 use Rattle.copying.proofs.copy_terms.Reads as copy-terms
 use Rattle.copying.proofs.copy_terms.Kinds as copy-terms-kinds
 use Rattle.copying.proofs.+copy_term+copy_terms.Lts-copy_terms as copy-terms-lts
-use Rattle.bodies.proofs.marked.Reads as marked-reads
+use Rattle.masks.proofs.NodeSet.has.Reads as has-reads
 use Rattle.copying.proofs.fixed_length.Reads as fixed-length-reads
 use Rattle.copying.proofs.write_hole.Reads as write-hole-reads
 use Rattle.copying.proofs.write_node.Reads as write-node-reads
@@ -57,8 +58,8 @@ copy-terms-below t =
 
 abbrev copy-term-callees : ℕ → copy-term-lts.Claims
 copy-term-callees t = (
-  marked-reads.Asked,
-  marked-reads.Learnt,
+  has-reads.Asked,
+  has-reads.Learnt,
   write-hole-reads.Asked,
   write-hole-reads.Learnt,
   fixed-length-reads.Asked,
@@ -75,10 +76,10 @@ abbrev copy-terms-callees : ℕ → copy-terms-lts.Claims
 copy-terms-callees t = (copy-term-below t, copy-term.Post, size-reads.Asked, size-reads.Learnt)
 
 abbrev Inv-loop : copy-terms-lts.InvT-loop
-Inv-loop es from mask node to out₀ next₀ n₀ out next n = Copying es from mask node to next n out₀ out
+Inv-loop es from set node to out₀ next₀ n₀ out next n = Copying es from (mask set) node to next n out₀ out
 
 abbrev μ-loop : copy-terms-lts.MeasureT-loop
-μ-loop es from mask node to out₀ next₀ n₀ out next n = to - next
+μ-loop es from set node to out₀ next₀ n₀ out next n = to - next
 
 -- The places and needs of both, at a measure t
 module _ (t : ℕ) where
@@ -91,9 +92,9 @@ module _ (t : ℕ) where
 
   -- `copy_term`: the node is no hole
   unmarked : (c : Term copy-term-lts.Else1)
-      → marked (c .before .before .before .before .args .mask)
+      → marked (mask (c .before .before .before .before .args .set))
       (c .before .before .before .before .args .at - c .before .before .before .before .args .from) ≡ false
-  unmarked c = sym (c .before .marked .ensures) ∙ c .if1 .left
+  unmarked c = sym (c .before .has .ensures) ∙ c .if1 .left
 
   -- room for its head and fixed part
   has-room : (c : Term copy-term-lts.After-fixed-length)
@@ -102,16 +103,16 @@ module _ (t : ℕ) where
       let start = c .before .before .before .before .before .before in
       inner-room (start .pre .1) (unmarked (c .before .before)) (c .fixed-length .ensures)
 
-  copy-term-sub-marked : Term copy-term-lts.Need-sub-marked
-  copy-term-sub-marked c = omega (arith, c .before .before .pre .1 .begins)
+  copy-term-sub-has : Term copy-term-lts.Need-sub-has
+  copy-term-sub-has c = omega (arith, c .before .before .pre .1 .begins)
 
-  copy-term-marked-requires : Term copy-term-lts.Need-marked-requires
-  copy-term-marked-requires c κs = search needs
+  copy-term-has-requires : Term copy-term-lts.Need-has-requires
+  copy-term-has-requires c κs = search needs
 
   copy-term-write-hole-requires : Term copy-term-lts.Need-write-hole-requires
   copy-term-write-hole-requires c κs =
       let met = c .before .before in
-      hole-room (met .before .before .before .pre .1) (sym (met .marked .ensures) ∙ c .before .if1 .taken)
+      hole-room (met .before .before .before .pre .1) (sym (met .has .ensures) ∙ c .before .if1 .taken)
 
   copy-term-same-length : Term copy-term-lts.Need-same-length
   copy-term-same-length c = search needs
@@ -119,7 +120,7 @@ module _ (t : ℕ) where
   copy-term-returns : Term copy-term-lts.Need-returns
   copy-term-returns c =
       let wrote = c .before .before in
-      term-hole (sym (wrote .before .before .before .marked .ensures) ∙ wrote .before .before .if1 .taken) (wrote .write-hole .ensures)
+      term-hole (sym (wrote .before .before .before .has .ensures) ∙ wrote .before .before .if1 .taken) (wrote .write-hole .ensures)
 
   copy-term-mul-x : Term copy-term-lts.Need-mul-x
   copy-term-mul-x c =
@@ -208,7 +209,7 @@ module _ (t : ℕ) where
     abbrev n : ℕ
     n = loop .loop .n
 
-    copies : TermCopyable es (start .args .from) (start .args .mask) (loop .loop .next) (length (take (length out - n) (drop n out)))
+    copies : TermCopyable es (start .args .from) (mask (start .args .set)) (loop .loop .next) (length (take (length out - n) (drop n out)))
     copies = next-copies (loop .loop .inv) (start .pre .1) (c .loop-test .taken)
 
     nodes : (1 ≤ sizeIn (at es (loop .loop .next))) × (loop .loop .next + sizeIn (at es (loop .loop .next)) ≤ start .args .to)
@@ -277,8 +278,8 @@ pub +copy-term+copy-terms-spec : {M : Type 1} → statement M
 +copy-term+copy-terms-spec = close μ-copy-term μ-copy-terms (λ t. copy-term-lts.spec (copy-term-callees t)
     (copy-term-at t)
     copy-term.Post
-    (copy-term-sub-marked t)
-    (copy-term-marked-requires t)
+    (copy-term-sub-has t)
+    (copy-term-has-requires t)
     (copy-term-write-hole-requires t)
     (copy-term-same-length t)
     (copy-term-returns t)

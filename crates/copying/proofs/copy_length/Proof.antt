@@ -1,118 +1,88 @@
--- `copying::copy_length` meets its contract. The loop's invariant is `Measuring`; the measure is the number of nodes left of the term.
+-- `copying::copy_length` meets its contract: the whole term, or what is left of it where its holes save.
 use mathlib.Core.Path.{sym, _∙_}
-use Prim.Native.Nat.{_+_, _-_}
 use native.Mathlib.Omega.{arith}
-use Rattle.tokens.specs.Key.{at}
-use Rattle.copying.proofs.FixedLaws.{fixed-short}
+use borrow.Author.Tests.{eqb-true, eqb-false}
 use Rattle.copying.proofs.SpanLaws.{term-inside}
-use Rattle.copying.proofs.MeasureLaws.{Measuring, measure-begins, measure-ends, measure-goes-on, measure-passes, size-counted}
+use Rattle.copying.proofs.BodyLaws.{body-measured, body-saved, empty-measured, hole-head, hole-measurable}
 use borrow.Author.Needs.{needs}
 use Rattle.copying.proofs.copy_length.Statement.{statement}
 use Rattle.copying.proofs.copy_length.Tie as tie
 
-abbrev Inv-loop : tie.InvT-loop
-Inv-loop es node mask n total₀ i₀ total i = Measuring es node mask n total i
+term-length-requires : tie.Need-term-length-requires
+term-length-requires c κs = search needs
 
-abbrev μ-loop : tie.MeasureT-loop
-μ-loop es node mask n total₀ i₀ total i = n - i
+is-empty-requires : tie.Need-is-empty-requires
+is-empty-requires c κs = search needs
 
-mul-size : tie.Need-mul-size Inv-loop μ-loop
-mul-size c = let inside = term-inside (c .before .pre .there) in search needs
+returns : tie.Need-returns
+returns c = empty-measured (c .before .before .term-length .ensures) (eqb-true _ 0 (sym (c .before .is-empty .ensures) ∙ c .if1 .taken))
 
-shared-slice-read-size : tie.Need-shared-slice-read-size Inv-loop μ-loop
-shared-slice-read-size c = term-inside (c .before .before .pre .there) .starts
+lowest-requires : tie.Need-lowest-requires
+lowest-requires c κs = search needs
 
-size-requires : tie.Need-size-requires Inv-loop μ-loop
-size-requires c κs = search needs
+add-term-length : tie.Need-add-term-length
+add-term-length c =
+    let start = c .before .before .before .before .before in
+    let holed = eqb-false _ 0 (sym (c .before .before .is-empty .ensures) ∙ c .before .if1 .left) in
+    omega (arith, term-inside (hole-measurable (start .pre) holed (c .lowest .ensures) .there) .starts)
 
-loop-holds : tie.Need-loop-holds Inv-loop μ-loop
-loop-holds c = measure-begins _ (c .before .before .before .pre) (c .size .ensures)
+term-length-requires-2 : tie.Need-term-length-requires-2
+term-length-requires-2 c κs =
+    hole-measurable (c .before .before .before .before .before .pre)
+    (eqb-false _ 0 (sym (c .before .before .is-empty .ensures) ∙ c .before .if1 .left)) (c .lowest .ensures)
 
-add-x : tie.Need-add-x Inv-loop μ-loop
-add-x c = search needs
+holes-requires : tie.Need-holes-requires
+holes-requires c κs = search needs
 
-mul-x : tie.Need-mul-x Inv-loop μ-loop
-mul-x c = search needs
+sub-result : tie.Need-sub-result
+sub-result c =
+    let start = c .before .before .before .before .before .before .before in
+    let empty = c .before .before .before .before in
+    hole-head (start .pre .face .there) (start .pre .chosen) (eqb-false _ 0 (sym (empty .is-empty .ensures) ∙ c .before .before .before .if1 .left))
+    (empty .before .term-length .ensures) (c .before .before .lowest .ensures) (c .before .term-length2 .ensures) (c .holes .ensures)
 
-shared-slice-read-x : tie.Need-shared-slice-read-x Inv-loop μ-loop
-shared-slice-read-x c = search needs
+-- What the holes save is less than the whole
+mul-result : tie.Need-mul-result
+mul-result c =
+    let start = c .before .before .before .before .before .before .before in
+    let empty = c .before .before .before .before in
+    omega (
+      arith,
+      body-saved (start .pre .face .there) (start .pre .chosen)
+          (eqb-false _ 0 (sym (empty .is-empty .ensures) ∙ c .before .before .before .if1 .left)) (empty .before .term-length .ensures)
+          (c .before .before .lowest .ensures) (c .before .term-length2 .ensures) (c .holes .ensures),
+    )
 
-marked-requires : tie.Need-marked-requires Inv-loop μ-loop
-marked-requires c κs = search needs
+sub-result-2 : tie.Need-sub-result-2
+sub-result-2 c =
+    let start = c .before .before .before .before .before .before .before in
+    let empty = c .before .before .before .before in
+    omega (
+      arith,
+      body-saved (start .pre .face .there) (start .pre .chosen)
+          (eqb-false _ 0 (sym (empty .is-empty .ensures) ∙ c .before .before .before .if1 .left)) (empty .before .term-length .ensures)
+          (c .before .before .lowest .ensures) (c .before .term-length2 .ensures) (c .holes .ensures),
+    )
 
-add-total : tie.Need-add-total Inv-loop μ-loop
-add-total c = search needs
-
-size-requires-2 : tie.Need-size-requires-2 Inv-loop μ-loop
-size-requires-2 c κs = search needs
-
-add-i : tie.Need-add-i Inv-loop μ-loop
-add-i c = search needs
-
-loop-less : tie.Need-loop-less Inv-loop μ-loop
-loop-less c =
-    let l = c .before .before .before .before in
-    omega (arith, c .size2 .ensures, size-counted (l .before .loop .inv) (l .loop-test .taken))
-
-loop-again : tie.Need-loop-again Inv-loop μ-loop
-loop-again c =
-    let l = c .before .before .before .before in
-    measure-passes (l .before .loop .inv) (l .loop-test .taken) (sym (c .before .before .marked .ensures) ∙ c .before .if1 .taken)
-    (c .size2 .ensures)
-
-fixed-length-requires : tie.Need-fixed-length-requires Inv-loop μ-loop
-fixed-length-requires c κs = search needs
-
-add-total-2 : tie.Need-add-total-2 Inv-loop μ-loop
-add-total-2 c =
-    let l = c .before .before .before .before .before in
-    let s = l .before .before .before .before .args in
-    omega (arith, c .fixed-length .ensures, fixed-short (at (s .es .now) (s .node + l .loop .i)))
-
-add-total-3 : tie.Need-add-total-3 Inv-loop μ-loop
-add-total-3 c =
-    let l = c .before .before .before .before .before in
-    let s = l .before .before .before .before .args in
-    omega (arith, c .fixed-length .ensures, fixed-short (at (s .es .now) (s .node + l .loop .i)))
-
-add-i-2 : tie.Need-add-i-2 Inv-loop μ-loop
-add-i-2 c = search needs
-
-loop-less-2 : tie.Need-loop-less-2 Inv-loop μ-loop
-loop-less-2 c = search needs
-
-loop-again-2 : tie.Need-loop-again-2 Inv-loop μ-loop
-loop-again-2 c =
-    let l = c .before .before .before .before in
-    measure-goes-on (l .before .loop .inv) (l .loop-test .taken) (sym (c .before .before .marked .ensures) ∙ c .before .if1 .left)
-    (c .fixed-length .ensures)
-
-returns : tie.Need-returns Inv-loop μ-loop
-returns c = measure-ends (c .before .loop .inv) (c .loop-test .left)
+returns-2 : tie.Need-returns-2
+returns-2 c =
+    let empty = c .before .before .before .before in
+    body-measured (empty .before .term-length .ensures)
+    (eqb-false _ 0 (sym (empty .is-empty .ensures) ∙ c .before .before .before .if1 .left)) (c .before .before .lowest .ensures)
+    (c .before .term-length2 .ensures) (c .holes .ensures)
 
 pub copy-length-spec : {M : Type 1} → statement M
 copy-length-spec =
     tie.close
     (tie.spec
-    Inv-loop
-    μ-loop
-    mul-size
-    shared-slice-read-size
-    size-requires
-    loop-holds
-    add-x
-    mul-x
-    shared-slice-read-x
-    marked-requires
-    add-total
-    size-requires-2
-    add-i
-    loop-less
-    loop-again
-    fixed-length-requires
-    add-total-2
-    add-total-3
-    add-i-2
-    loop-less-2
-    loop-again-2
-    returns)
+    term-length-requires
+    is-empty-requires
+    returns
+    lowest-requires
+    add-term-length
+    term-length-requires-2
+    holes-requires
+    sub-result
+    mul-result
+    sub-result-2
+    returns-2)

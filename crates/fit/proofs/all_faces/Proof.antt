@@ -1,5 +1,6 @@
 -- `all_faces` meets its contract: the plain faces, and then the applications.
 use borrow.Author.Needs.{needs}
+use Rattle.masks.specs.Sets.{masksIn}
 use Rattle.fit.proofs.CodeLaws.{none-kept, plain-fails, plain-stays, then-applied}
 use Rattle.fit.proofs.all_faces.Statement.{statement}
 use Rattle.fit.proofs.all_faces.Tie as tie
@@ -13,7 +14,7 @@ returns : tie.Need-returns
 returns c =
     let a = c .before .before .before .before .before .before .before .before .args in
     let n = c .before .before .all-demanded in
-    plain-fails (a .ps .now) (a .es .now) (a .ns .now) (a .faces .now) (a .functions) (a .firsts) (a .row) (n .result) (n .ensures)
+    plain-fails (a .ps .now) (a .es .now) (a .ns .now) (a .faces .now) (a .functions) (a .firsts) (masksIn (a .row)) (n .result) (n .ensures)
     (c .if1 .taken)
 
 faces-demanded-requires : tie.Need-faces-demanded-requires
@@ -24,7 +25,7 @@ faces-demanded-requires c κs =
       s .pre .0 .tables,
       s .pre .0 .slots (s .pre .1),
       plain-stays (a .ps .now) (a .es .now) (a .ns .now) (a .faces .now) (a .functions) (a .firsts)
-          (a .row) (n .result) (n .ensures) (c .before .before .before .if1 .left) (s .pre .0 .reads),
+          (masksIn (a .row)) (n .result) (n .ensures) (c .before .before .before .if1 .left) (s .pre .0 .reads),
     )
 
 same-length : tie.Need-same-length
@@ -35,7 +36,7 @@ returns-2 c =
     let a = c .before .before .before .before .before .before .before .before .before .before .before .before .before .before .args in
     let n = c .before .before .before .before .before .before .before .before .all-demanded in
     let v = c .before .before .faces-demanded in
-    then-applied (a .ps .now) (a .es .now) (a .ns .now) (a .faces .now) (a .functions) (a .firsts) (a .row) (n .result) (n .ensures)
+    then-applied (a .ps .now) (a .es .now) (a .ns .now) (a .faces .now) (a .functions) (a .firsts) (masksIn (a .row)) (n .result) (n .ensures)
     (c .before .before .before .before .before .before .if1 .left) (v .result) (v .ensures)
 
 pub all-faces-spec : {M : Type 1} → statement M

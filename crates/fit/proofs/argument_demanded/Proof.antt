@@ -6,7 +6,8 @@ use mathlib.Core.Option.{Option, none}
 use Prim.Native.Nat.{ℕ}
 use lib.Seq.{length-take-le}
 use borrow.Author.Needs.{needs}
-use Rattle.bodies.proofs.lowest.Reads as lowest-reads
+use Rattle.masks.proofs.NodeSet.lowest.Reads as lowest-reads
+use Rattle.masks.specs.Sets.{mask}
 use Rattle.lockstep.specs.Span.{spanWalk, Lent, Walked}
 use Rattle.lockstep.specs.declared.Span.{Span}
 use Rattle.lockstep.specs.declared.Shapes.the-variants as shapes
@@ -74,11 +75,11 @@ walk-at-requires c κs =
     let s = c .before .before .before .before .before .before .before .before .before .before .before in
     let a = s .args in
     subst (Lent (a .ps .now) (a .es .now) (a .scratch .now))
-    (sym (span-is (a .ps .now) (a .es .now) (a .face) (a .mask) (c .before .before .before .before .before .lowest .result)
+    (sym (span-is (a .ps .now) (a .es .now) (a .face) (mask (a .set)) (c .before .before .before .before .before .lowest .result)
     (c .before .before .before .before .size .result)
     (c .before .before .before .depth .result) (c .before .depth2 .result) (c .before .before .before .before .before .lowest .ensures)
     (c .before .before .before .before .size .ensures) (c .before .before .before .depth .ensures) (c .before .depth2 .ensures)))
-    (argument-lent (a .ps .now) (a .es .now) (a .ns .now) (a .scratch .now) (a .face) (a .mask) (s .pre .0) (s .pre .1))
+    (argument-lent (a .ps .now) (a .es .now) (a .ns .now) (a .scratch .now) (a .face) (mask (a .set)) (s .pre .0) (s .pre .1))
 
 module _ (c : lts.After-walk-at callees reads.Pre reads.Post) where
   abbrev start : lts.Start callees reads.Pre reads.Post
@@ -97,13 +98,13 @@ module _ (c : lts.After-walk-at callees reads.Pre reads.Post) where
   new = c .walk-at .last .1 .1 .1 .0
 
   abbrev argumentWalk : Option (List ℕ)
-  argumentWalk = spanWalk ps es (argumentSpan ps es (start .args .face) (start .args .mask))
+  argumentWalk = spanWalk ps es (argumentSpan ps es (start .args .face) (mask (start .args .set)))
 
   walked : Walked argumentWalk (start .args .scratch .now) new (c .walk-at .result)
   walked =
       let a = start .args in
       subst (λ (q : Span). Walked (spanWalk ps es q) (a .scratch .now) new (c .walk-at .result))
-      (span-is (a .ps .now) (a .es .now) (a .face) (a .mask) (c .before .before .before .before .before .before .lowest .result)
+      (span-is (a .ps .now) (a .es .now) (a .face) (mask (a .set)) (c .before .before .before .before .before .before .lowest .result)
       (c .before .before .before .before .before .size .result)
       (c .before .before .before .before .depth .result) (c .before .before .depth2 .result)
       (c .before .before .before .before .before .before .lowest .ensures)
@@ -139,7 +140,7 @@ all-demanded-requires c κs =
     let n = c .before .before .n .given in
     let s = start w in (
       s .pre .2,
-      argument-reads (ps w) (es w) (ns w) (new w) (s .args .face) (s .args .mask) (n .0 .0) (s .pre .1) (recorded w (n .0 .0) (n .1)),
+      argument-reads (ps w) (es w) (ns w) (new w) (s .args .face) (mask (s .args .set)) (n .0 .0) (s .pre .1) (recorded w (n .0 .0) (n .1)),
     )
 
 same-length : tie.Need-same-length
@@ -149,7 +150,7 @@ returns : tie.Need-returns
 returns c =
     let w = c .before .before .before .before in
     let a = start w .args in
-    argument-disagrees (ps w) (es w) (ns w) (a .face) (a .mask) (a .kept .nodes) (failed w (c .enum-told .given .1))
+    argument-disagrees (ps w) (es w) (ns w) (a .face) (mask (a .set)) (a .kept .nodes) (failed w (c .enum-told .given .1))
 
 same-length-2 : tie.Need-same-length-2
 same-length-2 c = search needs
@@ -159,7 +160,7 @@ returns-2 c =
     let w = c .before .before .before .before .before .before .before in
     let n = c .before .before .before .n .given in
     let a = start w .args in
-    argument-demands (ps w) (es w) (ns w) (a .face) (a .mask) (a .kept .nodes) (new w) (n .0 .0) (recorded w (n .0 .0) (n .1))
+    argument-demands (ps w) (es w) (ns w) (a .face) (mask (a .set)) (a .kept .nodes) (new w) (n .0 .0) (recorded w (n .0 .0) (n .1))
     (c .all-demanded .result) (c .all-demanded .ensures)
 
 pub argument-demanded-spec : {M : Type 1} → statement M

@@ -3,6 +3,8 @@ use mathlib.Core.Path.{ap, sym, _∙_, subst}
 use Prim.Native.Nat.{ℕ}
 use native.Mathlib.Omega.{arith}
 use borrow.Author.Needs.{needs}
+use Rattle.masks.specs.Sets.{masksIn}
+use Rattle.masks.proofs.Words.{masks-at}
 use Rattle.meaning.specs.Limits.{metavariableCount, maxFunctions}
 use Rattle.tokens.specs.Key.{at}
 use Rattle.metavariables.specs.Survey.{count}
@@ -23,7 +25,7 @@ tag-requires c κs = search needs
 returns : tie.Need-returns
 returns c =
     let a = c .before .before .before .before .before .before .before .args in
-    face-plain (a .ps .now) (a .es .now) (a .ns .now) (a .functions) (a .t6) (a .t7) (a .face) (a .kept .nodes) (c .before .tag .result)
+    face-plain (a .ps .now) (a .es .now) (a .ns .now) (a .functions) (a .t6) (masksIn (a .t7)) (a .face) (a .kept .nodes) (c .before .tag .result)
     (c .before .tag .ensures) (c .if1 .taken)
 
 payload-requires : tie.Need-payload-requires
@@ -67,9 +69,9 @@ mul-application-demanded-2 c =
     let few = s .pre .1 .rank (sym (c .before .before .before .tag .ensures) ∙ c .before .before .if1 .left) in
     omega (arith, few, (c .rank .ensures ∙ ap (λ (m : ℕ). count m (a .functions)) (c .before .payload .ensures)))
 
-array-read-application-demanded-2 : tie.Need-array-read-application-demanded-2
+array-copy-out-application-demanded : tie.Need-array-copy-out-application-demanded
 unfolding maxFunctions
-array-read-application-demanded-2 c =
+array-copy-out-application-demanded c =
     let s = c .before .before .before .before .before .before .before .before .before in
     let a = s .args in
     let few = s .pre .1 .rank (sym (c .before .before .before .tag .ensures) ∙ c .before .before .if1 .left) in
@@ -77,12 +79,14 @@ array-read-application-demanded-2 c =
 
 application-demanded-requires : tie.Need-application-demanded-requires
 application-demanded-requires c κs =
-    let s = c .before .before .before .before .before .before .before .before .before .before in
+    let s = c .before .before .before .before .before .before .before .before .before .before .before in
     let a = s .args in
-    let e = (c .before .rank .ensures ∙ ap (λ (m : ℕ). count m (a .functions)) (c .before .before .payload .ensures)) in (
+    let k : ℕ = c .before .before .rank .result in
+    let e = (c .before .before .rank .ensures ∙ ap (λ (m : ℕ). count m (a .functions)) (c .before .before .before .payload .ensures)) in (
       s .pre .0,
-      subst (λ (k : ℕ). Applicable (a .ps .now) (a .es .now) (a .ns .now) (a .face) (at (a .t6) k) (at (a .t7) k)) (sym e)
-          (s .pre .1 .applies (sym (c .before .before .before .before .tag .ensures) ∙ c .before .before .before .if1 .left)),
+      subst (Applicable (a .ps .now) (a .es .now) (a .ns .now) (a .face) (at (a .t6) k)) (sym (masks-at (a .t7) k))
+          (subst (λ (k : ℕ). Applicable (a .ps .now) (a .es .now) (a .ns .now) (a .face) (at (a .t6) k) (at (masksIn (a .t7)) k)) (sym e)
+          (s .pre .1 .applies (sym (c .before .before .before .before .before .tag .ensures) ∙ c .before .before .before .before .if1 .left))),
       s .pre .2,
     )
 
@@ -91,14 +95,15 @@ same-length c = search needs
 
 returns-2 : tie.Need-returns-2
 returns-2 c =
-    let a = c .before .before .before .before .before .before .before .before .before .before .before .before .before .args in
+    let a = c .before .before .before .before .before .before .before .before .before .before .before .before .before .before .args in
     let r = c .before .before .application-demanded in
-    face-applies (a .ps .now) (a .es .now) (a .ns .now) (a .functions) (a .t6) (a .t7) (a .face) (a .kept .nodes)
-    (c .before .before .before .before .before .before .before .tag .result)
-    (c .before .before .before .before .before .before .before .tag .ensures) (c .before .before .before .before .before .before .if1 .left)
-    (c .before .before .before .before .rank .result)
-    (c .before .before .before .before .rank .ensures ∙ ap (λ (m : ℕ). count m (a .functions))
-    (c .before .before .before .before .before .payload .ensures)) (r .result) (r .ensures)
+    let k : ℕ = c .before .before .before .before .before .rank .result in
+    face-applies (a .ps .now) (a .es .now) (a .ns .now) (a .functions) (a .t6) (masksIn (a .t7)) (a .face) (a .kept .nodes)
+    (c .before .before .before .before .before .before .before .before .tag .result)
+    (c .before .before .before .before .before .before .before .before .tag .ensures) (c .before .before .before .before .before .before .before .if1 .left)
+    k _
+    (c .before .before .before .before .before .rank .ensures ∙ ap (λ (m : ℕ). count m (a .functions))
+    (c .before .before .before .before .before .before .payload .ensures)) (masks-at (a .t7) k) (r .result) (r .ensures)
 
 pub face-demanded-spec : {M : Type 1} → statement M
 face-demanded-spec =
@@ -114,7 +119,7 @@ face-demanded-spec =
     mul-application-demanded
     array-read-application-demanded
     mul-application-demanded-2
-    array-read-application-demanded-2
+    array-copy-out-application-demanded
     application-demanded-requires
     same-length
     returns-2)

@@ -5,6 +5,7 @@ use mathlib.Core.Path.{_≡_, refl, _∙_}
 use Prim.Native.Nat.{_-_}
 use lib.ListN.{length}
 use borrow.Author.Needs.{needs}
+use Rattle.masks.specs.Sets.{masksIn}
 use Rattle.numbers.specs.Tests.{told}
 use Rattle.fit.specs.Judging.{facesKept}
 use Rattle.fit.proofs.CodeLaws.{tables-again, Going, going-slots, going-on, going-fails, going-ends}
@@ -14,7 +15,7 @@ use Rattle.fit.proofs.faces_demanded.Tie as tie
 abbrev Inv-loop : tie.InvT-loop
 Inv-loop ps es ns faces functions nodes row scratch₀ kept₀ k₀ scratch kept k =
     (length scratch ≡ length scratch₀)
-    × Going ps es ns functions nodes row faces (facesKept (told ns) ps es functions nodes row faces (kept₀ .nodes)) k (kept .nodes)
+    × Going ps es ns functions nodes (masksIn row) faces (facesKept (told ns) ps es functions nodes (masksIn row) faces (kept₀ .nodes)) k (kept .nodes)
 
 abbrev μ-loop : tie.MeasureT-loop
 μ-loop ps es ns faces functions nodes row scratch₀ kept₀ k₀ scratch kept k = length faces - k
@@ -36,7 +37,7 @@ face-demanded-requires c κs =
     let a = s .args in
     let l = c .before .before .before .loop in (
       tables-again (a .ps .now) (a .es .now) (a .ns .now) (a .scratch .now) (l .scratch) (s .pre .0) (l .inv .0),
-      going-slots (a .ps .now) (a .es .now) (a .ns .now) (a .functions) (a .nodes) (a .row) (a .faces .now) _ (l .k) (l .kept .nodes)
+      going-slots (a .ps .now) (a .es .now) (a .ns .now) (a .functions) (a .nodes) (masksIn (a .row)) (a .faces .now) _ (l .k) (l .kept .nodes)
           (l .inv .1) (c .before .before .loop-test .taken),
       l .inv .1 .inside,
     )
@@ -52,7 +53,7 @@ returns c =
     let a = s .args in
     let l = c .before .before .before .before .before .before .before .before .loop in
     let n = c .before .before .before .before .face-demanded in
-    going-fails (a .ps .now) (a .es .now) (a .ns .now) (a .functions) (a .nodes) (a .row) (a .faces .now) _ (l .k) (l .kept .nodes)
+    going-fails (a .ps .now) (a .es .now) (a .ns .now) (a .functions) (a .nodes) (masksIn (a .row)) (a .faces .now) _ (l .k) (l .kept .nodes)
     (l .inv .1) (c .before .before .before .before .before .before .before .loop-test .taken) (n .result) (n .ensures) (c .if1 .taken)
 
 add-k : tie.Need-add-k Inv-loop μ-loop
@@ -68,7 +69,7 @@ loop-again c =
     let l = c .before .before .before .before .before .before .before .before .before .loop in
     let n = c .before .before .before .before .before .face-demanded in (
       n .kept .1 .1 .1 .1 .1 .1 .1 .1 .0 ∙ l .inv .0,
-      going-on (a .ps .now) (a .es .now) (a .ns .now) (a .functions) (a .nodes) (a .row) (a .faces .now) _
+      going-on (a .ps .now) (a .es .now) (a .ns .now) (a .functions) (a .nodes) (masksIn (a .row)) (a .faces .now) _
           (l .k) (l .kept .nodes) (l .inv .1) (c .before .before .before .before .before .before .before .before .loop-test .taken)
           (n .result)
           (n .ensures) (c .before .if1 .left),
@@ -82,7 +83,7 @@ returns-2 c =
     let s = c .before .before .before .before .before .before .before in
     let a = s .args in
     let l = c .before .loop in
-    going-ends (a .ps .now) (a .es .now) (a .ns .now) (a .functions) (a .nodes) (a .row) (a .faces .now) _ (l .k) (l .kept .nodes)
+    going-ends (a .ps .now) (a .es .now) (a .ns .now) (a .functions) (a .nodes) (masksIn (a .row)) (a .faces .now) _ (l .k) (l .kept .nodes)
     (l .inv .1) (c .loop-test .left)
 
 pub faces-demanded-spec : {M : Type 1} → statement M

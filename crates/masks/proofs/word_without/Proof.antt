@@ -3,7 +3,6 @@ use borrow.Author.Needs.{needs}
 use mathlib.Core.Path.{ap, sym, _∙_}
 use native.Mathlib.Omega.{arith}
 use Prim.Native.Nat.{ℕ, _-_}
-use borrow.Author.Tests.{not-true}
 use Rattle.masks.specs.Mask.{marks}
 use Rattle.masks.specs.Sets.{wordNodes}
 use Rattle.masks.proofs.Nodes.{bit-le, marks-leave, leave-none}

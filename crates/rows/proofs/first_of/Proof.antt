@@ -1,16 +1,8 @@
 -- `first_of`: the first choice of the face, or none.
 use borrow.Author.Needs.{needs}
 use native.Mathlib.Omega.{arith}
-use Prim.Native.Nat.{ℕ, suc, _-_, _≤_, _<_}
-use mathlib.Core.Path.{_≡_, refl, sym, _∙_, subst}
-use mathlib.Core.List.{List}
-use lib.ListN.{length, getD}
+use Prim.Native.Nat.{_-_}
 use Rattle.meaning.specs.Limits.{maxFunctions}
-use Rattle.meaning.specs.Basics.{_∈_}
-use Rattle.masks.specs.Sets.{mask, masksIn}
-use Rattle.masks.specs.declared.NodeSet.{NodeSet}
-use Rattle.masks.proofs.Words.{masks-at}
-use Rattle.rows.specs.Rows.{choicesOf}
 use Rattle.rows.proofs.RowLaws.{first-here, first-none}
 use Rattle.rows.proofs.first_of.Statement.{statement}
 use Rattle.rows.proofs.first_of.Tie as tie

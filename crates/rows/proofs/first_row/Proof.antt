@@ -1,16 +1,10 @@
 -- `first_row`. The loop's invariant: from function k on each set is its function's first choice.
 use borrow.Author.Needs.{needs}
 use native.Mathlib.Omega.{arith}
-use Prim.Native.Nat.{ℕ, suc, _-_, _≤_, _<_}
-use mathlib.Core.Path.{_≡_, refl, sym, _∙_, subst}
-use mathlib.Core.List.{List}
+use Prim.Native.Nat.{ℕ, suc, _-_, _≤_}
+use mathlib.Core.Path.{_≡_, refl, subst}
 use lib.ListN.{replicate}
 use Rattle.meaning.specs.Limits.{maxFunctions}
-use Rattle.meaning.specs.Basics.{_∈_}
-use Rattle.masks.specs.Sets.{mask, masksIn}
-use Rattle.masks.specs.declared.NodeSet.{NodeSet}
-use Rattle.masks.proofs.Words.{masks-at}
-use Rattle.rows.specs.Rows.{choicesOf}
 use Rattle.rows.proofs.RowLaws.{Freshly, freshly-none, freshly-more, first-of-rows}
 use Rattle.rows.proofs.first_row.Statement.{statement}
 use Rattle.rows.proofs.first_row.Tie as tie

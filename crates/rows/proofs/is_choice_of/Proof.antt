@@ -1,16 +1,10 @@
 -- `is_choice_of`: a choice of the face, or none.
 use borrow.Author.Needs.{needs}
 use native.Mathlib.Omega.{arith}
-use Prim.Native.Nat.{ℕ, suc, _-_, _≤_, _<_}
-use mathlib.Core.Path.{_≡_, refl, sym, _∙_, subst}
-use mathlib.Core.List.{List}
-use lib.ListN.{length, getD}
+use Prim.Native.Nat.{_-_}
+use mathlib.Core.Path.{sym, _∙_}
 use Rattle.meaning.specs.Limits.{maxFunctions}
-use Rattle.meaning.specs.Basics.{_∈_}
-use Rattle.masks.specs.Sets.{mask, masksIn}
-use Rattle.masks.specs.declared.NodeSet.{NodeSet}
-use Rattle.masks.proofs.Words.{masks-at}
-use Rattle.rows.specs.Rows.{choicesOf}
+use Rattle.masks.specs.Sets.{mask}
 use Rattle.rows.proofs.RowLaws.{there-choice, absent-choice}
 use Rattle.rows.proofs.is_choice_of.Statement.{statement}
 use Rattle.rows.proofs.is_choice_of.Tie as tie

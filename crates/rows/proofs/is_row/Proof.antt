@@ -1,7 +1,7 @@
 -- `is_row`. The loop's invariant: each set looked at is a choice of its function.
 use borrow.Author.Needs.{needs}
 use native.Mathlib.Omega.{arith}
-use Prim.Native.Nat.{ℕ, suc, _-_, _≤_, _<_}
+use Prim.Native.Nat.{ℕ, _-_, _≤_, _<_}
 use mathlib.Core.Path.{_≡_, refl, sym, _∙_, subst}
 use mathlib.Core.Bool.{false≢true, true≢false}
 use borrow.Author.Tests.{not-true, not-false}
@@ -9,8 +9,7 @@ use borrow.Author.Count.{below-more}
 use lib.ListN.{length, getD}
 use Rattle.meaning.specs.Limits.{maxFunctions}
 use Rattle.meaning.specs.Basics.{_∈_}
-use Rattle.masks.specs.Sets.{mask, masksIn}
-use Rattle.masks.specs.declared.NodeSet.{NodeSet}
+use Rattle.masks.specs.Sets.{masksIn}
 use Rattle.masks.proofs.Words.{masks-at}
 use Rattle.rows.specs.Rows.{choicesOf}
 use Rattle.rows.proofs.RowLaws.{choice-row, row-choice}

@@ -8,8 +8,7 @@ use lib.ListN.{length, replicate}
 use Rattle.choosing.specs.Rows.{Next}
 use Rattle.meaning.specs.Limits.{maxFunctions}
 use Rattle.meaning.specs.Basics.{_∈_}
-use Rattle.masks.specs.Sets.{mask, masksIn}
-use Rattle.masks.specs.declared.NodeSet.{NodeSet}
+use Rattle.masks.specs.Sets.{mask}
 use Rattle.masks.proofs.Words.{masks-at}
 use Rattle.rows.specs.Rows.{choicesOf}
 use Rattle.rows.proofs.RowLaws.{Carrying, above-zero, carrying-none, carrying-more, carried-choice, first-set, steps-set, steps-none}

@@ -17,12 +17,12 @@ mul-t9 : tie.Need-mul-t9
 mul-t9 c = search needs
 
 -- src/entry.rt:39:27
-array-read-t12 : tie.Need-array-read-t12
-array-read-t12 c = search needs
+array-copy-out-t12 : tie.Need-array-copy-out-t12
+array-copy-out-t12 c = search needs
 
 -- src/entry.rt:33:1
 returns : tie.Need-returns
 returns c = body-returned _ _
 
 pub body-of-spec : {M : Type 1} → statement M
-body-of-spec = tie.close (tie.spec mul-t5 array-read-t8 mul-t9 array-read-t12 returns)
+body-of-spec = tie.close (tie.spec mul-t5 array-read-t8 mul-t9 array-copy-out-t12 returns)

@@ -16,8 +16,12 @@ write-open-requires c κs = open-room (c .before .enum-told2 .given .1) (c .befo
 enum-known-entry : tie.Need-enum-known-entry
 enum-known-entry c = search needs
 
+none-requires : tie.Need-none-requires
+none-requires c κs = search needs
+
 write-copied-requires : tie.Need-write-copied-requires
-write-copied-requires c κs = value-room (c .before .before .entry .given .1) (c .before .before .before .before .before .before .pre)
+write-copied-requires c κs =
+    value-room (c .before .none .ensures) (c .before .before .before .entry .given .1) (c .before .before .before .before .before .before .before .pre)
 
 enum-known-entry-2 : tie.Need-enum-known-entry-2
 enum-known-entry-2 c = search needs
@@ -38,7 +42,9 @@ same-length-2 : tie.Need-same-length-2
 same-length-2 c = search needs
 
 returns-3 : tie.Need-returns-3
-returns-3 c = value-written (c .before .before .before .before .before .entry .given .1) (c .before .before .write-copied .ensures)
+returns-3 c =
+    value-written (c .before .before .before .before .none .ensures) (c .before .before .before .before .before .before .entry .given .1)
+    (c .before .before .write-copied .ensures)
 
 same-length-3 : tie.Need-same-length-3
 same-length-3 c = search needs
@@ -54,6 +60,7 @@ write-entry-spec =
     enum-told-2
     write-open-requires
     enum-known-entry
+    none-requires
     write-copied-requires
     enum-known-entry-2
     write-copied-requires-2
