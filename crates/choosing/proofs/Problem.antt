@@ -135,22 +135,22 @@ module _ (p : Problem) (a : Accepted p) (xs : List Face) (agree : faces p ≡ so
       row-long : (r : Row) → r ∈ product all → length r ≡ length (functions p)
       row-long r m = length-each all r (product-are all r .0 m) ∙ length-map (functions p) (λ f. choices (placesOf p f) (faceOf p f))
 
+module _ (p : Problem) (ns es nodes : List ℕ) (count : ℕ) (listed : maskRows ns es nodes count ≡ map masksOf (rows p)) where
   -- What a test of masks tells: whether they are those of a row.
-  pub row-masks : (row : MaskRow) → (row ∈ maskRows ns (expressionTokens p) nodes count) ↔ ((r : Row) × (r ∈ rows p) × (row ≡ masksOf r))
-  row-masks row = (λ m. map-mem masksOf row (rows p) (rw rows-listed at m), λ q. rw (rows-listed, q .2) (mem-map masksOf (q .1)))
+  pub row-masks : (row : MaskRow) → (row ∈ maskRows ns es nodes count) ↔ ((r : Row) × (r ∈ rows p) × (row ≡ masksOf r))
+  row-masks row = (λ m. map-mem masksOf row (rows p) (rw listed at m), λ q. rw (listed, q .2) (mem-map masksOf (q .1)))
 
   -- What the first mask row is: the masks of the first row.
-  pub first-row-of : (row : MaskRow) → placeOf (maskRows ns (expressionTokens p) nodes count) ≡ at row
-      → record { masks = row; isPast = false } ≡ placeValue (start p)
+  pub first-row-of : (row : MaskRow) → placeOf (maskRows ns es nodes count) ≡ at row → record { masks = row; isPast = false } ≡ placeValue (start p)
   first-row-of row e =
       value-place (rows p) true row
-      (record { goes = λ q. ap placeOf (sym rows-listed) ∙ e; ends = λ q. absurd (true≢false q); clear = λ q. absurd (true≢false q) })
+      (record { goes = λ q. ap placeOf (sym listed) ∙ e; ends = λ q. absurd (true≢false q); clear = λ q. absurd (true≢false q) })
 
   -- What a step gives after the masks of a row: those of the row after it, or past the last.
   pub next-row-of : (before later : List Row) (r : Row) (more : Bool) (next : MaskRow) → rows p ≡ before ++ (r ∷ later)
-      → Steps ns (expressionTokens p) nodes count (masksOf r) more next
+      → Steps ns es nodes count (masksOf r) more next
       → record { masks = next; isPast = not more } ≡ placeValue (placeOf later)
   unfolding Steps
   next-row-of before later r more next e h =
       value-place later more next
-      (h (map masksOf before) (map masksOf later) (rows-listed ∙ ap (map masksOf) e ∙ map-append masksOf before (r ∷ later)))
+      (h (map masksOf before) (map masksOf later) (listed ∙ ap (map masksOf) e ∙ map-append masksOf before (r ∷ later)))

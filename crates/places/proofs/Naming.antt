@@ -1,29 +1,32 @@
 -- What a value names is what `meaning` says that it names, and the first place is the start.
 use mathlib.Core.Path.{_≡_, refl, ap, sym, _∙_}
+use mathlib.Core.Logic.{_↔_}
 use mathlib.Core.Bool.{Bool, true, false, true≢false}
-use mathlib.Core.List.{List, []}
+use mathlib.Core.List.{List, [], map}
 use mathlib.Core.Option.{Option, none, some}
-use Prim.Native.Nat.{ℕ}
-use lib.ListN.{replicate}
+use Prim.Native.Nat.{ℕ, _≤_}
+use lib.ListN.{length, replicate, take}
 use Rattle.meaning.specs.Limits.{maxFunctions}
 use Rattle.meaning.specs.Basics.{isSome, _∈_}
 use Rattle.meaning.specs.Problem.{Problem}
 use Rattle.meaning.specs.Face.{Face, faces}
 use Rattle.meaning.specs.Row.{Row}
 use Rattle.meaning.specs.Rows.{rows, rowsOver}
-use Rattle.meaning.specs.Readable.{Accepted}
 use Rattle.meaning.specs.Accept.{accept}
 use Rattle.meaning.specs.Entry.{startCall}
 use Rattle.meaning.specs.Search.{Place, at, past, placeOf, start}
 use Rattle.meaning.specs.PlaceValue.{PlaceValue, masksOf, placeValue, Names}
 use Rattle.meaning.proofs.ChoiceLaws.{rows-are}
-use Rattle.classes.specs.Tabled.{Tabled}
-use Rattle.classes.proofs.Problem.{row-masks, first-row-of, tabled-tables}
+use Rattle.masks.specs.Sets.{masksIn}
+use Rattle.faces.specs.declared.first.Firsts.{Firsts}
+use Rattle.choosing.specs.Rows.{MaskRow}
+use Rattle.choosing.proofs.Problem.{row-masks, first-row-of}
+use Rattle.rows.specs.Rows.{rowsOf}
 use Rattle.accept.specs.declared.Standing.{Standing}
 use Rattle.accept.specs.declared.Verdict.the-variants as verdicts
 use Rattle.prepare.specs.Prepared.{Prepares, Ready}
 use Rattle.prepare.specs.declared.Prepared.{Prepared}
-use Rattle.prepare.proofs.PreparedLaws.{prepared-refused, prepared-accepted, ready-tables}
+use Rattle.prepare.proofs.PreparedLaws.{prepared-refused, prepared-accepted, ready-faced, ready-rows}
 use Rattle.places.specs.Places.{valueOf, AtPast, IsRowOf, Openable, Begins, Starts}
 use Rattle.places.specs.declared.Place as code
 use Rattle.places.specs.declared.Started.{Started}
@@ -46,15 +49,19 @@ pub past-value : placeValue past ≡ record { masks = replicate maxFunctions 0; 
 unfolding placeValue
 past-value = refl
 
-pub same-value : (v : code.Place) (w : PlaceValue) → v .masks ≡ w .masks → v .past ≡ w .isPast → valueOf v ≡ w
+pub same-value : (v : code.Place) (w : PlaceValue) → masksIn (v .sets) ≡ w .masks → v .past ≡ w .isPast → valueOf v ≡ w
 same-value v w e f = λ i. record { masks = e i; isPast = f i }
 
-module _ (p : Problem) (a : Accepted p) (ds : List ℕ) (hasRows : Bool) (told : hasRows ≡ isSome (faces p)) (tabled : hasRows ≡ true → Tabled p ds)
-    (v : code.Place) where
+module _ (p : Problem) (es ns : List ℕ) (firsts : Firsts) (hasRows : Bool) (told : hasRows ≡ isSome (faces p))
+    (listed : hasRows ≡ true → rowsOf es ns firsts ≡ map masksOf (rows p)) (v : code.Place) where
+  row-of : hasRows ≡ true → (row : MaskRow) → (row ∈ rowsOf es ns firsts) ↔ ((r : Row) × (r ∈ rows p) × (row ≡ masksOf r))
+  unfolding rowsOf
+  row-of e row = row-masks p ns es (firsts .nodes) (firsts .count) (listed e) row
+
   -- A row of the tables names a row of the problem
-  pub row-named : IsRowOf v hasRows ds → (r : Row) × (r ∈ rows p) × (v .masks ≡ masksOf r) × Names p (valueOf v) (at r)
+  pub row-named : IsRowOf v hasRows es ns firsts → (r : Row) × (r ∈ rows p) × (masksIn (v .sets) ≡ masksOf r) × Names p (valueOf v) (at r)
   row-named h =
-      let (r, m, e) = row-masks p ds a (sym told ∙ h .someRows) (tabled (h .someRows)) (v .masks) .0 (h .member) in (
+      let (r, m, e) = row-of (h .someRows) (masksIn (v .sets)) .0 (h .member) in (
         r,
         m,
         e,
@@ -73,7 +80,7 @@ module _ (p : Problem) (a : Accepted p) (ds : List ℕ) (hasRows : Bool) (told :
   }
 
   -- ... and nothing else does
-  pub named-row : (r : Row) → Names p (valueOf v) (at r) → IsRowOf v hasRows ds
+  pub named-row : (r : Row) → Names p (valueOf v) (at r) → IsRowOf v hasRows es ns firsts
   named-row r n =
       let shapes = n .isPlace .hasRows in
       let whole : valueOf v ≡ record { masks = masksOf r; isPast = false } = n .isValue ∙ row-value r in
@@ -81,7 +88,7 @@ module _ (p : Problem) (a : Accepted p) (ds : List ℕ) (hasRows : Bool) (told :
       record {
         here = ap (λ (w : PlaceValue). w .isPast) whole;
         someRows = t;
-        member = row-masks p ds a shapes (tabled t) (v .masks) .1
+        member = row-of t (masksIn (v .sets)) .1
             (r, rows-are p r .1 (n .isPlace), ap (λ (w : PlaceValue). w .masks) whole);
       }
 
@@ -90,40 +97,48 @@ module _ (p : Problem) (a : Accepted p) (ds : List ℕ) (hasRows : Bool) (told :
       let whole : valueOf v ≡ record { masks = replicate maxFunctions 0; isPast = true } = n .isValue ∙ past-value in
       record { masks = ap (λ (w : PlaceValue). w .masks) whole; past = ap (λ (w : PlaceValue). w .isPast) whole }
 
-  pub nothing-named : (IsRowOf v hasRows ds → ⊥) → (AtPast v → ⊥) → (place : Place Row) → Names p (valueOf v) place → ⊥
+  pub nothing-named : (IsRowOf v hasRows es ns firsts → ⊥) → (AtPast v → ⊥) → (place : Place Row) → Names p (valueOf v) place → ⊥
   nothing-named f g (at r) n = f (named-row r n)
   nothing-named f g past n = g (named-past n)
 
   -- The first place is the start
-  pub begins-start : Begins hasRows ds v → valueOf v ≡ placeValue (start p)
-  unfolding Begins
+  pub begins-start : Begins hasRows es ns firsts v → valueOf v ≡ placeValue (start p)
+  unfolding Begins rowsOf
   begins-start h = go hasRows refl h
     where
-      go : (b : Bool) → hasRows ≡ b → Begins b ds v → valueOf v ≡ placeValue (start p)
+      go : (b : Bool) → hasRows ≡ b → Begins b es ns firsts v → valueOf v ≡ placeValue (start p)
       go true e h =
           same-value v (record { masks = h .0; isPast = false }) (h .2 .masks) (h .2 .here)
-          ∙ first-row-of p ds a (sym told ∙ e) (tabled e) (h .0) (h .1)
+          ∙ first-row-of p ns es (firsts .nodes) (firsts .count) (listed e) (h .0) (h .1)
       go false e h = past-named h .isValue ∙ ap (λ (l : List Row). placeValue (placeOf l)) (sym (no-rows p (sym told ∙ e)))
 
 -- The answers of `start`
-module _ (s ps es ns fs ds : List ℕ) (prepared : Prepared) (h : Prepares (accept s) ps es ns fs ds prepared) where
+module _ (s ps es ns fs : List ℕ) (prepared : Prepared) (h : Prepares (accept s) ps es ns fs prepared) where
   pub starts-refused : (n : ℕ) (r : Started) → prepared .verdict ≡ verdicts.Refused n → r .answer ≡ starts.Refused n
       → Starts (startCall s) r
   unfolding startCall Starts
-  starts-refused n r e q = rw (prepared-refused (accept s) ps es ns fs ds prepared n h e) q
+  starts-refused n r e q = rw (prepared-refused (accept s) ps es ns fs prepared n h e) q
 
   module _ (a : Standing) (e : prepared .verdict ≡ verdicts.Accepted a) where
-    ready : Ready (accept s) ps es ns fs ds a (prepared .firsts)
-    ready = prepared-accepted (accept s) ps es ns fs ds prepared a h e
+    ready : Ready (accept s) ps es ns fs a (prepared .firsts)
+    ready = prepared-accepted (accept s) ps es ns fs prepared a h e
 
-    pub starts-open : Openable (a .rows) ds
-    starts-open t = tabled-tables (ready .problem) ds (ready-tables (accept s) ps es ns fs ds a (prepared .firsts) ready t)
+    -- The part of a table that has the expressions
+    abbrev part : List ℕ → List ℕ
+    part t = take (a .expressions) t
 
-    pub starts-begins : (r : Started) → r .answer ≡ starts.Begins → Begins (a .rows) ds (r .place) → Starts (startCall s) r
+    pub starts-inside : (a .expressions ≤ length es) × (a .expressions ≤ length ns)
+    starts-inside = (ready .laid .expressionsInside, ready .tabled .numbersInside)
+
+    pub starts-open : Openable (a .rows) (part es) (part ns) (prepared .firsts)
+    starts-open = ready-faced (accept s) ps es ns fs a (prepared .firsts) ready
+
+    pub starts-begins : (r : Started) → r .answer ≡ starts.Begins → Begins (a .rows) (part es) (part ns) (prepared .firsts) (r .place)
+        → Starts (startCall s) r
     unfolding startCall Starts
     starts-begins r q b =
         rw (ready .answer) (
           q,
-          begins-start (ready .problem) (ready .laid .accepted) ds (a .rows) (ready .laid .hasRows)
-              (ready-tables (accept s) ps es ns fs ds a (prepared .firsts) ready) (r .place) b,
+          begins-start (ready .problem) (part es) (part ns) (prepared .firsts) (a .rows) (ready .laid .hasRows)
+              (ready-rows (accept s) ps es ns fs a (prepared .firsts) ready) (r .place) b,
         )

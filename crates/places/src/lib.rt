@@ -1,6 +1,8 @@
-// Places as a host holds them: a mask for each function by ascending number, and whether it is past the last. Any value may be handed
-// in; which place of a problem it names, if any, is looked up in the problem's class tables.
+// Places as a host holds them: a node set for each function by ascending number, and whether it is past the last. Any value may be handed
+// in; which place of a problem it names, if any, is looked up in the problem's tables.
 use accept::Verdict;
+use faces::first::Firsts;
+use masks::NodeSet;
 use prepare::prepare;
 use rows::first_row;
 use rows::is_row;
@@ -11,11 +13,11 @@ ghost use mathlib.Core.Logic.{_↔_};
 ghost use lib.ListN.{replicate};
 ghost use Rattle.meaning.specs.Limits.{maxFunctions};
 ghost use Rattle.meaning.specs.Entry.{startCall};
-ghost use Rattle.rows.specs.Rows.{Long};
+ghost use Rattle.masks.specs.Sets.{masksIn};
 ghost use Rattle.places.specs.Places.{AtRow, AtPast, Tells, Openable, Begins, Starts};
 
 pub struct Place {
-    pub masks: [u64; Place::MAX_FUNCTIONS],
+    pub sets: [NodeSet; Place::MAX_FUNCTIONS],
     pub past: bool,
 }
 
@@ -39,13 +41,13 @@ pub struct Started {
     pub place: Place,
 }
 
-// Whether no mask has a node.
-fn all_empty(masks: [u64; Place::MAX_FUNCTIONS]) -> bool
-    ensures { λ r. ⌜ (r ≡ true) ↔ (masks ≡ replicate maxFunctions 0) ⌝ }
+// Whether no set has a node.
+fn all_empty(sets: [NodeSet; Place::MAX_FUNCTIONS]) -> bool
+    ensures { λ r. ⌜ (r ≡ true) ↔ (masksIn sets ≡ replicate maxFunctions 0) ⌝ }
 {
     let mut k = 0;
     while k < Place::MAX_FUNCTIONS {
-        if masks[k] != 0 {
+        if !sets[k].is_empty() {
             return false;
         }
         k += 1;
@@ -54,16 +56,16 @@ fn all_empty(masks: [u64; Place::MAX_FUNCTIONS]) -> bool
 }
 
 impl Place {
-    // How many functions a place has masks for, and how many nodes a mask.
+    // How many functions a place has sets for, and how many nodes a set has room for.
     pub const MAX_FUNCTIONS: usize = rows::MAX_FUNCTIONS;
 
-    pub const MAX_FACE_NODES: usize = masks::WIDTH;
+    pub const MAX_FACE_NODES: usize = NodeSet::ROOM;
 
-    pub fn at(row: [u64; Place::MAX_FUNCTIONS]) -> Place
-        ensures { λ r. ⌜ AtRow row r ⌝ }
+    pub fn at(row: [NodeSet; Place::MAX_FUNCTIONS]) -> Place
+        ensures { λ r. ⌜ AtRow (masksIn row) r ⌝ }
     {
         Place {
-            masks: row,
+            sets: row,
             past: false,
         }
     }
@@ -72,18 +74,18 @@ impl Place {
         ensures { λ r. ⌜ AtPast r ⌝ }
     {
         Place {
-            masks: [0u64; Place::MAX_FUNCTIONS],
+            sets: [NodeSet::none(); Place::MAX_FUNCTIONS],
             past: true,
         }
     }
 
     // The first row of the tables, or past the last where there is none.
-    fn first(rows: bool, ds: &[u64]) -> Place
-        requires { ⌜ Openable rows (now ds) ⌝ }
-        ensures { λ r. ⌜ Begins rows (now (ds .entry)) r ⌝ }
+    fn first(rows: bool, es: &[u64], ns: &[u64], firsts: Firsts) -> Place
+        requires { ⌜ Openable rows (now es) (now ns) firsts ⌝ }
+        ensures { λ r. ⌜ Begins rows (now (es .entry)) (now (ns .entry)) firsts r ⌝ }
     {
         if rows {
-            Place::at(first_row(ds))
+            Place::at(first_row(es, ns, firsts))
         } else {
             Place::past_last()
         }
@@ -97,28 +99,31 @@ impl Place {
         let mut es = [0u64; TABLE_ROOM];
         let mut ns = [0u64; TABLE_ROOM];
         let mut fs = [0u64; TABLE_ROOM];
-        let mut ds = [0u64; Place::MAX_FUNCTIONS * Place::MAX_FACE_NODES];
-        let prepared = prepare(problem, &mut ps, &mut es, &mut ns, &mut fs, &mut ds);
+        let prepared = prepare(problem, &mut ps, &mut es, &mut ns, &mut fs);
+        let firsts = prepared.firsts;
         let verdict = prepared.verdict;
         match verdict {
             Verdict::Refused(r) => Started {
                 answer: Start::Refused(r),
                 place: Place::past_last(),
             },
-            Verdict::Accepted(a) => Started {
-                answer: Start::Begins,
-                place: Place::first(a.rows, &ds),
-            },
+            Verdict::Accepted(a) => {
+                let e = a.expressions;
+                Started {
+                    answer: Start::Begins,
+                    place: Place::first(a.rows, &es[..e], &ns[..e], firsts),
+                }
+            }
         }
     }
 }
 
-// What the value names, by the class tables of a problem and whether it has rows.
-pub fn named_by(place: Place, rows: bool, ds: &[u64]) -> Named
-    requires { ⌜ Long (now ds) ⌝ }
-    ensures { λ r. ⌜ Tells place rows (now (ds .entry)) r ⌝ }
+// What the value names, by the tables of a problem and whether it has rows.
+pub fn named_by(place: Place, rows: bool, es: &[u64], ns: &[u64], firsts: Firsts) -> Named
+    requires { ⌜ Openable rows (now es) (now ns) firsts ⌝ }
+    ensures { λ r. ⌜ Tells place rows (now (es .entry)) (now (ns .entry)) firsts r ⌝ }
 {
-    let row = place.masks;
+    let row = place.sets;
     if place.past {
         if all_empty(row) {
             return Named::Past;
@@ -128,7 +133,7 @@ pub fn named_by(place: Place, rows: bool, ds: &[u64]) -> Named
     if !rows {
         return Named::Nothing;
     }
-    if is_row(ds, row) {
+    if is_row(es, ns, firsts, row) {
         Named::Row
     } else {
         Named::Nothing

@@ -1,9 +1,9 @@
--- One law for each answer, over plain variables; and that a prepared problem has its class tables.
+-- One law for each answer, over plain variables; and that the rows of a prepared problem are found in its tables.
 use mathlib.Core.Path.{_≡_, refl, ap, sym, _∙_, subst}
 use mathlib.Core.Bool.{Bool, true, false, true≢false}
-use mathlib.Core.List.{List, [], _∷_, _++_}
+use mathlib.Core.List.{List, [], _∷_, _++_, map}
 use mathlib.Core.Option.{Option, none, some}
-use Prim.Native.Nat.{ℕ, suc, _*_, _<_, _≤_}
+use Prim.Native.Nat.{ℕ, suc, _<_, _≤_}
 use native.Mathlib.Omega.{arith}
 use lib.ListN.{length, take, drop, length-append, length-take, replicate, length-replicate}
 use lib.Seq.{take-at, length-take-le}
@@ -12,14 +12,15 @@ use Rattle.meaning.specs.Basics.{All, isSome}
 use Rattle.meaning.specs.Term.{Term}
 use Rattle.meaning.specs.Problem.{Problem, functions}
 use Rattle.meaning.specs.Face.{Face, faces}
+use Rattle.meaning.specs.Rows.{rows}
+use Rattle.meaning.specs.PlaceValue.{masksOf}
 use Rattle.meaning.specs.Read.{Answer, refused, got}
-use Rattle.meaning.specs.Readable.{Accepted}
 use Rattle.meaning.specs.Accept.{accept}
 use Rattle.meaning.proofs.Lists.{is-some}
 use Rattle.meaning.proofs.PlaceLaws.{few-functions}
 use Rattle.meaning.proofs.ProblemReading.{accept-accepted}
 use Rattle.tokens.specs.Token.{patternTokens, expressionTokens}
-use Rattle.numbers.specs.Tests.{Tests, Tells, told}
+use Rattle.numbers.specs.Tests.{Tells, told}
 use Rattle.numbers.specs.Numbering.{Numerable}
 use Rattle.numbers.proofs.Asked.{numbers-tell}
 use Rattle.numbers.proofs.ProblemTable.{table-numerable, table-short}
@@ -30,11 +31,11 @@ use Rattle.faces.specs.First.{Listed, listed}
 use Rattle.faces.specs.declared.first.Firsts.{Firsts}
 use Rattle.faces.specs.Verdict.{FirstsAt}
 use Rattle.faces.proofs.FirstMeaning.{first-faces-mean}
-use Rattle.classes.specs.FaceTable.{Faces, TablesFrom}
-use Rattle.classes.specs.Tabled as classes
-use Rattle.classes.proofs.ProblemTables.{problem-faces, problem-tabled}
-use Rattle.masks.specs.Mask.{width}
-use Rattle.rows.specs.Rows.{Long}
+use Rattle.choosing.specs.FaceNodes.{Faces}
+use Rattle.choosing.specs.Rows.{maskRows}
+use Rattle.choosing.proofs.ProblemFaces.{problem-faces}
+use Rattle.choosing.proofs.Problem.{rows-listed}
+use Rattle.rows.specs.Rows.{Faced, rowsOf}
 use Rattle.table.specs.Whole.{tableRoom}
 use Rattle.accept.specs.Acceptance.{Stands, Accepts, Rooms}
 use Rattle.accept.specs.declared.Standing.{Standing}
@@ -72,20 +73,19 @@ module _ (p : Problem) (ps es fs : List ℕ) (a : Standing) (laid : Laid p ps es
         (laid .survey) firsts
         (subst (λ (t : List ℕ). Listed t (take (a .faces) fs) (a .occurring .functions) firsts) (laid .patterns) nodes)
 
-    faces-there : Faces (take (a .expressions) es) (firsts .nodes) (firsts .count)
+    pub faces-there : Faces (take (a .expressions) es) (firsts .nodes) (firsts .count)
     unfolding maxFunctions
     faces-there =
         subst (λ (t : List ℕ). Faces t (firsts .nodes) (firsts .count)) (sym (laid .expressions))
         (problem-faces p (laid .accepted) found shapes (firsts .nodes) (firsts .count) (nodes .fits .count) (nodes .fits .array) nodes-mean)
 
-    -- ... AND THE CLASS TABLES ARE THE PROBLEM'S
-    pub tables-mean : (q : Tests) → Tells (take (a .expressions) es) q → (ds : List ℕ)
-        → TablesFrom q (take (a .expressions) es) (firsts .nodes) (firsts .count) ds → classes.Tabled p ds
-    unfolding maxFunctions
-    tables-mean q tells ds t =
-        problem-tabled p (laid .accepted) found shapes (firsts .nodes) (firsts .count) (nodes .fits .count)
-        (nodes .fits .array) nodes-mean q (subst (λ (l : List ℕ). Tells l q) (laid .expressions) tells) ds
-        (subst (λ (l : List ℕ). TablesFrom q l (firsts .nodes) (firsts .count) ds) (laid .expressions) t)
+    -- ... AND THEIR ROWS ARE THE PROBLEM'S
+    pub rows-mean : (ns : List ℕ) → Tells (take (a .expressions) es) (told ns) → rowsOf (take (a .expressions) es) ns firsts ≡ map masksOf (rows p)
+    unfolding maxFunctions rowsOf
+    rows-mean ns tells =
+        ap (λ (t : List ℕ). maskRows ns t (firsts .nodes) (firsts .count)) (laid .expressions)
+        ∙ rows-listed p (laid .accepted) found shapes (firsts .nodes) (firsts .count) (nodes .fits .count) (nodes .fits .array) nodes-mean ns
+        (subst (λ (t : List ℕ). Tells t (told ns)) (laid .expressions) tells)
 
   -- What `number_nodes` requires
   pub table-numbers : Numerable (take (a .expressions) es)
@@ -99,17 +99,6 @@ module _ (p : Problem) (ps es fs : List ℕ) (a : Standing) (laid : Laid p ps es
         ap length (laid .expressions),
         length-take-le (a .expressions) es (laid .expressionsInside),
       )
-
-  -- What `class_tables` requires
-  pub faces-ready : (firsts : Firsts) → NodesOf (a .rows) (take (a .patterns) ps) (take (a .faces) fs) (a .occurring .functions) firsts
-      → Faces (take (a .expressions) es) (firsts .nodes) (firsts .count)
-  unfolding NodesOf maxFunctions
-  faces-ready firsts h = go (a .rows) refl h
-    where
-      go : (b : Bool) → a .rows ≡ b → NodesOf b (take (a .patterns) ps) (take (a .faces) fs) (a .occurring .functions) firsts
-          → Faces (take (a .expressions) es) (firsts .nodes) (firsts .count)
-      go true e n = let x = is-some (faces p) (sym (laid .hasRows) ∙ e) in faces-there firsts (x .0) (x .1) n
-      go false e n = let z : firsts .count ≡ 0 = n .none in record { few = omega arith; whole = λ k l. absurd (omega arith) }
 
 -- What `accept` leaves
 length-recorded : (p e : ℕ → Option Term) (d : ℕ → ℕ) (ns : List ℕ) (xs : List Face) → RecordedBy p e d ns xs → length ns ≡ length xs
@@ -150,7 +139,7 @@ module _ (s ps ps′ es es′ fs′ : List ℕ) (bytes : All (λ b. b < 256) s) 
         recorded = λ found q. h .recorded found q .1;
       }
 
-  -- What `with_tables` requires
+  -- What `with_numbers` requires
   pub accepts-ground : (a : Standing) → Accepts (accept s) ps ps′ es es′ fs′ (verdicts.Accepted a) → Ground ps′ es′ fs′ a
   unfolding Accepts
   accepts-ground a h = go (accept s) refl h
@@ -162,50 +151,50 @@ module _ (s ps ps′ es es′ fs′ : List ℕ) (bytes : All (λ b. b < 256) s) 
           (p, stands-laid p a e (subst (Stands p ps ps′ es es′ fs′) same (h .2)))
 
   -- The returns of `prepare`
-  pub prepares-refused : (ns ds : List ℕ) (n : ℕ) (r : Prepared) → Accepts (accept s) ps ps′ es es′ fs′ (verdicts.Refused n)
-      → r .verdict ≡ verdicts.Refused n → Prepares (accept s) ps′ es′ ns fs′ ds r
+  pub prepares-refused : (ns : List ℕ) (n : ℕ) (r : Prepared) → Accepts (accept s) ps ps′ es es′ fs′ (verdicts.Refused n)
+      → r .verdict ≡ verdicts.Refused n → Prepares (accept s) ps′ es′ ns fs′ r
   unfolding Accepts Prepares
-  prepares-refused ns ds n r h v = go (accept s) h
+  prepares-refused ns n r h v = go (accept s) h
     where
-      go : (x : Answer Problem) → Accepts x ps ps′ es es′ fs′ (verdicts.Refused n) → Prepares x ps′ es′ ns fs′ ds r
+      go : (x : Answer Problem) → Accepts x ps ps′ es es′ fs′ (verdicts.Refused n) → Prepares x ps′ es′ ns fs′ r
       go (refused m) h = v ∙ h
       go (got p) h = absurd (let q = h .1 in let z : _≡_ {A = ℕ} 0 1 = cc in omega arith)
 
-  pub prepares-accepted : (ns ds : List ℕ) (a : Standing) (r : Prepared) → Accepts (accept s) ps ps′ es es′ fs′ (verdicts.Accepted a)
-      → Tabling ps′ es′ ns fs′ ds a r → Prepares (accept s) ps′ es′ ns fs′ ds r
+  pub prepares-accepted : (ns : List ℕ) (a : Standing) (r : Prepared) → Accepts (accept s) ps ps′ es es′ fs′ (verdicts.Accepted a)
+      → Tabling ps′ es′ ns fs′ a r → Prepares (accept s) ps′ es′ ns fs′ r
   unfolding Accepts Prepares
-  prepares-accepted ns ds a r h t = go (accept s) refl h
+  prepares-accepted ns a r h t = go (accept s) refl h
     where
-      go : (x : Answer Problem) → accept s ≡ x → Accepts x ps ps′ es es′ fs′ (verdicts.Accepted a) → Prepares x ps′ es′ ns fs′ ds r
+      go : (x : Answer Problem) → accept s ≡ x → Accepts x ps ps′ es es′ fs′ (verdicts.Accepted a) → Prepares x ps′ es′ ns fs′ r
       go (refused n) e h = absurd (let z : _≡_ {A = ℕ} 0 1 = cc in omega arith)
       go (got p) e h =
           let same : h .0 ≡ a = let q = h .1 in cc in
           (a, stands-laid p a e (subst (Stands p ps ps′ es es′ fs′) same (h .2)), t)
 
 -- What the answer tells a caller
-pub prepared-refused : (x : Answer Problem) (ps es ns fs ds : List ℕ) (r : Prepared) (n : ℕ) → Prepares x ps es ns fs ds r
+pub prepared-refused : (x : Answer Problem) (ps es ns fs : List ℕ) (r : Prepared) (n : ℕ) → Prepares x ps es ns fs r
     → r .verdict ≡ verdicts.Refused n
     → x ≡ refused n
 unfolding Prepares
-prepared-refused (refused m) ps es ns fs ds r n h e = let z : m ≡ n = cc in ap refused z
-prepared-refused (got p) ps es ns fs ds r n h e = absurd (let v = h .2 .verdict in let z : _≡_ {A = ℕ} 0 1 = cc in omega arith)
+prepared-refused (refused m) ps es ns fs r n h e = let z : m ≡ n = cc in ap refused z
+prepared-refused (got p) ps es ns fs r n h e = absurd (let v = h .2 .verdict in let z : _≡_ {A = ℕ} 0 1 = cc in omega arith)
 
-pub prepared-accepted : (x : Answer Problem) (ps es ns fs ds : List ℕ) (r : Prepared) (a : Standing) → Prepares x ps es ns fs ds r
-    → r .verdict ≡ verdicts.Accepted a → Ready x ps es ns fs ds a (r .firsts)
+pub prepared-accepted : (x : Answer Problem) (ps es ns fs : List ℕ) (r : Prepared) (a : Standing) → Prepares x ps es ns fs r
+    → r .verdict ≡ verdicts.Accepted a → Ready x ps es ns fs a (r .firsts)
 unfolding Prepares
-prepared-accepted (refused m) ps es ns fs ds r a h e = absurd (let z : _≡_ {A = ℕ} 0 1 = cc in omega arith)
-prepared-accepted (got p) ps es ns fs ds r a h e =
+prepared-accepted (refused m) ps es ns fs r a h e = absurd (let z : _≡_ {A = ℕ} 0 1 = cc in omega arith)
+prepared-accepted (got p) ps es ns fs r a h e =
     let v = h .2 .verdict in
     let same : h .0 ≡ a = cc in
     record {
       problem = p;
       answer = refl;
       laid = subst (Laid p ps es fs) same (h .1);
-      tabled = subst (λ (b : Standing). Tabled ps es ns fs ds b (r .firsts)) same (h .2 .tabled);
+      tabled = subst (λ (b : Standing). Tabled ps es ns fs b (r .firsts)) same (h .2 .tabled);
     }
 
-module _ (x : Answer Problem) (ps es ns fs ds : List ℕ) (a : Standing) (firsts : Firsts) (ready : Ready x ps es ns fs ds a firsts) where
-  -- Where there are rows: the faces, their nodes, the class tables
+module _ (x : Answer Problem) (ps es ns fs : List ℕ) (a : Standing) (firsts : Firsts) (ready : Ready x ps es ns fs a firsts) where
+  -- Where there are rows: the nodes of the functions' faces
   pub ready-nodes : a .rows ≡ true → Listed (take (a .patterns) ps) (take (a .faces) fs) (a .occurring .functions) firsts
   unfolding NodesOf
   ready-nodes e =
@@ -222,11 +211,20 @@ module _ (x : Answer Problem) (ps es ns fs ds : List ℕ) (a : Standing) (firsts
       length-take-le (a .expressions) ns (ready .tabled .numbersInside)
       ∙ sym (length-take-le (a .expressions) es (ready .laid .expressionsInside))
 
-  pub ready-tables : a .rows ≡ true → classes.Tabled (ready .problem) ds
-  ready-tables e =
+  -- ... which the code can go through
+  pub ready-faced : a .rows ≡ true → Faced (take (a .expressions) es) (take (a .expressions) ns) firsts
+  ready-faced e =
       let found = is-some (faces (ready .problem)) (sym (ready .laid .hasRows) ∙ e) in
-      tables-mean (ready .problem) ps es fs a (ready .laid) firsts (found .0) (found .1) (ready-nodes e) (told (take (a .expressions) ns)) ready-tells ds
-      (ready .tabled .tables)
+      record {
+        faces = faces-there (ready .problem) ps es fs a (ready .laid) firsts (found .0) (found .1) (ready-nodes e);
+        numbers = ready-numbers;
+      }
+
+  -- THE ROWS OF THE TABLES ARE THE PROBLEM'S
+  pub ready-rows : a .rows ≡ true → rowsOf (take (a .expressions) es) (take (a .expressions) ns) firsts ≡ map masksOf (rows (ready .problem))
+  ready-rows e =
+      let found = is-some (faces (ready .problem)) (sym (ready .laid .hasRows) ∙ e) in
+      rows-mean (ready .problem) ps es fs a (ready .laid) firsts (found .0) (found .1) (ready-nodes e) (take (a .expressions) ns) ready-tells
 
 -- Tables as the callers of `prepare` make them have room
 pub fresh-rooms : Rooms (replicate tableRoom 0) (replicate tableRoom 0) (replicate tableRoom 0)
@@ -236,6 +234,3 @@ fresh-rooms =
 
 pub fresh-room : tableRoom ≤ length {A = ℕ} (replicate tableRoom 0)
 fresh-room = omega (arith, length-replicate {A = ℕ} tableRoom 0)
-
-pub fresh-long : Long (replicate (maxFunctions * width) 0)
-fresh-long = length-replicate {A = ℕ} (maxFunctions * width) 0

@@ -1,6 +1,6 @@
 -- What is at hand once a problem is prepared.
 --   Laid       an accepted problem stands at the fronts of the tables that were lent: its patterns, its expressions, its faces
---   Tabled     the nodes of its expressions are numbered, those of its functions' faces are looked up, and the class tables of these are made
+--   Tabled     the nodes of its expressions are numbered, and those of its functions' faces are looked up
 --   Prepares   the answer for any bytes
 use mathlib.Core.Path.{_≡_}
 use Prim.Native.Nat.{ℕ, _≤_}
@@ -14,13 +14,11 @@ use Rattle.meaning.specs.Face.{Face, faces}
 use Rattle.meaning.specs.Read.{Answer, refused, got}
 use Rattle.meaning.specs.Readable.{Accepted}
 use Rattle.tokens.specs.Token.{patternTokens, expressionTokens}
-use Rattle.numbers.specs.Tests.{told}
 use Rattle.numbers.specs.Numbering.{Numbered}
 use Rattle.metavariables.specs.Survey.{Surveyed}
 use Rattle.faces.specs.Recorded.{Recorded}
 use Rattle.faces.specs.First.{FirstsFit, Listed}
 use Rattle.faces.specs.declared.first.Firsts.{Firsts}
-use Rattle.classes.specs.FaceTable.{TablesFrom}
 use Rattle.accept.specs.declared.Standing.{Standing}
 use Rattle.accept.specs.declared.Verdict.the-variants as verdicts
 use Rattle.prepare.specs.declared.Prepared.{Prepared}
@@ -50,25 +48,24 @@ pub record Laid (p : Problem) (ps es fs : List ℕ) (a : Standing) : Type 0 wher
 abbrev pub Ground : List ℕ → List ℕ → List ℕ → Standing → Type 0
 Ground ps es fs a = (p : Problem) × Laid p ps es fs a
 
--- The numbers of the expressions' nodes; the nodes of the functions' faces, by ascending number, and the class tables of these
-pub record Tabled (ps es ns fs ds : List ℕ) (a : Standing) (firsts : Firsts) : Type 0 where
+-- The numbers of the expressions' nodes; the nodes of the functions' faces, by ascending number
+pub record Tabled (ps es ns fs : List ℕ) (a : Standing) (firsts : Firsts) : Type 0 where
   pub numbers : Numbered (take (a .expressions) es) (take (a .expressions) ns)
   pub numbersInside : a .expressions ≤ length ns
   pub nodes : NodesOf (a .rows) (take (a .patterns) ps) (take (a .faces) fs) (a .occurring .functions) firsts
-  pub tables : TablesFrom (told (take (a .expressions) ns)) (take (a .expressions) es) (firsts .nodes) (firsts .count) ds
 
-pub record Tabling (ps es ns fs ds : List ℕ) (a : Standing) (r : Prepared) : Type 0 where
+pub record Tabling (ps es ns fs : List ℕ) (a : Standing) (r : Prepared) : Type 0 where
   pub verdict : r .verdict ≡ verdicts.Accepted a
-  pub tabled : Tabled ps es ns fs ds a (r .firsts)
+  pub tabled : Tabled ps es ns fs a (r .firsts)
 
 -- A refusal is document 01's, with its number
-unfoldable pub Prepares : Answer Problem → List ℕ → List ℕ → List ℕ → List ℕ → List ℕ → Prepared → Type 0
-Prepares (refused n) ps es ns fs ds r = r .verdict ≡ verdicts.Refused n
-Prepares (got p) ps es ns fs ds r = (a : Standing) × Laid p ps es fs a × Tabling ps es ns fs ds a r
+unfoldable pub Prepares : Answer Problem → List ℕ → List ℕ → List ℕ → List ℕ → Prepared → Type 0
+Prepares (refused n) ps es ns fs r = r .verdict ≡ verdicts.Refused n
+Prepares (got p) ps es ns fs r = (a : Standing) × Laid p ps es fs a × Tabling ps es ns fs a r
 
 -- What a caller has of an accepted problem
-pub record Ready (x : Answer Problem) (ps es ns fs ds : List ℕ) (a : Standing) (firsts : Firsts) : Type 0 where
+pub record Ready (x : Answer Problem) (ps es ns fs : List ℕ) (a : Standing) (firsts : Firsts) : Type 0 where
   pub problem : Problem
   pub answer : x ≡ got problem
   pub laid : Laid problem ps es fs a
-  pub tabled : Tabled ps es ns fs ds a firsts
+  pub tabled : Tabled ps es ns fs a firsts

@@ -1,9 +1,8 @@
 // What happens once a call, whatever is asked: the problem is read and checked, the nodes of its expressions are numbered, and where it has
-// rows the nodes of its functions' faces and the class tables of these are looked up. The start, searching and writing begin with it.
+// rows the nodes of its functions' faces are looked up. The start, searching and writing begin with it.
 use accept::Standing;
 use accept::Verdict;
 use accept::accept;
-use classes::class_tables;
 use faces::first::Firsts;
 use faces::first::first_faces;
 use metavariables::MAX_FUNCTIONS;
@@ -14,7 +13,6 @@ ghost use Rattle.meaning.specs.Limits.{metavariableCount};
 ghost use Rattle.meaning.specs.Accept.{accept};
 ghost use lib.ListN.{length};
 ghost use Rattle.numbers.specs.Numbering.{Numbered, Numerable};
-ghost use Rattle.rows.specs.Rows.{Long};
 ghost use Rattle.table.specs.Whole.{tableRoom};
 ghost use Rattle.accept.specs.Acceptance.{Rooms};
 ghost use Rattle.metavariables.specs.Survey.{count};
@@ -56,26 +54,17 @@ fn number_nodes(es: &[u64], ns: &mut [u64])
     number(es, ns, &mut links);
 }
 
-// An accepted problem: its numbers, the nodes of its functions' faces, and their class tables.
-fn with_tables(
-    a: Standing,
-    ps: &[u64],
-    es: &[u64],
-    ns: &mut [u64],
-    fs: &[u64],
-    ds: &mut [u64],
-) -> Prepared
-    requires { ⌜ Ground (now ps) (now es) (now fs) a ⌝ ∗ ⌜ tableRoom ≤ length (now ns) ⌝ ∗ ⌜ Long (now ds) ⌝ }
-    ensures { λ r. ⌜ Tabling (now (ps .entry)) (now (es .entry)) (now (ns .exit)) (now (fs .entry)) (now (ds .exit)) a r ⌝ }
+// An accepted problem: its numbers, and the nodes of its functions' faces.
+fn with_numbers(a: Standing, ps: &[u64], es: &[u64], ns: &mut [u64], fs: &[u64]) -> Prepared
+    requires { ⌜ Ground (now ps) (now es) (now fs) a ⌝ ∗ ⌜ tableRoom ≤ length (now ns) ⌝ }
+    ensures { λ r. ⌜ Tabling (now (ps .entry)) (now (es .entry)) (now (ns .exit)) (now (fs .entry)) a r ⌝ }
 {
     let p = a.patterns;
     let e = a.expressions;
     let n = a.faces;
     let functions = a.occurring.functions;
     let firsts = nodes_of(a.rows, &ps[..p], &fs[..n], functions);
-    let nodes = firsts.nodes;
     number_nodes(&es[..e], ns);
-    class_tables(&es[..e], &ns[..e], nodes, firsts.count, ds);
     Prepared {
         verdict: Verdict::Accepted(a),
         firsts: firsts,
@@ -90,11 +79,9 @@ pub fn prepare(
     es: &mut [u64],
     ns: &mut [u64],
     fs: &mut [u64],
-    ds: &mut [u64],
 ) -> Prepared
-    requires { ⌜ Rooms (now ps) (now es) (now fs) ⌝ ∗ ⌜ tableRoom ≤ length (now ns) ⌝ ∗ ⌜ Long (now ds) ⌝ }
-    ensures { λ r. ⌜ Prepares (accept (now (problem .entry))) (now (ps .exit)) (now (es .exit)) (now (ns .exit)) (now (fs .exit))
-        (now (ds .exit)) r ⌝ }
+    requires { ⌜ Rooms (now ps) (now es) (now fs) ⌝ ∗ ⌜ tableRoom ≤ length (now ns) ⌝ }
+    ensures { λ r. ⌜ Prepares (accept (now (problem .entry))) (now (ps .exit)) (now (es .exit)) (now (ns .exit)) (now (fs .exit)) r ⌝ }
 {
     let verdict = accept(problem, ps, es, fs);
     match verdict {
@@ -102,6 +89,6 @@ pub fn prepare(
             verdict: Verdict::Refused(r),
             firsts: no_faces(),
         },
-        Verdict::Accepted(a) => with_tables(a, ps, es, ns, fs, ds),
+        Verdict::Accepted(a) => with_numbers(a, ps, es, ns, fs),
     }
 }

@@ -6,17 +6,20 @@
 --   Seeks      the promise of one call (`Keeps`) over the rows of the tables from a row on
 use mathlib.Core.Path.{_≡_}
 use mathlib.Core.Bool.{Bool, true, false}
-use mathlib.Core.List.{List, _∷_, _++_}
+use mathlib.Core.List.{List, _∷_, _++_, map}
 use Prim.Native.Nat.{ℕ, _≤_}
 use lib.ListN.{length, replicate}
 use Rattle.meaning.specs.Limits.{maxFunctions}
 use Rattle.meaning.specs.Basics.{choose, isSome, _∈_}
 use Rattle.meaning.specs.Problem.{Problem}
+use Rattle.meaning.specs.Rows.{rows}
+use Rattle.meaning.specs.PlaceValue.{masksOf}
 use Rattle.meaning.specs.Search.{at, past, placeOf, Reply, found, end, paused, refusedCall, Keeps}
 use Rattle.meaning.specs.Search as meant
 use Rattle.numbers.specs.Tests.{told}
-use Rattle.rows.specs.Rows.{MaskRow, maskRows, Steps}
-use Rattle.classes.specs.Tabled.{Tabled}
+use Rattle.masks.specs.Sets.{masksIn}
+use Rattle.choosing.specs.Rows.{MaskRow}
+use Rattle.rows.specs.Rows.{Faced, rowsOf, StepsFrom}
 use Rattle.places.specs.Places.{AtRow, AtPast}
 use Rattle.places.specs.declared.Place.{Place}
 use Rattle.fit.specs.Judging.{judgedAt}
@@ -33,29 +36,33 @@ judged ps es ns fs fixed row = isSome (judgedAt (told ns) ps es fs (fixed .funct
 abbrev pub Judged : List ℕ → List ℕ → List ℕ → List ℕ → Fixed → MaskRow → Type 0
 Judged ps es ns fs fixed row = judged ps es ns fs fixed row ≡ true
 
+-- The rows of the tables
+abbrev pub allRows : List ℕ → List ℕ → Fixed → List MaskRow
+allRows es ns fixed = rowsOf es ns (fixed .firsts)
+
 -- The tables are those of an accepted problem that has rows, and the first row is theirs
-pub record Grounded (ps es ns fs ds : List ℕ) (fixed : Fixed) (scratch : List ℕ) : Type 0 where
+pub record Grounded (ps es ns fs : List ℕ) (fixed : Fixed) (scratch : List ℕ) : Type 0 where
   pub problem : Problem
   pub laid : Laid problem (told ns) ps es fs (fixed .functions) (fixed .firsts)
-  pub numbers : length ns ≡ length es
-  pub tabled : Tabled problem ds
-  pub first : placeOf (maskRows ds) ≡ at (fixed .first)
+  pub faced : Faced es ns (fixed .firsts)
+  pub listed : allRows es ns fixed ≡ map masksOf (rows problem)
+  pub first : placeOf (allRows es ns fixed) ≡ at (masksIn (fixed .first))
   pub room : length ps ≤ length scratch
 
 -- ... and the row is one of theirs
-pub record Seekable (ps es ns fs ds : List ℕ) (fixed : Fixed) (row : MaskRow) (scratch : List ℕ) : Type 0 where
-  pub grounded : Grounded ps es ns fs ds fixed scratch
-  pub isRow : row ∈ maskRows ds
+pub record Seekable (ps es ns fs : List ℕ) (fixed : Fixed) (row : MaskRow) (scratch : List ℕ) : Type 0 where
+  pub grounded : Grounded ps es ns fs fixed scratch
+  pub isRow : row ∈ allRows es ns fixed
 
-pub record Turned (ps es ns fs ds : List ℕ) (fixed : Fixed) (row : MaskRow) (r : Turn) : Type 0 where
+pub record Turned (ps es ns fs : List ℕ) (fixed : Fixed) (row : MaskRow) (r : Turn) : Type 0 where
   pub solves : r .solves ≡ judged ps es ns fs fixed row
-  pub steps : Steps ds row (r .more) (r .next)
+  pub steps : StepsFrom es ns (fixed .firsts) row (r .more) (masksIn (r .next))
 
 -- The answers of a search from a row on
 pub record Passed (row : MaskRow) (t : Turn) (r : Searched) : Type 0 where
   pub answer : r .answer ≡ answers.Found
-  pub here : r .row ≡ row
-  pub more : t .more ≡ true → AtRow (t .next) (r .place)
+  pub here : masksIn (r .row) ≡ row
+  pub more : t .more ≡ true → AtRow (masksIn (t .next)) (r .place)
   pub last : t .more ≡ false → AtPast (r .place)
 
 pub record Ended (r : Searched) : Type 0 where
@@ -68,7 +75,7 @@ pub record Paused (row : MaskRow) (r : Searched) : Type 0 where
 
 -- A place and an answer in terms of rows of masks
 abbrev pub maskPlace : Place → meant.Place MaskRow
-maskPlace v = choose (v .past) past (at (v .masks))
+maskPlace v = choose (v .past) past (at (masksIn (v .sets)))
 
 abbrev pub maskReply : Answer → MaskRow → Place → Reply MaskRow (meant.Place MaskRow)
 maskReply (answers.Refused n) row v = refusedCall n
@@ -78,9 +85,9 @@ maskReply answers.Paused row v = paused (maskPlace v)
 
 -- Past the last no mask has a node
 abbrev pub Clean : Place → Type 0
-Clean v = v .past ≡ true → v .masks ≡ replicate maxFunctions 0
+Clean v = v .past ≡ true → masksIn (v .sets) ≡ replicate maxFunctions 0
 
-pub record Seeks (ps es ns fs ds : List ℕ) (fixed : Fixed) (row : MaskRow) (n : ℕ) (r : Searched) : Type 0 where
-  pub keeps : (before later : List MaskRow) → maskRows ds ≡ before ++ (row ∷ later)
-      → Keeps (Judged ps es ns fs fixed) n (row ∷ later) (maskReply (r .answer) (r .row) (r .place))
+pub record Seeks (ps es ns fs : List ℕ) (fixed : Fixed) (row : MaskRow) (n : ℕ) (r : Searched) : Type 0 where
+  pub keeps : (before later : List MaskRow) → allRows es ns fixed ≡ before ++ (row ∷ later)
+      → Keeps (Judged ps es ns fs fixed) n (row ∷ later) (maskReply (r .answer) (masksIn (r .row)) (r .place))
   pub clean : Clean (r .place)

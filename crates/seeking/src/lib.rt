@@ -1,23 +1,25 @@
 // Judging rows one after the other, from a row of a prepared problem on. What happens here once a row is small and allocates nothing.
 use faces::first::Firsts;
 use fit::judge;
+use masks::NodeSet;
 use places::Place;
 use rows::next_row;
 ghost use Prim.Native.Nat.{_<_};
+ghost use Rattle.masks.specs.Sets.{masksIn};
 ghost use Rattle.seeking.specs.Seeking.{Turned, Passed, Ended, Paused, Seekable, Seeks};
 
 // What stays the same from row to row: the set of functions, the nodes of their faces, and the first row, which `next_row` is lent.
 pub struct Fixed {
     pub functions: u32,
     pub firsts: Firsts,
-    pub first: [u64; Place::MAX_FUNCTIONS],
+    pub first: [NodeSet; Place::MAX_FUNCTIONS],
 }
 
 // One row: whether it is a solution row, and the row after it, if there is one.
 pub struct Turn {
     pub solves: bool,
     pub more: bool,
-    pub next: [u64; Place::MAX_FUNCTIONS],
+    pub next: [NodeSet; Place::MAX_FUNCTIONS],
 }
 
 pub enum Answer {
@@ -32,7 +34,7 @@ pub enum Answer {
 pub struct Searched {
     pub answer: Answer,
     pub place: Place,
-    pub row: [u64; Place::MAX_FUNCTIONS],
+    pub row: [NodeSet; Place::MAX_FUNCTIONS],
 }
 
 fn look_at(
@@ -40,18 +42,17 @@ fn look_at(
     es: &[u64],
     ns: &[u64],
     fs: &[u64],
-    ds: &[u64],
     fixed: Fixed,
-    row: [u64; Place::MAX_FUNCTIONS],
+    row: [NodeSet; Place::MAX_FUNCTIONS],
     scratch: &mut [u64],
 ) -> Turn
-    requires { ⌜ Seekable (now ps) (now es) (now ns) (now fs) (now ds) fixed row (now scratch) ⌝ }
-    ensures { λ r. ⌜ Turned (now (ps .entry)) (now (es .entry)) (now (ns .entry)) (now (fs .entry)) (now (ds .entry)) fixed row r ⌝ }
+    requires { ⌜ Seekable (now ps) (now es) (now ns) (now fs) fixed (masksIn row) (now scratch) ⌝ }
+    ensures { λ r. ⌜ Turned (now (ps .entry)) (now (es .entry)) (now (ns .entry)) (now (fs .entry)) fixed (masksIn row) r ⌝ }
 {
     let firsts = fixed.firsts;
     let first = fixed.first;
     let judged = judge(ps, es, ns, fs, fixed.functions, firsts, row, scratch);
-    let stepped = next_row(ds, first, row);
+    let stepped = next_row(es, ns, firsts, first, row);
     let next = stepped.row;
     Turn {
         solves: judged.solves,
@@ -61,8 +62,8 @@ fn look_at(
 }
 
 // A Found at the row, and the place after it.
-fn found_at(row: [u64; Place::MAX_FUNCTIONS], turn: Turn) -> Searched
-    ensures { λ r. ⌜ Passed row turn r ⌝ }
+fn found_at(row: [NodeSet; Place::MAX_FUNCTIONS], turn: Turn) -> Searched
+    ensures { λ r. ⌜ Passed (masksIn row) turn r ⌝ }
 {
     let next = turn.next;
     let place = if turn.more {
@@ -83,17 +84,17 @@ pub fn ended() -> Searched
     Searched {
         answer: Answer::End,
         place: Place::past_last(),
-        row: [0u64; Place::MAX_FUNCTIONS],
+        row: [NodeSet::none(); Place::MAX_FUNCTIONS],
     }
 }
 
-fn pause_at(row: [u64; Place::MAX_FUNCTIONS]) -> Searched
-    ensures { λ r. ⌜ Paused row r ⌝ }
+fn pause_at(row: [NodeSet; Place::MAX_FUNCTIONS]) -> Searched
+    ensures { λ r. ⌜ Paused (masksIn row) r ⌝ }
 {
     Searched {
         answer: Answer::Paused,
         place: Place::at(row),
-        row: [0u64; Place::MAX_FUNCTIONS],
+        row: [NodeSet::none(); Place::MAX_FUNCTIONS],
     }
 }
 
@@ -103,19 +104,18 @@ pub fn seek(
     es: &[u64],
     ns: &[u64],
     fs: &[u64],
-    ds: &[u64],
     fixed: Fixed,
-    row: [u64; Place::MAX_FUNCTIONS],
+    row: [NodeSet; Place::MAX_FUNCTIONS],
     n: u32,
     scratch: &mut [u64],
 ) -> Searched
-    requires { ⌜ Seekable (now ps) (now es) (now ns) (now fs) (now ds) fixed row (now scratch) ⌝ }
-    ensures { λ r. ⌜ Seeks (now (ps .entry)) (now (es .entry)) (now (ns .entry)) (now (fs .entry)) (now (ds .entry)) fixed row n r ⌝ }
+    requires { ⌜ Seekable (now ps) (now es) (now ns) (now fs) fixed (masksIn row) (now scratch) ⌝ }
+    ensures { λ r. ⌜ Seeks (now (ps .entry)) (now (es .entry)) (now (ns .entry)) (now (fs .entry)) fixed (masksIn row) n r ⌝ }
 {
     let mut at = row;
     let mut left = n;
     while 0 < left {
-        let t = look_at(ps, es, ns, fs, ds, fixed, at, scratch);
+        let t = look_at(ps, es, ns, fs, fixed, at, scratch);
         if t.solves {
             return found_at(at, t);
         }

@@ -17,7 +17,7 @@ use Rattle.prepare.proofs.prepare.Tie as tie
 -- After reading and checking: the bytes s, and the tables before and after
 module _ (a : tie.After-accept) where
   abbrev start : tie.Start
-  start = a .before .before .before .before .before .before .before .before .before .before
+  start = a .before .before .before .before .before .before .before .before .before
 
   abbrev s : List ℕ
   s = start .args .problem .now
@@ -26,7 +26,7 @@ module _ (a : tie.After-accept) where
   after = (a .accept .last .1 .0, a .accept .last .1 .1 .0, a .accept .last .1 .1 .1 .0)
 
   bytes : All (λ b. b < 256) s
-  bytes = are-bytes s (λ i. omega (arith, a .before .before .before .before .before .before .before .before .before .shared-slice-known .given i))
+  bytes = are-bytes s (λ i. omega (arith, a .before .before .before .before .before .before .before .before .shared-slice-known .given i))
 
   Accepted : Verdict → Type 0
   Accepted v = Accepts (accept s) (start .args .ps .now) (after .0) (start .args .es .now) (after .1) (after .2) v
@@ -47,10 +47,10 @@ no-faces-requires c κs = search needs
 enum-known-verdict-2 : tie.Need-enum-known-verdict-2
 enum-known-verdict-2 c = search needs
 
-with-tables-requires : tie.Need-with-tables-requires
+with-numbers-requires : tie.Need-with-numbers-requires
 unfolding Accepted
-with-tables-requires c κs =
-    let v = c .before .before .before .before .before .before in
+with-numbers-requires c κs =
+    let v = c .before .before .before .before .before in
     let a = v .before .before .before .before .before .before .before .before in (
       accepts-ground (s a) _ _ _ _ _ (bytes a) (v .verdict2 .given .0 .0) (subst (Accepted a) (v .verdict2 .given .1) (accepted a)),
       start a .pre .1,
@@ -70,7 +70,7 @@ unfolding Accepted
 returns c =
     let v = c .before .before in
     let a = v .before .before .before .before .before .before .before .before in
-    prepares-refused (s a) _ _ _ _ _ (bytes a) _ _ (v .verdict .given .0 .0) _ (subst (Accepted a) (v .verdict .given .1) (accepted a)) refl
+    prepares-refused (s a) _ _ _ _ _ (bytes a) _ (v .verdict .given .0 .0) _ (subst (Accepted a) (v .verdict .given .1) (accepted a)) refl
 
 same-length-4 : tie.Need-same-length-4
 same-length-4 c = search needs
@@ -84,16 +84,13 @@ same-length-6 c = search needs
 same-length-7 : tie.Need-same-length-7
 same-length-7 c = search needs
 
-same-length-8 : tie.Need-same-length-8
-same-length-8 c = search needs
-
 returns-2 : tie.Need-returns-2
 unfolding Accepted
 returns-2 c =
-    let v = c .before .before .before .before .before .before .before .before .before .before .before in
+    let v = c .before .before .before .before .before .before .before .before in
     let a = v .before .before .before .before .before .before .before .before in
-    prepares-accepted (s a) _ _ _ _ _ (bytes a) _ _ (v .verdict2 .given .0 .0) _ (subst (Accepted a) (v .verdict2 .given .1) (accepted a))
-    (c .before .before .before .before .with-tables .ensures)
+    prepares-accepted (s a) _ _ _ _ _ (bytes a) _ (v .verdict2 .given .0 .0) _ (subst (Accepted a) (v .verdict2 .given .1) (accepted a))
+    (c .before .before .with-numbers .ensures)
 
 pub prepare-spec : {M : Type 1} → statement M
 prepare-spec =
@@ -103,7 +100,7 @@ prepare-spec =
     enum-known-verdict
     no-faces-requires
     enum-known-verdict-2
-    with-tables-requires
+    with-numbers-requires
     same-length
     same-length-2
     same-length-3
@@ -112,5 +109,4 @@ prepare-spec =
     same-length-5
     same-length-6
     same-length-7
-    same-length-8
     returns-2)
