@@ -1,25 +1,36 @@
-// A benchmark: steps through the rows of one function whose face has 20 equal nodes, the first of them in every choice but the empty
-// one, and prints how many there are.
+// A benchmark of what no host sees. Standard input is one byte that says what to do, and a problem:
+//     s   steps through the rows of the problem, as far as MOST, and prints how many there are
+//     p   prepares the problem, 20,000 times, and prints how many functions its rows choose for
+// The problem of the test is one function against an application of 19 equal symbols. Its choices are the empty one, the application, and
+// every set of symbols that is not empty: 2^19 + 1 rows.
+use accept::Verdict;
+use faces::first::Firsts;
 use libc::STDOUT_FILENO;
+use masks::NodeSet;
+use prepare::prepare;
+use rows::first_row;
+use rows::next_row;
+use table::TABLE_ROOM;
 ghost use mathlib.Core.Path.{_≡_};
+ghost use mathlib.Core.Bool.{true};
 ghost use Rattle.meaning.specs.Basics.{_∈_};
 ghost use Rattle.meaning.specs.Search.{at, placeOf};
-ghost use Rattle.rows.specs.Rows.{maskRows, Tables};
+ghost use Rattle.masks.specs.Sets.{masksIn};
+ghost use Rattle.rows.specs.Rows.{Faced, rowsOf};
 
-// The class of node 0: the node itself and 19 later ones.
-const CLASS: u64 = 0xFFFF_F000_0000_0000;
-
-// More than there are rows.
+// More than there are rows in what is measured.
 const MOST: u64 = 1000000;
 
-// How many rows there are from `row` on, counted as far as MOST. The first of all is lent for the stepping.
-fn count_from(ds: &[u64], first: [u64; rows::MAX_FUNCTIONS], row: [u64; rows::MAX_FUNCTIONS]) -> u64
-    requires { ⌜ Tables (now ds) ⌝ ∗ ⌜ row ∈ maskRows (now ds) ⌝ ∗ ⌜ placeOf (maskRows (now ds)) ≡ at first ⌝ }
+const TIMES: usize = 20000;
+
+// How many rows there are from the first on, which is lent for the stepping.
+fn count_from(es: &[u64], ns: &[u64], firsts: Firsts, first: [NodeSet; rows::MAX_FUNCTIONS]) -> u64
+    requires { ⌜ Faced (now es) (now ns) firsts ⌝ ∗ ⌜ placeOf (rowsOf (now es) (now ns) firsts) ≡ at (masksIn first) ⌝ }
 {
-    let mut reached = row;
+    let mut reached = first;
     let mut n = 1u64;
     while n < MOST {
-        let step = rows::next_row(ds, first, reached);
+        let step = next_row(es, ns, firsts, first, reached);
         if !step.more {
             return n;
         }
@@ -30,16 +41,63 @@ fn count_from(ds: &[u64], first: [u64; rows::MAX_FUNCTIONS], row: [u64; rows::MA
     n
 }
 
-fn count(ds: &[u64]) -> u64
-    requires { ⌜ Tables (now ds) ⌝ }
+fn count(rows: bool, es: &[u64], ns: &[u64], firsts: Firsts) -> u64
+    requires { ⌜ (rows ≡ true → Faced (now es) (now ns) firsts) ⌝ }
 {
-    let first = rows::first_row(ds);
-    count_from(ds, first, first)
+    if !rows {
+        return 0;
+    }
+    let first = first_row(es, ns, firsts);
+    count_from(es, ns, firsts, first)
+}
+
+fn rows_of(problem: &[u8]) -> u64 {
+    let mut ps = [0u64; TABLE_ROOM];
+    let mut es = [0u64; TABLE_ROOM];
+    let mut ns = [0u64; TABLE_ROOM];
+    let mut fs = [0u64; TABLE_ROOM];
+    let prepared = prepare(problem, &mut ps, &mut es, &mut ns, &mut fs);
+    let firsts = prepared.firsts;
+    let verdict = prepared.verdict;
+    match verdict {
+        Verdict::Refused(_) => 0,
+        Verdict::Accepted(a) => {
+            let e = a.expressions;
+            count(a.rows, &es[..e], &ns[..e], firsts)
+        }
+    }
+}
+
+fn prepare_again(problem: &[u8]) -> usize {
+    let mut ps = [0u64; TABLE_ROOM];
+    let mut es = [0u64; TABLE_ROOM];
+    let mut ns = [0u64; TABLE_ROOM];
+    let mut fs = [0u64; TABLE_ROOM];
+    let mut functions = 0;
+    let mut k = 0;
+    while k < TIMES {
+        let prepared = prepare(problem, &mut ps, &mut es, &mut ns, &mut fs);
+        functions = prepared.firsts.count;
+        k += 1;
+    }
+    functions
+}
+
+fn print(n: u64, what: &[u8]) {
+    io::print_decimal(STDOUT_FILENO, n);
+    io::write_all(STDOUT_FILENO, what);
 }
 
 fn main() {
-    let mut ds = [0u64; 512];
-    ds[0] = CLASS;
-    io::print_decimal(STDOUT_FILENO, count(&ds));
-    io::write_all(STDOUT_FILENO, b" rows\n");
+    let mut input = io::large_buffer();
+    let n = io::read_full(0, &mut input);
+    if n == 0 {
+        return;
+    }
+    match input[0] {
+        // s, p
+        115 => print(rows_of(&input[1..n]), b" rows\n"),
+        112 => print(prepare_again(&input[1..n]) as u64, b" functions\n"),
+        _ => (),
+    }
 }
