@@ -165,15 +165,20 @@ module _ (s : NodeSet) where
       let x = ap first (nodes-words s) ∙ first-later (s .w0) _ a in
       omega (arith, x, first-later (s .w1) (s .w2 ∷ s .w3 ∷ []) b, first-later (s .w2) (s .w3 ∷ []) d, first-last (s .w3))
 
--- A set without a node
-none-trues : (l : List Bool) → (trues l ≡ 0) ↔ (value l ≡ 0)
-unfolding trues value
-none-trues [] = (λ e. refl, λ e. refl)
-none-trues (true ∷ l) = (λ e. absurd (omega arith), λ e. absurd (omega (arith, pow-pos (length l))))
-none-trues (false ∷ l) = none-trues l
+-- A set without a node: there is no lowest one
+none-first : (l : List Bool) → (first l ≡ length l) ↔ (value l ≡ 0)
+unfolding first value
+none-first [] = (λ e. refl, λ e. refl)
+none-first (true ∷ l) = (λ e. absurd (omega arith), λ e. absurd (omega (arith, pow-pos (length l))))
+none-first (false ∷ l) = let q = none-first l in (λ e. q .0 (omega arith), λ e. ap suc (q .1 e))
 
-pub empty-mask : (s : NodeSet) → (trues (nodes s) ≡ 0) ↔ (mask s ≡ 0)
-empty-mask s = let q = none-trues (nodes s) in (λ e. mask-nodes s ∙ q .0 e, λ e. q .1 (sym (mask-nodes s) ∙ e))
+pub empty-test : (s : NodeSet) (n : ℕ) → n ≡ first (nodes s) → eqb n 256 ≡ eqb (mask s) 0
+unfolding width
+empty-test s n e =
+    let q = none-first (nodes s) in
+    let l = length-marks width (mask s) in
+    same-truth (eqb n 256) (eqb (mask s) 0) (λ h. eq-eqb (mask s) 0 (mask-nodes s ∙ q .0 (sym e ∙ eqb-true n 256 h ∙ sym l)))
+    (λ h. eq-eqb n 256 (e ∙ q .1 (sym (mask-nodes s) ∙ eqb-true (mask s) 0 h) ∙ l))
 
 -- A count of a word is at most the number of its nodes
 trues-le : (l : List Bool) → trues l ≤ length l
@@ -201,12 +206,6 @@ word-at s i n e = ap (λ (k : ℕ). getD (words s) k 0) (sym e)
 
 pub put-at : (s : NodeSet) (i n w : ℕ) → i ≡ n → set (words s) n w ≡ set (words s) i w
 put-at s i n w e = ap (λ (k : ℕ). set (words s) k w) (sym e)
-
-pub empty-test : (s : NodeSet) (n : ℕ) → n ≡ trues (nodes s) → eqb n 0 ≡ eqb (mask s) 0
-empty-test s n e =
-    let q = empty-mask s in
-    same-truth (eqb n 0) (eqb (mask s) 0) (λ h. eq-eqb (mask s) 0 (q .0 (sym e ∙ eqb-true n 0 h)))
-    (λ h. eq-eqb n 0 (e ∙ q .1 (eqb-true (mask s) 0 h)))
 
 -- ---- the masks of a row
 

@@ -171,9 +171,10 @@ impl NodeSet {
         3 * WORD + leading(self.w3)
     }
 
+    // Asked of every function at every step of a row: the lowest node is found with fewer instructions than the ones are counted.
     pub fn is_empty(self) -> bool
         ensures { λ r. ⌜ r ≡ eqb (mask self) 0 ⌝ }
     {
-        self.holes() == 0
+        self.lowest() == NodeSet::ROOM
     }
 }

@@ -5,10 +5,11 @@ use mathlib.Core.Path.{_≡_, ap, sym, _∙_, subst}
 use mathlib.Core.Logic.{_↔_, ⊎-elim}
 use mathlib.Core.Bool.{true, false}
 use mathlib.Core.List.{List, [], List·Memᴰ·head, List·Memᴰ·cases-cons, List·Memᴰ·not-nil}
-use Prim.Native.Nat.{ℕ, suc, _-_, _≤_, _<_}
+use Prim.Native.Nat.{ℕ, zero, suc, _+_, _-_, _≤_, _<_}
 use native.Mathlib.Nat.{eq-or-lt-of-le}
 use native.Mathlib.Omega.{arith}
 use lib.ListN.{length, getD, replicate, set, length-map}
+use lib.Seq.{set-getD}
 use lib.Dec.{eqb}
 use borrow.Author.Tests.{eq-eqb, eqb-false, eqb-true}
 use Rattle.meaning.specs.Limits.{maxFunctions}
@@ -92,7 +93,7 @@ module _ (es ns : List ℕ) (firsts : Firsts) where
       subst (λ (r : List ℕ). Fresh first maxFunctions r j) (sym (masks-set row j s ∙ ap (set (masksIn row) j) e))
       (fresh-more first maxFunctions (masksIn row) j h w)
 
-  pub carrying-none : (row : List NodeSet) → length row ≡ maxFunctions → Carrying row row maxFunctions
+  carrying-none : (row : List NodeSet) → length row ≡ maxFunctions → Carrying row row maxFunctions
   carrying-none row l = carried-none (choicesAt ns es (firsts .nodes) (firsts .count)) first maxFunctions (masksIn row) (length-map row mask ∙ l)
 
   module _ (f : Faced es ns firsts) where
@@ -104,6 +105,28 @@ module _ (es ns : List ℕ) (firsts : Firsts) where
         → getD (masksIn row) k 0 ≡ first k
     unfolding rowsOf
     first-set row e k h = first-at ns es (firsts .nodes) (firsts .count) (f .faces) (masksIn row) e k h
+
+    -- The functions that are not there have had their last choice, and would begin again with it
+    pub carrying-there : (row : List NodeSet) → length row ≡ maxFunctions → masksIn row ∈ rowsOf es ns firsts → Carrying row row (firsts .count)
+    carrying-there row l m =
+        go (maxFunctions - firsts .count) (firsts .count) (omega (arith, f .faces .few)) (omega arith)
+      where
+        cs : ℕ → List ℕ
+        cs = choicesAt ns es (firsts .nodes) (firsts .count)
+
+        only : (j : ℕ) → firsts .count ≤ j → j < maxFunctions → getD (masksIn row) j 0 ≡ 0
+        only j h g = eqb-true (getD (masksIn row) j 0) 0 (absent-choice j (getD (masksIn row) j 0) h .1 (row-choice row m j g))
+
+        go : (d j : ℕ) → j + d ≡ maxFunctions → firsts .count ≤ j → Carrying row row j
+        go zero j e h = let z : maxFunctions ≡ j = omega arith in subst (Carrying row row) z (carrying-none row l)
+        go (suc d) j e h =
+            let g : j < maxFunctions = omega arith in
+            let z = only j h g in
+            let same : set (masksIn row) j (first j) ≡ masksIn row =
+            ap (set (masksIn row) j) (first-absent ns es (firsts .nodes) (firsts .count) j h ∙ sym z) ∙ set-getD (masksIn row) j 0 in
+            subst (λ (r : List ℕ). Carried cs first maxFunctions (masksIn row) r j) same
+            (carried-more cs first maxFunctions (masksIn row) (masksIn row) j g (go d (suc j) (omega arith) (omega arith))
+            (subst (λ (x : ℕ). behind (choicesOf es ns firsts j) x ≡ []) (sym z) (empty-last ns es (firsts .nodes) (firsts .count) (f .faces) j)))
 
     module _ (old row : List NodeSet) (j : ℕ) (h : j < maxFunctions) (w : Carrying old row (suc j)) where
       -- The set of the function that the step has come to is still the given one

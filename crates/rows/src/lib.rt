@@ -89,7 +89,7 @@ pub fn first_row(es: &[u64], ns: &[u64], firsts: Firsts) -> [NodeSet; MAX_FUNCTI
 }
 
 // The row after `row`, or that it is the last: the last function with a choice left takes its next one, and the later ones begin
-// again. The first row is lent so that beginning again costs nothing: a call that makes many steps computes it once for itself. It is
+// again. Functions that are not there have one choice, and are passed over. The first row is lent so that beginning again costs nothing: a call that makes many steps computes it once for itself. It is
 // never kept with a place, since what a host hands in may be any bytes.
 pub fn next_row(
     es: &[u64],
@@ -103,7 +103,7 @@ pub fn next_row(
     ensures { λ r. ⌜ StepsFrom (now (es .entry)) (now (ns .entry)) firsts (masksIn row) (r .more) (masksIn (r .row)) ⌝ }
 {
     let mut next = row;
-    let mut k = MAX_FUNCTIONS;
+    let mut k = firsts.count;
     while 0 < k {
         k -= 1;
         let set = next[k];

@@ -11,7 +11,7 @@ use Rattle.meaning.specs.Basics.{_∈_}
 use Rattle.masks.specs.Sets.{mask}
 use Rattle.masks.proofs.Words.{masks-at}
 use Rattle.rows.specs.Rows.{choicesOf}
-use Rattle.rows.proofs.RowLaws.{Carrying, above-zero, carrying-none, carrying-more, carried-choice, first-set, steps-set, steps-none}
+use Rattle.rows.proofs.RowLaws.{Carrying, above-zero, carrying-there, carrying-more, carried-choice, first-set, steps-set, steps-none}
 use Rattle.rows.proofs.next_row.Statement.{statement}
 use Rattle.rows.proofs.next_row.Tie as tie
 
@@ -26,7 +26,7 @@ unfolding maxFunctions
 loop-holds c =
     let s = c .before .before in
     let n : length (s .args .row) ≡ maxFunctions = search needs in
-    (omega arith, carrying-none (s .args .es .now) (s .args .ns .now) (s .args .firsts) (s .args .row) n)
+    (s .pre .0 .faces .few, carrying-there (s .args .es .now) (s .args .ns .now) (s .args .firsts) (s .pre .0) (s .args .row) n (s .pre .1 .0))
 
 sub-k : tie.Need-sub-k Inv-loop μ-loop
 sub-k c = search needs
