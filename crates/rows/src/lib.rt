@@ -21,8 +21,8 @@ pub const MAX_FUNCTIONS: usize = metavariables::MAX_FUNCTIONS;
 
 // Whether there is a row after another, and that row. Past the last every set is empty.
 pub struct Stepped {
-    pub more: bool,
     pub row: [NodeSet; MAX_FUNCTIONS],
+    pub more: bool,
 }
 
 // Whether the set, whatever it is, is a choice of function k. One that is not there has the empty choice.

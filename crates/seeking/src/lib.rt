@@ -10,16 +10,16 @@ ghost use Rattle.seeking.specs.Seeking.{Turned, Passed, Ended, Paused, S
 
 // What stays the same from row to row: the set of functions, the nodes of their faces, and the first row, which `next_row` is lent.
 pub struct Fixed {
-    pub functions: u32,
-    pub firsts: Firsts,
     pub first: [NodeSet; Place::MAX_FUNCTIONS],
+    pub firsts: Firsts,
+    pub functions: u32,
 }
 
 // One row: whether it is a solution row, and the row after it, if there is one.
 pub struct Turn {
+    pub next: [NodeSet; Place::MAX_FUNCTIONS],
     pub solves: bool,
     pub more: bool,
-    pub next: [NodeSet; Place::MAX_FUNCTIONS],
 }
 
 pub enum Answer {
@@ -32,9 +32,9 @@ pub enum Answer {
 
 // The answer, with the place that the call leaves, and the row of a Found beside it; no other answer's row means anything.
 pub struct Searched {
-    pub answer: Answer,
-    pub place: Place,
     pub row: [NodeSet; Place::MAX_FUNCTIONS],
+    pub place: Place,
+    pub answer: Answer,
 }
 
 fn look_at(
