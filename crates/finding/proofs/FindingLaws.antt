@@ -61,7 +61,8 @@ module _ {s : Bytes} {place : Place} {n : ℕ} {searched : Searched} (call : Ans
   nothing-found none = record { call = call; text = λ e. absurd (none e); nothing = λ h. refl }
 
   module _ (e : searched .answer ≡ answers.Found) {row : Place} (is : AtRow (masksIn (searched .row)) row) {before after : Bytes} where
-    written-call : (answer : Written) → Writes s row before after answer → WriteCall s (rowValue (masksIn (searched .row))) before (answerOf answer) after
+    written-call : (answer : Written) → Writes s row before after answer
+        → WriteCall s (rowValue (masksIn (searched .row))) before (answerOf answer) after
     written-call answer w = subst (λ (v : PlaceValue). WriteCall s v before (answerOf answer) after) (row-value is) w
 
     pub text-found : (answer : Written) {k : ℕ} → answer ≡ written.Wrote k → Writes s row before after answer
