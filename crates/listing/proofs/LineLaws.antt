@@ -22,6 +22,7 @@ use Rattle.meaning.proofs.ByteLaws.{got-is, refused-not}
 use Rattle.meaning.proofs.ProblemReading.{accept-accepted}
 use Rattle.meaning.proofs.OneCall.{reply-named}
 use Rattle.meaning.proofs.WriteLaws.{write-on, written-text}
+use Rattle.masks.specs.Sets.{masksIn}
 use Rattle.places.specs.Places.{Starts, valueOf}
 use Rattle.places.specs.declared.Place.{Place}
 use Rattle.places.specs.declared.Started.{Started}
@@ -99,10 +100,11 @@ written-fits {s} {before} {after} {v} {n} w = go w refl
 -- One call of the program
 module _ {s : Bytes} (now : Listing) {before text : Bytes} (f : Finding) (finds : Finds s (now .place) 1000000 before text f) where
   called : (a : Kind) → f .searched .answer ≡ a
-      → SearchCall s (valueOf (now .place)) allowance (replyWith a (f .searched .row) (valueOf (f .searched .place)))
+      → SearchCall s (valueOf (now .place)) allowance (replyWith a (masksIn (f .searched .row)) (valueOf (f .searched .place)))
   unfolding allowance
   called a e =
-      subst (λ (x : Kind). SearchCall s (valueOf (now .place)) 1000000 (replyWith x (f .searched .row) (valueOf (f .searched .place)))) e
+      subst
+      (λ (x : Kind). SearchCall s (valueOf (now .place)) 1000000 (replyWith x (masksIn (f .searched .row)) (valueOf (f .searched .place)))) e
       (finds .call .call)
 
   pub text-fits : f .searched .answer ≡ answers.Found → f .length ≤ length before
@@ -127,7 +129,7 @@ module _ {s : Bytes} (now : Listing) {before text : Bytes} (f : Finding) (finds 
     found-next b e (line.solution few is goes) = go (called answers.Found e) refl
       where
         row : PlaceValue
-        row = rowValue (f .searched .row)
+        row = rowValue (masksIn (f .searched .row))
 
         go : {reply : HostReply} → SearchCall s (valueOf (now .place)) allowance reply → reply ≡ found row (valueOf (f .searched .place))
             → NextLine s now after r
@@ -136,7 +138,8 @@ module _ {s : Bytes} (now : Listing) {before text : Bytes} (f : Finding) (finds 
             let (q, named, solves) = reply-named p (subst (SearchOn p (valueOf (now .place)) allowance) w on) .0 in
             let accepted : Accepted p = accept-accepted s p b z .0 in
             let said : take (f .length) text ≡ rowText p q = written-text p row before accepted q named (write-on p z (finds .text e)) in
-            line-is (subst (λ (t : Bytes). Stands (solutionLine (suc (now .count)) t) after (r .length)) said is) (line.solution p z (called answers.Found e) q named few goes)
+            line-is (subst (λ (t : Bytes). Stands (solutionLine (suc (now .count)) t) after (r .length)) said is)
+            (line.solution p z (called answers.Found e) q named few goes)
 
 -- How many lines are left at most
 abbrev pub left : Listing → ℕ
