@@ -24,16 +24,19 @@ use Rattle.meaning.specs.Calls.{left}
 use Rattle.meaning.proofs.Lists.{never, is-some}
 use Rattle.meaning.proofs.PlaceLaws.{mem-split}
 use Rattle.meaning.proofs.Solutions.{solves-is-right}
+use Rattle.masks.specs.Sets.{masksIn}
+use Rattle.masks.specs.declared.NodeSet.{NodeSet}
 use Rattle.metavariables.proofs.SurveyMeaning.{kept-functions}
 use Rattle.faces.specs.declared.first.Firsts.{Firsts}
-use Rattle.rows.specs.Rows.{MaskRow, maskRows, Tables}
-use Rattle.classes.proofs.Problem.{rows-listed, tabled-tables}
+use Rattle.choosing.specs.Rows.{MaskRow}
+use Rattle.rows.specs.Rows.{rowsOf}
 use Rattle.accept.specs.declared.Standing.{Standing}
 use Rattle.accept.specs.declared.Verdict.the-variants as verdicts
 use Rattle.prepare.specs.Prepared.{Prepares, Ready}
 use Rattle.prepare.specs.declared.Prepared.{Prepared}
-use Rattle.prepare.proofs.PreparedLaws.{nodes-mean, ready-nodes, ready-tells, ready-numbers, ready-tables, prepared-refused, prepared-accepted}
-use Rattle.places.specs.Places.{valueOf, IsRowOf, AtPast, Tells}
+use Rattle.prepare.proofs.PreparedLaws.{nodes-mean, ready-nodes, ready-tells, ready-faced, ready-rows, prepared-refused, prepared-accepted}
+use Rattle.places.specs.Places.{valueOf, IsRowOf, AtPast, Openable, Tells}
+use Rattle.places.specs.declared.Named.{Named}
 use Rattle.places.specs.declared.Named.the-variants as named
 use Rattle.places.specs.declared.Place as code
 use Rattle.places.proofs.Naming.{row-value, past-value, same-value, row-named, past-named, nothing-named}
@@ -41,9 +44,8 @@ use Rattle.numbers.specs.Tests.{Tests, told}
 use Rattle.fit.specs.Laid as fit
 use Rattle.fit.specs.Judging.{judgedAt}
 use Rattle.fit.proofs.Meaning.{judge-means}
-use Rattle.classes.specs.Tabled.{Tabled}
-use Rattle.seeking.specs.Seeking.{Judged, Seekable, Ended, Clean, maskPlace, maskReply}
-use Rattle.search.specs.Calling.{rowValue, replyWith, hostReply, Answers, Refuses, Callable, Sought, Placed}
+use Rattle.seeking.specs.Seeking.{Judged, allRows, Seekable, Ended, Clean, maskPlace, maskReply}
+use Rattle.search.specs.Calling.{rowValue, replyWith, hostReply, Answers, Refuses, Callable, RowThere, Sought, Placed}
 use Rattle.seeking.specs.declared.Fixed.{Fixed}
 use Rattle.seeking.specs.declared.Answer.{Answer}
 use Rattle.seeking.specs.declared.Answer.the-variants as answers
@@ -70,7 +72,7 @@ positive (suc n) f = omega arith
 refusal-leaves : (number : ℕ) (place : code.Place) (r : Searched) → Refuses number place r
     → (hostReply r ≡ refusedCall number) × (valueOf (r .place) ≡ left (valueOf place) (hostReply r))
 refusal-leaves number place r h =
-    let e : hostReply r ≡ refusedCall number = ap (λ (x : Answer). replyWith x (r .row) (valueOf (r .place))) (h .answer) in
+    let e : hostReply r ≡ refusedCall number = ap (λ (x : Answer). replyWith x (masksIn (r .row)) (valueOf (r .place))) (h .answer) in
     (e, ap valueOf (h .stays) ∙ ap (left (valueOf place)) (sym e))
 
 refuses-answers : (s : Bytes) (place : code.Place) (n number : ℕ) (r : Searched) → Refuses number place r
@@ -89,14 +91,14 @@ place-back : (v : code.Place) (next : Place Row) → Clean v → maskPlace v ≡
 place-back v next c e = go (v .past) refl next e
   where
     go : (b : Bool) → v .past ≡ b → (next : Place Row) → maskPlace v ≡ placeTo masksOf next → valueOf v ≡ placeValue next
-    go true q (at r) e = never (let z = ap (λ (x : Bool). choose x past (at (v .masks))) (sym q) ∙ e in cc)
+    go true q (at r) e = never (let z = ap (λ (x : Bool). choose x past (at (masksIn (v .sets)))) (sym q) ∙ e in cc)
     go true q past e =
         same-value v (record { masks = replicate maxFunctions 0; isPast = true }) (c q) q ∙ sym past-value
     go false q (at r) e =
-        let z : _≡_ {A = Place MaskRow} (at (v .masks)) (at (masksOf r)) = ap (λ (x : Bool). choose x past (at (v .masks))) (sym q) ∙ e in
-        let m : v .masks ≡ masksOf r = cc in
+        let z : _≡_ {A = Place MaskRow} (at (masksIn (v .sets))) (at (masksOf r)) = ap (λ (x : Bool). choose x past (at (masksIn (v .sets)))) (sym q) ∙ e in
+        let m : masksIn (v .sets) ≡ masksOf r = cc in
         same-value v (record { masks = masksOf r; isPast = false }) m q ∙ sym (row-value r)
-    go false q past e = never (let z = ap (λ (x : Bool). choose x past (at (v .masks))) (sym q) ∙ e in cc)
+    go false q past e = never (let z = ap (λ (x : Bool). choose x past (at (masksIn (v .sets)))) (sym q) ∙ e in cc)
 
 -- An answer of masks as a host sees it
 record Seen (reply : HostReply) (v : code.Place) (place : PlaceValue) (answer : Reply Row (Place Row)) : Type 0 where
@@ -132,7 +134,7 @@ module _ (p : Problem) (n : ℕ) (place : PlaceValue) where
       record { same = cc; leaves = refl }
 
 -- A prepared problem
-module _ (s : Bytes) (ps es ns fs ds : List ℕ) (a : Standing) (firsts : Firsts) (ready : Ready (accept s) ps es ns fs ds a firsts) where
+module _ (s : Bytes) (ps es ns fs : List ℕ) (a : Standing) (firsts : Firsts) (ready : Ready (accept s) ps es ns fs a firsts) where
   abbrev p : Problem
   p = ready .problem
 
@@ -153,12 +155,12 @@ module _ (s : Bytes) (ps es ns fs ds : List ℕ) (a : Standing) (firsts : Firsts
   ready-laid e =
       let laid = ready .laid in
       let (xs, shapes) = is-some (faces p) (sym (laid .hasRows) ∙ e) in
-      let nodes = ready-nodes (accept s) ps es ns fs ds a firsts ready e in
+      let nodes = ready-nodes (accept s) ps es ns fs a firsts ready e in
       record {
         accepted = laid .accepted;
         patterns = laid .patterns;
         expressions = laid .expressions;
-        tells = ready-tells (accept s) ps es ns fs ds a firsts ready;
+        tells = ready-tells (accept s) ps es ns fs a firsts ready;
         found = xs;
         agree = shapes;
         recorded = laid .recorded xs shapes;
@@ -169,39 +171,38 @@ module _ (s : Bytes) (ps es ns fs ds : List ℕ) (a : Standing) (firsts : Firsts
 
   -- What `seek` requires
   pub ready-seekable : (fixed : Fixed) (v : code.Place) (scratch : List ℕ) → fixed .functions ≡ a .occurring .functions
-      → fixed .firsts ≡ firsts
-      → placeOf (maskRows ds) ≡ at (fixed .first) → IsRowOf v (a .rows) ds → length ps ≤ length scratch
-      → Seekable ps′ es′ ns′ fs′ ds fixed (v .masks) scratch
+      → fixed .firsts ≡ firsts → placeOf (allRows es′ ns′ fixed) ≡ at (masksIn (fixed .first)) → RowThere es ns a firsts v
+      → length ps ≤ length scratch → Seekable ps′ es′ ns′ fs′ fixed (masksIn (v .sets)) scratch
   ready-seekable fixed v scratch f g first h room =
       record {
         grounded = record {
           problem = p;
           laid = rw (f, g) (ready-laid (h .someRows));
-          numbers = ready-numbers (accept s) ps es ns fs ds a firsts ready;
-          tabled = ready-tables (accept s) ps es ns fs ds a firsts ready (h .someRows);
+          faced = rw g (ready-faced (accept s) ps es ns fs a firsts ready (h .someRows));
+          listed = rw g (ready-rows (accept s) ps es ns fs a firsts ready (h .someRows));
           first = first;
           room = omega (arith, length-take-le (a .patterns) ps (ready .laid .patternsInside), ready .laid .patternsInside);
         };
-        isRow = h .member;
+        isRow = rw g (h .member);
       }
 
   module _ (place : code.Place) (n : ℕ) (above : 0 < n) (r : Searched) where
     -- "16 no such place"
-    pub answers-nowhere : (IsRowOf place (a .rows) ds → ⊥) → (AtPast place → ⊥) → Refuses 16 place r → Answers s place n r
+    pub answers-nowhere : (RowThere es ns a firsts place → ⊥) → (AtPast place → ⊥) → Refuses 16 place r → Answers s place n r
     answers-nowhere f g h =
         refuses-answers s place n 16 r h
         (onAccepted p (ready .answer) (noSuchPlace above
-        (nothing-named p (ready .laid .accepted) ds (a .rows) (ready .laid .hasRows)
-        (ready-tables (accept s) ps es ns fs ds a firsts ready) place f g)))
+        (nothing-named p es′ ns′ firsts (a .rows) (ready .laid .hasRows)
+        (ready-rows (accept s) ps es ns fs a firsts ready) place f g)))
 
     -- Past the last there is nothing to find
     pub answers-past : AtPast place → Ended r → Answers s place n r
     answers-past h d =
-        let named = past-named p (ready .laid .accepted) ds (a .rows) (ready .laid .hasRows)
-        (ready-tables (accept s) ps es ns fs ds a firsts ready) in
+        let named = past-named p es′ ns′ firsts (a .rows) (ready .laid .hasRows)
+        (ready-rows (accept s) ps es ns fs a firsts ready) in
         let w : valueOf (r .place) ≡ placeValue past = named (r .place) (d .place) .isValue in
         let e : hostReply r ≡ replyValue (end past) =
-        ap (λ (x : Answer). replyWith x (r .row) (valueOf (r .place))) (d .answer) ∙ ap {B = HostReply} end w in
+        ap (λ (x : Answer). replyWith x (masksIn (r .row)) (valueOf (r .place))) (d .answer) ∙ ap {B = HostReply} end w in
         record {
           call =
               subst (SearchCall s (valueOf place) n) (sym e)
@@ -211,17 +212,17 @@ module _ (s : Bytes) (ps es ns fs ds : List ℕ) (a : Standing) (firsts : Firsts
         }
 
     -- From a row on
-    pub answers-row : IsRowOf place (a .rows) ds → Sought ps es ns fs ds a firsts (place .masks) n r → Answers s place n r
+    pub answers-row : RowThere es ns a firsts place → Sought ps es ns fs a firsts (masksIn (place .sets)) n r → Answers s place n r
     answers-row h d =
-        let (r₀, m, e, named) = row-named p (ready .laid .accepted) ds (a .rows) (ready .laid .hasRows) tables place h in
+        let (r₀, m, e, named) = row-named p es′ ns′ firsts (a .rows) (ready .laid .hasRows) listing place h in
         let (before, later, split) = mem-split r₀ (rows p) m in
-        let listed : maskRows ds ≡ map masksOf before ++ (place .masks ∷ map masksOf later) =
-        rows-listed p ds (ready .laid .accepted) (sym (ready .laid .hasRows) ∙ h .someRows) (tables (h .someRows))
+        let listed : allRows es′ ns′ (d .fixed) ≡ map masksOf before ++ (masksIn (place .sets) ∷ map masksOf later) =
+        ap (rowsOf es′ ns′) (d .firstNodes) ∙ listing (h .someRows)
         ∙ ap (map masksOf) split ∙ map-append masksOf before (r₀ ∷ later)
         ∙ ap (λ (x : MaskRow). map masksOf before ++ (x ∷ map masksOf later)) (sym e) in
         let back = keeps-back masksOf (Judged ps′ es′ ns′ fs′ (d .fixed)) (SolutionRow p) (r₀ ∷ later) (alike h d before later r₀ split)
         (ap (λ (x : MaskRow). x ∷ map masksOf later) (sym e)) (d .seeks .keeps (map masksOf before) (map masksOf later) listed) in
-        let told = seen p n (valueOf place) (r .answer) (r .row) (r .place) (back .keeps) (d .seeks .clean) (back .same) in
+        let told = seen p n (valueOf place) (r .answer) (masksIn (r .row)) (r .place) (back .keeps) (d .seeks .clean) (back .same) in
         record {
           call =
               subst (SearchCall s (valueOf place) n) (sym (told .same))
@@ -230,10 +231,10 @@ module _ (s : Bytes) (ps es ns fs ds : List ℕ) (a : Standing) (firsts : Firsts
           leaves = told .leaves;
         }
       where
-        tables : a .rows ≡ true → Tabled p ds
-        tables = ready-tables (accept s) ps es ns fs ds a firsts ready
+        listing : a .rows ≡ true → rowsOf es′ ns′ firsts ≡ map masksOf (rows p)
+        listing = ready-rows (accept s) ps es ns fs a firsts ready
 
-        alike : IsRowOf place (a .rows) ds → (d : Sought ps es ns fs ds a firsts (place .masks) n r) → (before later : List Row) (r₀ : Row)
+        alike : RowThere es ns a firsts place → (d : Sought ps es ns fs a firsts (masksIn (place .sets)) n r) → (before later : List Row) (r₀ : Row)
             → rows p ≡ before ++ (r₀ ∷ later) → (x : Row) → x ∈ r₀ ∷ later
             → Judged ps′ es′ ns′ fs′ (d .fixed) (masksOf x) ↔ SolutionRow p x
         alike h d before later r₀ split x i =
@@ -241,57 +242,60 @@ module _ (s : Bytes) (ps es ns fs ds : List ℕ) (a : Standing) (firsts : Firsts
             (judged-solves p (told ns′) ps′ es′ fs′ (a .occurring .functions) firsts (ready-laid (h .someRows)) x
             (subst (λ (l : List Row). x ∈ l) (sym split) (Memᴰ·append-right before i)))
 
+abbrev pub TellsThere : List ℕ → List ℕ → Standing → Firsts → code.Place → Named → Type 0
+TellsThere es ns a firsts place x = Tells place (a .rows) (take (a .expressions) es) (take (a .expressions) ns) firsts x
+
 -- The answers of `from_place`
-module _ (ps es ns fs ds : List ℕ) (a : Standing) (firsts : Firsts) (place : code.Place) (n : ℕ) (r : Searched) where
-  pub placed-zero : n ≡ 0 → Refuses 15 place r → Placed ps es ns fs ds a firsts place n r
+module _ (ps es ns fs : List ℕ) (a : Standing) (firsts : Firsts) (place : code.Place) (n : ℕ) (r : Searched) where
+  pub placed-zero : n ≡ 0 → Refuses 15 place r → Placed ps es ns fs a firsts place n r
   unfolding Placed
   placed-zero e h s ready = refuses-answers s place n 15 r h (onAccepted (ready .problem) (ready .answer) (noAllowance e))
 
-  pub placed-nowhere : (n ≡ 0 → ⊥) → Tells place (a .rows) ds named.Nothing → Refuses 16 place r → Placed ps es ns fs ds a firsts place n r
+  pub placed-nowhere : (n ≡ 0 → ⊥) → TellsThere es ns a firsts place named.Nothing → Refuses 16 place r → Placed ps es ns fs a firsts place n r
   unfolding Placed Tells
-  placed-nowhere e t h s ready = answers-nowhere s ps es ns fs ds a firsts ready place n (positive n e) r (t .0) (t .1) h
+  placed-nowhere e t h s ready = answers-nowhere s ps es ns fs a firsts ready place n (positive n e) r (t .0) (t .1) h
 
-  pub placed-past : (n ≡ 0 → ⊥) → Tells place (a .rows) ds named.Past → Ended r → Placed ps es ns fs ds a firsts place n r
+  pub placed-past : (n ≡ 0 → ⊥) → TellsThere es ns a firsts place named.Past → Ended r → Placed ps es ns fs a firsts place n r
   unfolding Placed Tells
-  placed-past e t h s ready = answers-past s ps es ns fs ds a firsts ready place n (positive n e) r t h
+  placed-past e t h s ready = answers-past s ps es ns fs a firsts ready place n (positive n e) r t h
 
-  pub placed-row : (n ≡ 0 → ⊥) → Tells place (a .rows) ds named.Row → Sought ps es ns fs ds a firsts (place .masks) n r
-      → Placed ps es ns fs ds a firsts place n r
+  pub placed-row : (n ≡ 0 → ⊥) → TellsThere es ns a firsts place named.Row → Sought ps es ns fs a firsts (masksIn (place .sets)) n r
+      → Placed ps es ns fs a firsts place n r
   unfolding Placed Tells
-  placed-row e t h s ready = answers-row s ps es ns fs ds a firsts ready place n (positive n e) r t h
+  placed-row e t h s ready = answers-row s ps es ns fs a firsts ready place n (positive n e) r t h
 
-pub tells-is-row : (place : code.Place) (hasRows : Bool) (ds : List ℕ) → Tells place hasRows ds named.Row → IsRowOf place hasRows ds
+pub tells-is-row : (place : code.Place) (hasRows : Bool) (es ns : List ℕ) (firsts : Firsts) → Tells place hasRows es ns firsts named.Row
+    → IsRowOf place hasRows es ns firsts
 unfolding Tells
-tells-is-row place hasRows ds t = t
+tells-is-row place hasRows es ns firsts t = t
 
 -- What `search` learns of a prepared problem
-pub prepared-callable : (s ps es ns fs ds scratch : List ℕ) (r : Prepared) (a : Standing) → Prepares (accept s) ps es ns fs ds r
-    → r .verdict ≡ verdicts.Accepted a → length ps ≤ length scratch → Callable ps es ns fs ds a (r .firsts) scratch
-prepared-callable s ps es ns fs ds scratch r a h e l =
-    record { bytes = s; ready = prepared-accepted (accept s) ps es ns fs ds r a h e; room = l }
+pub prepared-callable : (s ps es ns fs scratch : List ℕ) (r : Prepared) (a : Standing) → Prepares (accept s) ps es ns fs r
+    → r .verdict ≡ verdicts.Accepted a → length ps ≤ length scratch → Callable ps es ns fs a (r .firsts) scratch
+prepared-callable s ps es ns fs scratch r a h e l =
+    record { bytes = s; ready = prepared-accepted (accept s) ps es ns fs r a h e; room = l }
 
-pub search-refused : (s ps es ns fs ds : List ℕ) (place : code.Place) (n number : ℕ) (p : Prepared) (r : Searched)
-    → Prepares (accept s) ps es ns fs ds p
+pub search-refused : (s ps es ns fs : List ℕ) (place : code.Place) (n number : ℕ) (p : Prepared) (r : Searched)
+    → Prepares (accept s) ps es ns fs p
     → p .verdict ≡ verdicts.Refused number → Refuses number place r → Answers s place n r
-search-refused s ps es ns fs ds place n number p r h e q =
-    answers-refused s place n number r (prepared-refused (accept s) ps es ns fs ds p number h e) q
+search-refused s ps es ns fs place n number p r h e q =
+    answers-refused s place n number r (prepared-refused (accept s) ps es ns fs p number h e) q
 
-pub search-accepted : (s ps es ns fs ds : List ℕ) (place : code.Place) (n : ℕ) (p : Prepared) (a : Standing) (r : Searched)
-    → Prepares (accept s) ps es ns fs ds p → p .verdict ≡ verdicts.Accepted a → Placed ps es ns fs ds a (p .firsts) place n r
+pub search-accepted : (s ps es ns fs : List ℕ) (place : code.Place) (n : ℕ) (p : Prepared) (a : Standing) (r : Searched)
+    → Prepares (accept s) ps es ns fs p → p .verdict ≡ verdicts.Accepted a → Placed ps es ns fs a (p .firsts) place n r
     → Answers s place n r
 unfolding Placed
-search-accepted s ps es ns fs ds place n p a r h e q = q s (prepared-accepted (accept s) ps es ns fs ds p a h e)
+search-accepted s ps es ns fs place n p a r h e q = q s (prepared-accepted (accept s) ps es ns fs p a h e)
 
--- What the calls of `from_row` require
-module _ (ps es ns fs ds : List ℕ) (a : Standing) (firsts : Firsts) (scratch : List ℕ) (h : Callable ps es ns fs ds a firsts scratch)
-    (place : code.Place) (row : IsRowOf place (a .rows) ds) where
-  pub callable-tables : Tables ds
-  callable-tables =
-      tabled-tables (h .ready .problem) ds (ready-tables (accept (h .bytes)) ps es ns fs ds a firsts (h .ready) (row .someRows))
+-- What the calls of `from_place` and `from_row` require
+module _ (ps es ns fs : List ℕ) (a : Standing) (firsts : Firsts) (scratch : List ℕ) (h : Callable ps es ns fs a firsts scratch) where
+  pub callable-open : Openable (a .rows) (take (a .expressions) es) (take (a .expressions) ns) firsts
+  callable-open = ready-faced (accept (h .bytes)) ps es ns fs a firsts (h .ready)
 
-  pub callable-seekable : (first : MaskRow) → placeOf (maskRows ds) ≡ at first
-      → Seekable (take (a .patterns) ps) (take (a .expressions) es) (take (a .expressions) ns) (take (a .faces) fs) ds
-      (record { functions = a .occurring .functions; firsts = firsts; first = first }) (place .masks) scratch
-  callable-seekable first e =
-      ready-seekable (h .bytes) ps es ns fs ds a firsts (h .ready)
+  pub callable-seekable : (place : code.Place) → RowThere es ns a firsts place → (first : List NodeSet)
+      → placeOf (rowsOf (take (a .expressions) es) (take (a .expressions) ns) firsts) ≡ at (masksIn first)
+      → Seekable (take (a .patterns) ps) (take (a .expressions) es) (take (a .expressions) ns) (take (a .faces) fs)
+      (record { functions = a .occurring .functions; firsts = firsts; first = first }) (masksIn (place .sets)) scratch
+  callable-seekable place row first e =
+      ready-seekable (h .bytes) ps es ns fs a firsts (h .ready)
       (record { functions = a .occurring .functions; firsts = firsts; first = first }) place scratch refl refl e row (h .room)

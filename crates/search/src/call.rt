@@ -2,6 +2,7 @@
 use accept::Standing;
 use accept::Verdict;
 use faces::first::Firsts;
+use masks::NodeSet;
 use places::Named;
 use places::Place;
 use places::named_by;
@@ -13,8 +14,8 @@ use seeking::Searched;
 use seeking::ended;
 use seeking::seek;
 use table::TABLE_ROOM;
-ghost use Rattle.places.specs.Places.{IsRowOf};
-ghost use Rattle.search.specs.Calling.{Refuses, Callable, Sought, Placed, Answers};
+ghost use Rattle.masks.specs.Sets.{masksIn};
+ghost use Rattle.search.specs.Calling.{Refuses, Callable, RowThere, Sought, Placed, Answers};
 
 // "A refusal returns its number only. The output buffer and open search stay": the place is the one that was handed in.
 fn refused(number: u8, place: Place) -> Searched
@@ -23,7 +24,7 @@ fn refused(number: u8, place: Place) -> Searched
     Searched {
         answer: Answer::Refused(number),
         place: place,
-        row: [0u64; Place::MAX_FUNCTIONS],
+        row: [NodeSet::none(); Place::MAX_FUNCTIONS],
     }
 }
 
@@ -37,17 +38,16 @@ fn from_row(
     es: &[u64],
     ns: &[u64],
     fs: &[u64],
-    ds: &[u64],
     scratch: &mut [u64],
 ) -> Searched
-    requires { ⌜ Callable (now ps) (now es) (now ns) (now fs) (now ds) a firsts (now scratch) ⌝ ∗ ⌜ IsRowOf place (a .rows) (now ds) ⌝ }
-    ensures { λ r. ⌜ Sought (now (ps .entry)) (now (es .entry)) (now (ns .entry)) (now (fs .entry)) (now (ds .entry)) a firsts (place .masks) n r ⌝ }
+    requires { ⌜ Callable (now ps) (now es) (now ns) (now fs) a firsts (now scratch) ⌝ ∗ ⌜ RowThere (now es) (now ns) a firsts place ⌝ }
+    ensures { λ r. ⌜ Sought (now (ps .entry)) (now (es .entry)) (now (ns .entry)) (now (fs .entry)) a firsts (masksIn (place .sets)) n r ⌝ }
 {
     let p = a.patterns;
     let e = a.expressions;
     let k = a.faces;
-    let first = first_row(ds);
-    let row = place.masks;
+    let first = first_row(&es[..e], &ns[..e], firsts);
+    let row = place.sets;
     let fixed = Fixed {
         functions: a.occurring.functions,
         firsts: firsts,
@@ -58,7 +58,6 @@ fn from_row(
         &es[..e],
         &ns[..e],
         &fs[..k],
-        ds,
         fixed,
         row,
         n,
@@ -76,20 +75,20 @@ fn from_place(
     es: &[u64],
     ns: &[u64],
     fs: &[u64],
-    ds: &[u64],
     scratch: &mut [u64],
 ) -> Searched
-    requires { ⌜ Callable (now ps) (now es) (now ns) (now fs) (now ds) a firsts (now scratch) ⌝ }
-    ensures { λ r. ⌜ Placed (now (ps .entry)) (now (es .entry)) (now (ns .entry)) (now (fs .entry)) (now (ds .entry)) a firsts place n r ⌝ }
+    requires { ⌜ Callable (now ps) (now es) (now ns) (now fs) a firsts (now scratch) ⌝ }
+    ensures { λ r. ⌜ Placed (now (ps .entry)) (now (es .entry)) (now (ns .entry)) (now (fs .entry)) a firsts place n r ⌝ }
 {
     if n == 0 {
         return refused(15, place);
     }
-    let named = named_by(place, a.rows, ds);
+    let e = a.expressions;
+    let named = named_by(place, a.rows, &es[..e], &ns[..e], firsts);
     match named {
         Named::Nothing => refused(16, place),
         Named::Past => ended(),
-        Named::Row => from_row(a, firsts, place, n, ps, es, ns, fs, ds, scratch),
+        Named::Row => from_row(a, firsts, place, n, ps, es, ns, fs, scratch),
     }
 }
 
@@ -101,24 +100,12 @@ pub fn search(problem: &[u8], place: Place, n: u32) -> Searched
     let mut es = [0u64; TABLE_ROOM];
     let mut ns = [0u64; TABLE_ROOM];
     let mut fs = [0u64; TABLE_ROOM];
-    let mut ds = [0u64; Place::MAX_FUNCTIONS * Place::MAX_FACE_NODES];
     let mut scratch = [0u64; TABLE_ROOM];
-    let prepared = prepare(problem, &mut ps, &mut es, &mut ns, &mut fs, &mut ds);
+    let prepared = prepare(problem, &mut ps, &mut es, &mut ns, &mut fs);
     let firsts = prepared.firsts;
     let verdict = prepared.verdict;
     match verdict {
         Verdict::Refused(r) => refused(r, place),
-        Verdict::Accepted(a) => from_place(
-            a,
-            firsts,
-            place,
-            n,
-            &ps,
-            &es,
-            &ns,
-            &fs,
-            &ds,
-            &mut scratch,
-        ),
+        Verdict::Accepted(a) => from_place(a, firsts, place, n, &ps, &es, &ns, &fs, &mut scratch),
     }
 }

@@ -1,6 +1,7 @@
 -- `call` meets its contract: a law for each answer.
 use mathlib.Core.Path.{refl}
 use borrow.Author.Needs.{needs}
+use Rattle.meaning.specs.Limits.{maxFunctions}
 use Rattle.calls.proofs.RunLaws.{call-found, call-end, call-paused, call-refused}
 use Rattle.calls.proofs.call.Statement.{statement}
 use Rattle.calls.proofs.call.Tie as tie
@@ -15,6 +16,7 @@ put-row-requires : tie.Need-put-row-requires
 put-row-requires c κs = c .before .before .before .before .before .before .before .before .before .pre
 
 add-t17 : tie.Need-add-t17
+unfolding maxFunctions
 add-t17 c = search needs
 
 enum-told-2 : tie.Need-enum-told-2

@@ -5,6 +5,7 @@ use native.Mathlib.Omega.{arith}
 use lib.ListN.{length, take}
 use lib.Seq.{length-take-le}
 use borrow.Author.Needs.{needs}
+use Rattle.meaning.specs.Limits.{maxFunctions}
 use Rattle.calls.specs.Running.{FromPlace}
 use Rattle.calls.proofs.RunLaws.{no-calls, few-found, next-call, all-calls}
 use Rattle.calls.proofs.from_place.Statement.{statement}
@@ -27,6 +28,7 @@ shared-slice-read-call : tie.Need-shared-slice-read-call Inv-loop μ-loop
 shared-slice-read-call c = search needs
 
 call-requires : tie.Need-call-requires Inv-loop μ-loop
+unfolding maxFunctions
 call-requires c κs =
     let loop = c .before .before .before .loop in
     let start = c .before .before .before .before .before .before .before in

@@ -1,8 +1,9 @@
 -- `from_place` meets its contract: a law for each answer.
-use mathlib.Core.Path.{subst}
+use mathlib.Core.Path.{sym, subst}
+use lib.Seq.{length-take-le}
 use borrow.Author.Needs.{needs}
 use Rattle.places.specs.Places.{Tells}
-use Rattle.search.proofs.CallLaws.{placed-zero, placed-nowhere, placed-past, placed-row, tells-is-row}
+use Rattle.search.proofs.CallLaws.{callable-open, placed-zero, placed-nowhere, placed-past, placed-row, tells-is-row}
 use Rattle.search.proofs.call.from_place.Statement.{statement}
 use Rattle.search.proofs.call.from_place.Tie as tie
 
@@ -10,10 +11,16 @@ refused-requires : tie.Need-refused-requires
 refused-requires c κs = search needs
 
 returns : tie.Need-returns
-returns c = placed-zero _ _ _ _ _ _ _ _ _ _ (c .before .if1 .taken) (c .refused .ensures)
+returns c = placed-zero _ _ _ _ _ _ _ _ _ (c .before .if1 .taken) (c .refused .ensures)
+
+slice-aggregate-named-by : tie.Need-slice-aggregate-named-by
+slice-aggregate-named-by c = sym (length-take-le _ _ (c .before .before .before .before .before .before .before .pre .ready .laid .expressionsInside))
+
+slice-aggregate-named-by-2 : tie.Need-slice-aggregate-named-by-2
+slice-aggregate-named-by-2 c = sym (length-take-le _ _ (c .before .before .before .before .before .before .before .before .pre .ready .tabled .numbersInside))
 
 named-by-requires : tie.Need-named-by-requires
-named-by-requires c κs = c .before .before .before .before .before .before .before .pre .ready .tabled .tables .long
+named-by-requires c κs = callable-open _ _ _ _ _ _ _ (c .before .before .before .before .before .before .before .before .pre)
 
 enum-told : tie.Need-enum-told
 enum-told c = search needs
@@ -31,33 +38,28 @@ enum-told-3 : tie.Need-enum-told-3
 enum-told-3 c = search needs
 
 from-row-requires : tie.Need-from-row-requires
-from-row-requires c κs =
-    let told = c .before in (
-      c .before .before .before .before .before .before .before .before .before .before .before .pre,
-      tells-is-row _ _ _ (subst (Tells _ _ _) (told .enum-told3 .given .1) (c .before .before .before .named-by .ensures)),
-    )
+from-row-requires c κs = (
+  c .before .before .before .before .before .before .before .before .before .before .before .before .pre,
+  tells-is-row _ _ _ _ _ (subst (Tells _ _ _ _ _) (c .before .enum-told3 .given .1) (c .before .before .before .named-by .ensures)),
+)
 
 returns-2 : tie.Need-returns-2
 returns-2 c =
-    placed-nowhere _ _ _ _ _ _ _ _ _ _ (c .before .before .before .before .if1 .left)
-    (subst (Tells _ _ _) (c .before .enum-told .given .1) (c .before .before .before .named-by .ensures))
-    (c .refused2 .ensures)
+    placed-nowhere _ _ _ _ _ _ _ _ _ (c .before .before .before .before .before .before .if1 .left)
+    (subst (Tells _ _ _ _ _) (c .before .enum-told .given .1) (c .before .before .before .named-by .ensures)) (c .refused2 .ensures)
 
 returns-3 : tie.Need-returns-3
 returns-3 c =
-    placed-past _ _ _ _ _ _ _ _ _ _ (c .before .before .before .before .if1 .left)
-    (subst (Tells _ _ _) (c .before .enum-told2 .given .1) (c .before .before .before .named-by .ensures))
-    (c .ended .ensures)
+    placed-past _ _ _ _ _ _ _ _ _ (c .before .before .before .before .before .before .if1 .left)
+    (subst (Tells _ _ _ _ _) (c .before .enum-told2 .given .1) (c .before .before .before .named-by .ensures)) (c .ended .ensures)
 
 same-length : tie.Need-same-length
 same-length c = search needs
 
 returns-4 : tie.Need-returns-4
 returns-4 c =
-    placed-row _ _ _ _ _ _ _ _ _ _ (c .before .before .before .before .before .before .before .if1 .left)
-    (subst (Tells _ _ _) (c .before .before .before .before .enum-told3 .given .1)
-    (c .before .before .before .before .before .before .named-by .ensures))
-    (c .before .before .from-row .ensures)
+    placed-row _ _ _ _ _ _ _ _ _ (c .before .before .before .before .before .before .before .before .before .if1 .left)
+    (subst (Tells _ _ _ _ _) (c .before .before .before .before .enum-told3 .given .1) (c .before .before .before .before .before .before .named-by .ensures)) (c .before .before .from-row .ensures)
 
 pub from-place-spec : {M : Type 1} → statement M
 from-place-spec =
@@ -65,6 +67,8 @@ from-place-spec =
     (tie.spec
     refused-requires
     returns
+    slice-aggregate-named-by
+    slice-aggregate-named-by-2
     named-by-requires
     enum-told
     refused-requires-2

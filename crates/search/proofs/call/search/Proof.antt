@@ -1,7 +1,6 @@
 -- `search` meets its contract: the problem is prepared, and the call made on it.
 use borrow.Author.Needs.{needs}
-use Rattle.meaning.specs.Limits.{maxFunctions}
-use Rattle.prepare.proofs.PreparedLaws.{fresh-rooms, fresh-room, fresh-long}
+use Rattle.prepare.proofs.PreparedLaws.{fresh-rooms, fresh-room}
 use Rattle.search.proofs.CallLaws.{prepared-callable, search-refused, search-accepted}
 use Rattle.search.proofs.call.search.Statement.{statement}
 use Rattle.search.proofs.call.search.Tie as tie
@@ -18,12 +17,8 @@ slice-aggregate-prepare-3 c = search needs
 slice-aggregate-prepare-4 : tie.Need-slice-aggregate-prepare-4
 slice-aggregate-prepare-4 c = search needs
 
-slice-aggregate-prepare-5 : tie.Need-slice-aggregate-prepare-5
-slice-aggregate-prepare-5 c = search needs
-
 prepare-requires : tie.Need-prepare-requires
-unfolding maxFunctions
-prepare-requires c κs = (fresh-rooms, (fresh-room, fresh-long))
+prepare-requires c κs = (fresh-rooms, fresh-room)
 
 enum-known-verdict : tie.Need-enum-known-verdict
 enum-known-verdict c = search needs
@@ -49,24 +44,20 @@ slice-aggregate-from-place-4 c = search needs
 slice-aggregate-from-place-5 : tie.Need-slice-aggregate-from-place-5
 slice-aggregate-from-place-5 c = search needs
 
-slice-aggregate-from-place-6 : tie.Need-slice-aggregate-from-place-6
-slice-aggregate-from-place-6 c = search needs
-
 from-place-requires : tie.Need-from-place-requires
 from-place-requires c κs =
-    let v = c .before .before .before .before .before .before .before in
-    let prepared = v .before .before .before .before .before .before .before .before in
-    prepared-callable _ _ _ _ _ _ _ _ _ (prepared .prepare .ensures) (v .verdict2 .given .1) (search needs)
+    let v = c .before .before .before .before .before .before in
+    prepared-callable _ _ _ _ _ _ _ _ (v .before .before .before .before .before .before .before .prepare .ensures) (v .verdict2 .given .1) (search needs)
 
 returns : tie.Need-returns
-returns c = search-refused _ _ _ _ _ _ _ _ _ _ _ (c .before .before .before .before .before .before .before .before .before .before .prepare .ensures)
-    (c .before .before .verdict .given .1) (c .refused .ensures)
+returns c =
+    let v = c .before .before in
+    search-refused _ _ _ _ _ _ _ _ _ _ (v .before .before .before .before .before .before .before .prepare .ensures) (v .verdict .given .1) (c .refused .ensures)
 
 returns-2 : tie.Need-returns-2
 returns-2 c =
-    let v = c .before .before .before .before .before .before .before .before .before in
-    let prepared = v .before .before .before .before .before .before .before .before in
-    search-accepted _ _ _ _ _ _ _ _ _ _ _ (prepared .prepare .ensures) (v .verdict2 .given .1) (c .before .from-place .ensures)
+    let v = c .before .before .before .before .before .before .before .before in
+    search-accepted _ _ _ _ _ _ _ _ _ _ (v .before .before .before .before .before .before .before .prepare .ensures) (v .verdict2 .given .1) (c .before .from-place .ensures)
 
 pub search-spec : {M : Type 1} → statement M
 search-spec =
@@ -76,7 +67,6 @@ search-spec =
     slice-aggregate-prepare-2
     slice-aggregate-prepare-3
     slice-aggregate-prepare-4
-    slice-aggregate-prepare-5
     prepare-requires
     enum-known-verdict
     refused-requires
@@ -86,7 +76,6 @@ search-spec =
     slice-aggregate-from-place-3
     slice-aggregate-from-place-4
     slice-aggregate-from-place-5
-    slice-aggregate-from-place-6
     from-place-requires
     returns
     returns-2)
