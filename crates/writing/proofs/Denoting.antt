@@ -1,30 +1,34 @@
--- A plan made of a solution row's masks and sources denotes the entries of the row's text.
+-- A plan made of a solution row's node sets and sources denotes the entries of the row's text.
 --   PlanOf   the plan of a row of a problem
 use mathlib.Core.Path.{_≡_, refl, ap, ap₂, sym, _∙_, subst}
 use mathlib.Core.Bool.{Bool, true, false, _||_, true≢false}
 use mathlib.Core.List.{List}
 use mathlib.Core.Option.{Option, none, some}
-use Prim.Native.Nat.{ℕ, _<_}
+use Prim.Native.Nat.{ℕ, _<_, _≤_}
 use native.Mathlib.Omega.{arith}
+use lib.ListN.{getD, length}
 use lib.Seq.{getD-take}
 use borrow.Author.Tests.{eq-eqb, ne-eqb}
-use Rattle.meaning.specs.Limits.{metavariableCount}
+use Rattle.meaning.specs.Limits.{maxFaceNodes, metavariableCount}
 use Rattle.meaning.specs.Basics.{orNone, _∈_}
-use Rattle.meaning.specs.Term.{NamedTerm}
+use Rattle.meaning.specs.Term.{NamedTerm, Term}
 use Rattle.meaning.specs.Problem.{Problem, applied, functions, isFunction, isPlain, patterns, plain}
 use Rattle.meaning.specs.Filling.{absent, body}
 use Rattle.meaning.specs.Filling as meant
 use Rattle.meaning.specs.Face.{Face, faces, firstFace}
-use Rattle.meaning.specs.Choice.{Marks, punchTerm}
+use Rattle.meaning.specs.Choice.{Choice, Marks, punchTerm}
 use Rattle.meaning.specs.Row.{Row, choiceIn, faceOf}
 use Rattle.meaning.specs.Rows.{rows}
 use Rattle.meaning.specs.Value.{Source, lookup, sources}
 use Rattle.meaning.specs.Candidate.{solves}
 use Rattle.meaning.specs.Text.{entryOf, faceNode, termAt, writtenBody, writtenValue}
-use Rattle.meaning.specs.PlaceValue.{masksOf}
+use Rattle.meaning.specs.PlaceValue.{maskOf, masksOf}
 use Rattle.meaning.proofs.Lists.{by-test, choose-false, choose-true, isIn-mem, mem-isIn}
 use Rattle.meaning.proofs.Proper.{accepted-proper, applied-functions, plain-occurs}
 use Rattle.meaning.proofs.TextLaws.{copied, value-copied, written-value}
+use Rattle.masks.specs.Sets.{mask, masksIn}
+use Rattle.masks.specs.declared.NodeSet.{NodeSet}
+use Rattle.masks.proofs.Words.{masks-at}
 use Rattle.tokens.specs.Token.{expressionTokens, patternTokens}
 use Rattle.tokens.specs.Key.{at}
 use Rattle.tokens.proofs.KeyLaws.{stands-inside}
@@ -52,10 +56,11 @@ use Rattle.composing.specs.declared.entry.Entry.the-variants as entries
 use Rattle.composing.proofs.FieldLaws.{entryOr}
 
 module _ (p : Problem) (tests : Tests) (ps es ns : List ℕ) (o : Occurring) (firsts : Firsts) (l : Laid p tests ps es ns (o .functions) firsts)
-    (survey : Surveyed (patternTokens p) o) (r : Row) (i : r ∈ rows p) (solved : solves p r ≡ true) (kept : Sources)
+    (survey : Surveyed (patternTokens p) o) (r : Row) (i : r ∈ rows p) (solved : solves p r ≡ true) (sets : List NodeSet)
+    (masks : masksIn sets ≡ masksOf r) (kept : Sources)
     (source : (m : ℕ) → m < metavariableCount → at (kept .nodes) m ≡ nodeOf (lookup m (sources p r))) where
   abbrev pub plan : Plan
-  plan = record { occurring = o; nodes = firsts .nodes; row = masksOf r; sources = kept }
+  plan = record { occurring = o; nodes = firsts .nodes; row = sets; sources = kept }
 
   own : Laid p tests (patternTokens p) (expressionTokens p) ns (o .functions) firsts
   own = laid-own p tests ps es ns (o .functions) firsts l
@@ -99,13 +104,22 @@ module _ (p : Problem) (tests : Tests) (ps es ns : List ℕ) (o : Occurring) (fi
     unfolding bodyAt
     body-denotes =
         let a = function-at p tests ns (o .functions) firsts own r i k m (rank-at p (o .functions) (l .set) m (function-in m e)) in
-        let there = copied p (at (firsts .nodes) k) (faceOf p m) (a .face) .there in (
+        let c = copied p (at (firsts .nodes) k) (faceOf p m) (a .face) in
+        let same : mask (getD sets k (record { w0 = 0; w1 = 0; w2 = 0; w3 = 0 })) ≡ maskOf maxFaceNodes marks =
+        masks-at sets k ∙ ap (λ (row : List ℕ). at row k) masks ∙ a .mask in
+        let few : length marks ≤ maxFaceNodes = omega (arith, a .choice .long, a .small) in (
           face,
           punchTerm marks face,
-          expression-in p (l .accepted .within) (at (firsts .nodes) k) face there,
+          expression-in p (l .accepted .within) (at (firsts .nodes) k) face (c .there),
           body-entry,
-          ap (λ (mask : ℕ). copying.copied mask face) (a .mask)
-              ∙ copied-choice marks face (omega (arith, a .choice .long, a .small)) (a .choice .places),
+          ap (λ (n : ℕ). copying.copied n face) same ∙ copied-choice marks face few (a .choice .places),
+          record {
+            scope = c .scope;
+            marks = marks;
+            choice = subst (λ (t : Term). Choice 1 t marks) (c .means) (a .choice);
+            few = few;
+            isMask = same;
+          },
         )
 
   -- "A value comes from .."

@@ -11,9 +11,9 @@ use Rattle.meaning.specs.Entry.{WriteCall}
 use Rattle.faces.specs.declared.first.Firsts.{Firsts}
 use Rattle.accept.specs.declared.Standing.{Standing}
 use Rattle.prepare.specs.Prepared.{Ready}
-use Rattle.places.specs.Places.{IsRowOf, valueOf}
+use Rattle.places.specs.Places.{valueOf}
 use Rattle.places.specs.declared.Place.{Place}
-use Rattle.search.specs.Calling.{Callable}
+use Rattle.search.specs.Calling.{Callable, RowThere}
 use Rattle.copying.specs.Fixed.{Wrote}
 use Rattle.composing.specs.Entries.{DenotesAll, Entries, fieldsOf}
 use Rattle.composing.specs.declared.entry.Plan.{Plan}
@@ -36,15 +36,13 @@ answerOf (answers.Refused n) = refused n
 abbrev pub Writes : Bytes → Place → Bytes → Bytes → Written → Type 0
 Writes s row before after r = WriteCall s (valueOf row) before (answerOf r) after
 
--- On a prepared problem: of a row of it, whatever its class tables, and of any row
+-- On a prepared problem: of a row of it, and of any row
 pub record RowWritten (ps es ns fs : List ℕ) (a : Standing) (firsts : Firsts) (row : Place) (before after : Bytes) (r : Written) : Type 0 where
-  pub answer : (s : Bytes) (ds : List ℕ) → Ready (accept s) ps es ns fs ds a firsts → IsRowOf row (a .rows) ds → Writes s row before after r
+  pub answer : (s : Bytes) → Ready (accept s) ps es ns fs a firsts → RowThere es ns a firsts row → Writes s row before after r
 
 pub record RowCallable (ps es ns fs : List ℕ) (a : Standing) (firsts : Firsts) (row : Place) (scratch : List ℕ) : Type 0 where
-  pub tables : List ℕ
-  pub callable : Callable ps es ns fs tables a firsts scratch
-  pub isRow : IsRowOf row (a .rows) tables
+  pub callable : Callable ps es ns fs a firsts scratch
+  pub isRow : RowThere es ns a firsts row
 
-pub record NamedWritten (ps es ns fs ds : List ℕ) (a : Standing) (firsts : Firsts) (row : Place) (before after : Bytes) (r : Written) : Type 0
-  where
-    pub answer : (s : Bytes) → Ready (accept s) ps es ns fs ds a firsts → Writes s row before after r
+pub record NamedWritten (ps es ns fs : List ℕ) (a : Standing) (firsts : Firsts) (row : Place) (before after : Bytes) (r : Written) : Type 0 where
+  pub answer : (s : Bytes) → Ready (accept s) ps es ns fs a firsts → Writes s row before after r

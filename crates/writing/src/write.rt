@@ -54,7 +54,7 @@ fn write_row(
     let e = a.expressions;
     let k = a.faces;
     let occurring = a.occurring;
-    let masks = row.masks;
+    let sets = row.sets;
     let judged = judge(
         &ps[..p],
         &es[..e],
@@ -62,7 +62,7 @@ fn write_row(
         &fs[..k],
         occurring.functions,
         firsts,
-        masks,
+        sets,
         scratch,
     );
     if !judged.solves {
@@ -73,7 +73,7 @@ fn write_row(
     let plan = Plan {
         occurring: occurring,
         nodes: nodes,
-        row: masks,
+        row: sets,
         sources: sources,
     };
     write_text(&es[..e], plan, out)
@@ -88,15 +88,15 @@ fn write_named(
     es: &[u64],
     ns: &[u64],
     fs: &[u64],
-    ds: &[u64],
     scratch: &mut [u64],
     out: &mut [u8],
 ) -> Written
-    requires { ⌜ Callable (now ps) (now es) (now ns) (now fs) (now ds) a firsts (now scratch) ⌝ }
-    ensures { λ r. ⌜ NamedWritten (now (ps .entry)) (now (es .entry)) (now (ns .entry)) (now (fs .entry)) (now (ds .entry)) a firsts row (now (out .entry))
+    requires { ⌜ Callable (now ps) (now es) (now ns) (now fs) a firsts (now scratch) ⌝ }
+    ensures { λ r. ⌜ NamedWritten (now (ps .entry)) (now (es .entry)) (now (ns .entry)) (now (fs .entry)) a firsts row (now (out .entry))
         (now (out .exit)) r ⌝ }
 {
-    let named = named_by(row, a.rows, ds);
+    let e = a.expressions;
+    let named = named_by(row, a.rows, &es[..e], &ns[..e], firsts);
     match named {
         Named::Nothing => Written::Refused(16),
         Named::Past => Written::Refused(16),
@@ -112,24 +112,12 @@ pub fn write(problem: &[u8], row: Place, out: &mut [u8]) -> Written
     let mut es = [0u64; TABLE_ROOM];
     let mut ns = [0u64; TABLE_ROOM];
     let mut fs = [0u64; TABLE_ROOM];
-    let mut ds = [0u64; Place::MAX_FUNCTIONS * Place::MAX_FACE_NODES];
     let mut scratch = [0u64; TABLE_ROOM];
-    let prepared = prepare(problem, &mut ps, &mut es, &mut ns, &mut fs, &mut ds);
+    let prepared = prepare(problem, &mut ps, &mut es, &mut ns, &mut fs);
     let firsts = prepared.firsts;
     let verdict = prepared.verdict;
     match verdict {
         Verdict::Refused(r) => Written::Refused(r),
-        Verdict::Accepted(a) => write_named(
-            a,
-            firsts,
-            row,
-            &ps,
-            &es,
-            &ns,
-            &fs,
-            &ds,
-            &mut scratch,
-            out,
-        ),
+        Verdict::Accepted(a) => write_named(a, firsts, row, &ps, &es, &ns, &fs, &mut scratch, out),
     }
 }

@@ -1,6 +1,5 @@
 -- `write` meets its contract: the problem is prepared, and the row's text written.
-use Rattle.meaning.specs.Limits.{maxFunctions}
-use Rattle.prepare.proofs.PreparedLaws.{fresh-long, fresh-room, fresh-rooms}
+use Rattle.prepare.proofs.PreparedLaws.{fresh-room, fresh-rooms}
 use Rattle.search.proofs.CallLaws.{prepared-callable}
 use Rattle.writing.proofs.WriteLaws.{write-accepted, write-refused}
 use borrow.Author.Needs.{needs}
@@ -19,12 +18,8 @@ slice-aggregate-prepare-3 c = search needs
 slice-aggregate-prepare-4 : tie.Need-slice-aggregate-prepare-4
 slice-aggregate-prepare-4 c = search needs
 
-slice-aggregate-prepare-5 : tie.Need-slice-aggregate-prepare-5
-slice-aggregate-prepare-5 c = search needs
-
 prepare-requires : tie.Need-prepare-requires
-unfolding maxFunctions
-prepare-requires c κs = (fresh-rooms, (fresh-room, fresh-long))
+prepare-requires c κs = (fresh-rooms, fresh-room)
 
 enum-known-verdict : tie.Need-enum-known-verdict
 enum-known-verdict c = search needs
@@ -47,19 +42,17 @@ slice-aggregate-write-named-4 c = search needs
 slice-aggregate-write-named-5 : tie.Need-slice-aggregate-write-named-5
 slice-aggregate-write-named-5 c = search needs
 
-slice-aggregate-write-named-6 : tie.Need-slice-aggregate-write-named-6
-slice-aggregate-write-named-6 c = search needs
-
 write-named-requires : tie.Need-write-named-requires
 write-named-requires c κs =
-    let verdict2 = c .before .before .before .before .before .before .before .before in
-    let prepare = verdict2 .before .before .before .before .before .before .before .before in
-    prepared-callable _ _ _ _ _ _ _ _ _ (prepare .prepare .ensures) (verdict2 .verdict2 .given .1) (search needs)
+    let verdict2 = c .before .before .before .before .before .before .before in
+    let prepare = verdict2 .before .before .before .before .before .before .before in
+    prepared-callable _ _ _ _ _ _ _ _ (prepare .prepare .ensures) (verdict2 .verdict2 .given .1) (search needs)
 
 returns : tie.Need-returns
 returns c =
-    let prepare = c .before .before .before .before .before .before .before .before .before in
-    write-refused _ _ _ _ _ _ _ (prepare .prepare .ensures) (c .before .verdict .given .1)
+    let prepare = c .before .before .before .before .before .before .before .before in
+    let start = prepare .before .before .before .before .before .before .before in
+    write-refused _ _ _ _ _ _ (prepare .prepare .ensures) (start .args .row) (c .before .verdict .given .1)
 
 same-length : tie.Need-same-length
 same-length c = search needs
@@ -67,9 +60,9 @@ same-length c = search needs
 returns-2 : tie.Need-returns-2
 returns-2 c =
     let write-named = c .before .before .before in
-    let verdict2 = write-named .before .before .before .before .before .before .before .before .before in
-    let prepare = verdict2 .before .before .before .before .before .before .before .before in
-    write-accepted _ _ _ _ _ _ _ (prepare .prepare .ensures) (verdict2 .verdict2 .given .1) (write-named .write-named .ensures)
+    let verdict2 = write-named .before .before .before .before .before .before .before .before in
+    let prepare = verdict2 .before .before .before .before .before .before .before in
+    write-accepted _ _ _ _ _ _ (prepare .prepare .ensures) _ (verdict2 .verdict2 .given .1) (write-named .write-named .ensures)
 
 pub write-spec : {M : Type 1} → statement M
 write-spec =
@@ -79,7 +72,6 @@ write-spec =
     slice-aggregate-prepare-2
     slice-aggregate-prepare-3
     slice-aggregate-prepare-4
-    slice-aggregate-prepare-5
     prepare-requires
     enum-known-verdict
     enum-known-verdict-2
@@ -88,7 +80,6 @@ write-spec =
     slice-aggregate-write-named-3
     slice-aggregate-write-named-4
     slice-aggregate-write-named-5
-    slice-aggregate-write-named-6
     write-named-requires
     returns
     same-length

@@ -1,11 +1,21 @@
 -- `write_named` meets its contract: a law for each thing that a value names.
+use mathlib.Core.Path.{sym}
+use lib.Seq.{length-take-le}
+use Rattle.search.proofs.CallLaws.{callable-open}
 use Rattle.writing.proofs.WriteLaws.{named-callable, named-nothing, named-past, named-written}
 use borrow.Author.Needs.{needs}
 use Rattle.writing.proofs.write.write_named.Statement.{statement}
 use Rattle.writing.proofs.write.write_named.Tie as tie
 
+slice-aggregate-named-by : tie.Need-slice-aggregate-named-by
+slice-aggregate-named-by c = sym (length-take-le _ _ (c .before .before .before .before .before .before .before .pre .ready .laid .expressionsInside))
+
+slice-aggregate-named-by-2 : tie.Need-slice-aggregate-named-by-2
+slice-aggregate-named-by-2 c =
+    sym (length-take-le _ _ (c .before .before .before .before .before .before .before .before .pre .ready .tabled .numbersInside))
+
 named-by-requires : tie.Need-named-by-requires
-named-by-requires c κs = c .before .before .before .before .before .before .before .pre .ready .tabled .tables .long
+named-by-requires c κs = callable-open _ _ _ _ _ _ _ (c .before .before .before .before .before .before .before .before .pre)
 
 enum-told : tie.Need-enum-told
 enum-told c = search needs
@@ -19,7 +29,7 @@ enum-told-3 c = search needs
 write-row-requires : tie.Need-write-row-requires
 write-row-requires c κs =
     let named-by = c .before .before .before .before in
-    let start = named-by .before .before .before .before .before .before .before .before in
+    let start = named-by .before .before .before .before .before .before .before .before .before in
     named-callable _ (named-by .named-by .ensures) (c .before .before .enum-told3 .given .1) (start .pre)
 
 returns : tie.Need-returns
@@ -45,6 +55,8 @@ pub write-named-spec : {M : Type 1} → statement M
 write-named-spec =
     tie.close
     (tie.spec
+    slice-aggregate-named-by
+    slice-aggregate-named-by-2
     named-by-requires
     enum-told
     enum-told-2
