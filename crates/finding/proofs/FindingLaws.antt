@@ -18,7 +18,8 @@ use Rattle.meaning.proofs.ByteLaws.{refused-not}
 use Rattle.meaning.proofs.ProblemReading.{accept-accepted}
 use Rattle.meaning.proofs.OneCall.{reply-named}
 use Rattle.meaning.proofs.WriteLaws.{when-large, write-on}
-use Rattle.rows.specs.Rows.{MaskRow}
+use Rattle.masks.specs.Sets.{masksIn}
+use Rattle.choosing.specs.Rows.{MaskRow}
 use Rattle.places.specs.Places.{AtRow, valueOf}
 use Rattle.places.specs.declared.Place.{Place}
 use Rattle.seeking.specs.declared.Answer.{Answer as Kind}
@@ -59,23 +60,24 @@ module _ {s : Bytes} {place : Place} {n : ℕ} {searched : Searched} (call : Ans
       → Finds s place n before before (record { searched = searched; length = 0 })
   nothing-found none = record { call = call; text = λ e. absurd (none e); nothing = λ h. refl }
 
-  module _ (e : searched .answer ≡ answers.Found) {row : Place} (is : AtRow (searched .row) row) {before after : Bytes} where
-    written-call : (answer : Written) → Writes s row before after answer → WriteCall s (rowValue (searched .row)) before (answerOf answer) after
+  module _ (e : searched .answer ≡ answers.Found) {row : Place} (is : AtRow (masksIn (searched .row)) row) {before after : Bytes} where
+    written-call : (answer : Written) → Writes s row before after answer
+        → WriteCall s (rowValue (masksIn (searched .row))) before (answerOf answer) after
     written-call answer w = subst (λ (v : PlaceValue). WriteCall s v before (answerOf answer) after) (row-value is) w
 
     pub text-found : (answer : Written) {k : ℕ} → answer ≡ written.Wrote k → Writes s row before after answer
         → Finds s place n before after (record { searched = searched; length = k })
     text-found answer q w = record {
       call = call;
-      text = λ z. subst (λ (x : Written). WriteCall s (rowValue (searched .row)) before (answerOf x) after) q (written-call answer w);
+      text = λ z. subst (λ (x : Written). WriteCall s (rowValue (masksIn (searched .row))) before (answerOf x) after) q (written-call answer w);
       nothing = λ none. absurd (none e);
     }
 
     pub never-refused : {P : Type 0} (answer : Written) {k : ℕ} → answer ≡ written.Refused k → All Byte s → largestWritten ≤ length before
         → Writes s row before after answer → P
     never-refused answer q b room w =
-        let reply : hostReply searched ≡ found (rowValue (searched .row)) (valueOf (searched .place)) =
-        ap (λ (a : Kind). replyWith a (searched .row) (valueOf (searched .place))) e in
+        let reply : hostReply searched ≡ found (rowValue (masksIn (searched .row))) (valueOf (searched .place)) =
+        ap (λ (a : Kind). replyWith a (masksIn (searched .row)) (valueOf (searched .place))) e in
         let (m, z) =
         found-written b room (subst (SearchCall s (valueOf place) n) reply (call .call)) (written-call answer w) in
         absurd (refused-not (sym (ap answerOf q) ∙ z))

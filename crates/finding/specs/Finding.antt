@@ -7,10 +7,11 @@ use Rattle.meaning.specs.Read.{got}
 use Rattle.meaning.specs.Entry.{WriteCall}
 use Rattle.places.specs.declared.Place.{Place}
 use Rattle.seeking.specs.declared.Answer.the-variants as answers
+use Rattle.masks.specs.Sets.{masksIn}
 use Rattle.search.specs.Calling.{Answers, rowValue}
 use Rattle.finding.specs.declared.Finding.{Finding}
 
 pub record Finds (s : Bytes) (place : Place) (n : ℕ) (before after : Bytes) (r : Finding) : Type 0 where
   pub call : Answers s place n (r .searched)
-  pub text : r .searched .answer ≡ answers.Found → WriteCall s (rowValue (r .searched .row)) before (got (r .length)) after
+  pub text : r .searched .answer ≡ answers.Found → WriteCall s (rowValue (masksIn (r .searched .row))) before (got (r .length)) after
   pub nothing : (r .searched .answer ≡ answers.Found → ⊥) → after ≡ before

@@ -27,6 +27,7 @@ use Rattle.places.specs.declared.Place.{Place}
 use Rattle.places.specs.declared.Started.{Started}
 use Rattle.seeking.specs.declared.Answer.{Answer as Kind}
 use Rattle.seeking.specs.declared.Answer.the-variants as answers
+use Rattle.masks.specs.Sets.{masksIn}
 use Rattle.search.specs.Calling.{replyWith, rowValue}
 use Rattle.finding.specs.Finding.{Finds}
 use Rattle.finding.specs.declared.Finding.{Finding}
@@ -99,10 +100,10 @@ written-fits {s} {before} {after} {v} {n} w = go w refl
 -- One call of the program
 module _ {s : Bytes} (now : Listing) {before text : Bytes} (f : Finding) (finds : Finds s (now .place) 1000000 before text f) where
   called : (a : Kind) → f .searched .answer ≡ a
-      → SearchCall s (valueOf (now .place)) allowance (replyWith a (f .searched .row) (valueOf (f .searched .place)))
+      → SearchCall s (valueOf (now .place)) allowance (replyWith a (masksIn (f .searched .row)) (valueOf (f .searched .place)))
   unfolding allowance
   called a e =
-      subst (λ (x : Kind). SearchCall s (valueOf (now .place)) 1000000 (replyWith x (f .searched .row) (valueOf (f .searched .place)))) e
+      subst (λ (x : Kind). SearchCall s (valueOf (now .place)) 1000000 (replyWith x (masksIn (f .searched .row)) (valueOf (f .searched .place)))) e
       (finds .call .call)
 
   pub text-fits : f .searched .answer ≡ answers.Found → f .length ≤ length before
@@ -127,7 +128,7 @@ module _ {s : Bytes} (now : Listing) {before text : Bytes} (f : Finding) (finds 
     found-next b e (line.solution few is goes) = go (called answers.Found e) refl
       where
         row : PlaceValue
-        row = rowValue (f .searched .row)
+        row = rowValue (masksIn (f .searched .row))
 
         go : {reply : HostReply} → SearchCall s (valueOf (now .place)) allowance reply → reply ≡ found row (valueOf (f .searched .place))
             → NextLine s now after r
