@@ -1,76 +1,189 @@
 -- The laws of places in words.
 --   nowhere-named   the value that stands for words which are no place names no place of any problem
 --   placed-back     the place that was put at the front of words is read back
-use mathlib.Core.Path.{_≡_, refl, ap, sym, _∙_, subst}
+use mathlib.Core.Path.{_≡_, refl, ap, ap₂, sym, _∙_, subst}
 use mathlib.Core.Bool.{Bool, true, false, false≢true}
-use mathlib.Core.List.{List, [], _∷_, _++_, append-assoc}
-use Prim.Native.Nat.{ℕ, zero, suc, _+_, _<_, _≤_}
+use mathlib.Core.List.{List, [], _∷_, _++_, append-assoc, append-nil, map}
+use Prim.Native.Nat.{ℕ, zero, suc, _+_, _-_, _*_, _^_, _<_, _≤_}
 use native.Mathlib.Numerals.{add-one}
 use native.Mathlib.Omega.{arith}
 use borrow.Author.Tests.{le-leb, leb-false, leb-true, lt-leb}
-use lib.ListN.{length, take, drop, getD, set, length-append}
-use lib.Seq.{take-suc, take-suc-set, take-all, take-at, drop-drop, drop-set-lt, getD-at, set-split}
-use Rattle.meaning.specs.Limits.{maxFunctions}
+use lib.ListN.{length, take, drop, getD, set, length-append, length-map, length-drop, replicate, take-append-drop}
+use lib.Pow.{pow-pos}
+use lib.Seq.{take-suc, take-suc-set, take-all, take-at, drop-at, drop-drop, drop-cons, getD-at, length-take-le}
+use lib.Seq.{set-split, sets, sets-eq}
+use Rattle.meaning.specs.Limits.{maxFaceNodes, maxFunctions}
+use Rattle.meaning.specs.Basics.{All, each}
 use Rattle.meaning.specs.Problem.{Problem}
 use Rattle.meaning.specs.Row.{Row}
 use Rattle.meaning.specs.Search.{Place, at, past}
-use Rattle.meaning.specs.PlaceValue.{PlaceValue, placeValue, Names}
-use Rattle.meaning.proofs.Lists.{by-test, choose-true, choose-false}
-use Rattle.words.specs.Words.{hasPlace, lastWord, nowhere, placeOfWords, placeWords, placed, valueWith}
+use Rattle.meaning.specs.PlaceValue.{PlaceValue, maskOf, masksOf, placeValue, Names}
+use Rattle.meaning.proofs.Lists.{all-append, by-test, choose-true, choose-false, each-append}
+use Rattle.meaning.proofs.PlaceLaws.{mask-small}
+use Rattle.masks.specs.Mask.{marks, value}
+use Rattle.masks.specs.Sets.{marksIn, mask, masksIn, width, wordCount, wordNodes, words, wordsIn, wordsOf}
+use Rattle.masks.specs.declared.NodeSet.{NodeSet}
+use Rattle.masks.proofs.Marks.{length-marks, marks-value, value-marks}
+use Rattle.masks.proofs.Words.{length-words, masks-set, mask-words}
+use Rattle.words.specs.Words.{hasPlace, lastWord, maskIn, masksFrom, nowhere, placeOfWords, placeWords, placed, setWords, valueWith}
 
--- Words stored one after the other from the front
-pub front-more : (a b : List ℕ) (j : ℕ) → j < length a → j < length b → take j a ≡ take j b
-    → take (j + 1) (set a j (getD b j 0)) ≡ take (j + 1) b
-front-more a b j ha hb e =
-    rw (add-one j)
-    (take-suc-set a j (getD b j 0) ha ∙ ap (λ (l : List ℕ). l ++ (getD b j 0 ∷ [])) e ∙ sym (take-suc b j 0 hb))
+-- ---- the words of one set
 
--- ... and what comes after them stays
-pub rest-more : (words words₀ : List ℕ) (j x : ℕ) → j < 8 → drop 8 words ≡ drop 8 words₀ → drop 8 (set words j x) ≡ drop 8 words₀
-rest-more words words₀ j x l e = drop-set-lt 8 words j x l ∙ e
+-- Four words, one after the other
+four : (l : List ℕ) (i : ℕ) → i + wordCount ≤ length l
+    → take wordCount (drop i l) ≡ getD l i 0 ∷ getD l (i + 1) 0 ∷ getD l (i + 2) 0 ∷ getD l (i + 3) 0 ∷ []
+four l i h =
+    let one : i + 1 ≡ suc i = add-one i in
+    let two : i + 2 ≡ suc (suc i) = omega arith in
+    let three : i + 3 ≡ suc (suc (suc i)) = omega arith in
+    rw (one, two, three)
+    (ap (take 4)
+    (drop-cons l i 0 (omega arith) ∙ ap {B = List ℕ} (λ r. getD l i 0 ∷ r)
+    (drop-cons l (suc i) 0 (omega arith) ∙ ap {B = List ℕ} (λ r. getD l (suc i) 0 ∷ r)
+    (drop-cons l (suc (suc i)) 0 (omega arith) ∙ ap {B = List ℕ} (λ r. getD l (suc (suc i)) 0 ∷ r)
+    (drop-cons l (suc (suc (suc i))) 0 (omega arith))))))
 
-pub masks-read : (masks words : List ℕ) (j : ℕ) → length masks ≡ 8 → j ≡ 8 → take j masks ≡ take j words
-    → masks ≡ take maxFunctions words
-unfolding maxFunctions
-masks-read masks words j long e h = sym (take-all j masks (omega (arith, long, e))) ∙ h ∙ ap (λ (n : ℕ). take n words) e
+-- As the code reads a set
+pub set-read : (l : List ℕ) (i : ℕ) (s : NodeSet) → i + wordCount ≤ length l
+    → words s ≡ getD l i 0 ∷ getD l (i + 1) 0 ∷ getD l (i + 2) 0 ∷ getD l (i + 3) 0 ∷ [] → mask s ≡ maskIn (take wordCount (drop i l))
+unfolding mask
+set-read l i s h e = ap maskIn (e ∙ sym (four l i h))
 
-pub place-put : (words words₀ masks : List ℕ) (last j : ℕ) → placeWords ≤ length words → length masks ≡ 8 → j ≡ 8
-    → take j words ≡ take j masks → drop 8 words ≡ drop 8 words₀
-    → set words 8 last ≡ (masks ++ (last ∷ [])) ++ drop placeWords words₀
-place-put words words₀ masks last j long eight e h rest =
-    let front : take 8 words ≡ masks =
-    ap (λ (n : ℕ). take n words) (sym e) ∙ h ∙ take-all j masks (omega (arith, eight, e)) in
-    let later : drop 9 words ≡ drop 9 words₀ = sym (drop-drop 1 8 words) ∙ ap (drop 1) rest ∙ drop-drop 1 8 words₀ in
-    set-split words 8 last (omega (arith, long))
-    ∙ ap (λ (l : List ℕ). l ++ (last ∷ drop 9 words)) front
-    ∙ ap (λ (l : List ℕ). masks ++ (last ∷ l)) later
-    ∙ sym (append-assoc masks (last ∷ []) (drop 9 words₀))
+-- ... and as it stores one
+pub set-put : (l : List ℕ) (i : ℕ) (s : NodeSet) → i + wordCount ≤ length l
+    → s .w0 < 2 ^ wordNodes → s .w1 < 2 ^ wordNodes → s .w2 < 2 ^ wordNodes → s .w3 < 2 ^ wordNodes
+    → set (set (set (set l i (s .w0)) (i + 1) (s .w1)) (i + 2) (s .w2)) (i + 3) (s .w3)
+    ≡ take i l ++ wordsOf (mask s) ++ drop (i + wordCount) l
+set-put l i s h a b c d =
+    let one : i + 1 ≡ suc i = add-one i in
+    let two : i + 2 ≡ suc (suc i) = omega arith in
+    let three : i + 3 ≡ suc (suc (suc i)) = omega arith in
+    rw (one, two, three)
+    (sets-eq (words s) l i h ∙ ap (λ (r : List ℕ). take i l ++ r ++ drop (i + wordCount) l) (sym (mask-words s a b c d)))
 
--- Reading words
+-- The mask of a mask's words is the mask
+marks-back : (n : ℕ) (l : List Bool) → length l ≡ n * wordNodes → marksIn (wordsIn n l) ≡ l
+unfolding marksIn wordsIn
+marks-back zero [] h = refl
+marks-back zero (b ∷ l) h = absurd (omega arith)
+marks-back (suc n) l h =
+    let e : length (take wordNodes l) ≡ wordNodes = length-take-le wordNodes l (omega arith) in
+    ap₂ (λ (x y : List Bool). x ++ y)
+    (ap (λ (k : ℕ). marks k (value (take wordNodes l))) (sym e) ∙ marks-value (take wordNodes l))
+    (marks-back n (drop wordNodes l) (length-drop wordNodes l ∙ omega (arith, h)))
+    ∙ take-append-drop wordNodes l
+
+whole : width ≡ wordCount * wordNodes
+unfolding width
+whole = refl
+
+mask-back : (m : ℕ) → m < 2 ^ width → maskIn (wordsOf m) ≡ m
+unfolding wordsOf
+mask-back m h = ap value (marks-back wordCount (marks width m) (length-marks width m ∙ whole)) ∙ value-marks width m h
+
+-- ---- the words of several sets
+
+masks-more : (k : ℕ) (l : List ℕ) → masksFrom (suc k) l ≡ masksFrom k l ++ (maskIn (take wordCount (drop (k * wordCount) l)) ∷ [])
+unfolding masksFrom
+masks-more zero l = let e : 0 ≡ 0 * wordCount = omega arith in ap (λ (n : ℕ). maskIn (take wordCount (drop n l)) ∷ []) e
+masks-more (suc k) l =
+    let e : wordCount + k * wordCount ≡ suc k * wordCount = omega arith in
+    let d : drop (k * wordCount) (drop wordCount l) ≡ drop (suc k * wordCount) l =
+    drop-drop (k * wordCount) wordCount l ∙ ap (λ (n : ℕ). drop n l) e in
+    ap {B = List ℕ} (λ r. maskIn (take wordCount l) ∷ r)
+    (masks-more k (drop wordCount l) ∙ ap (λ (r : List ℕ). masksFrom k (drop wordCount l) ++ (maskIn (take wordCount r) ∷ [])) d)
+
+-- As the code reads one after the other
+pub read-more : (sets : List NodeSet) (l : List ℕ) (k : ℕ) (s : NodeSet) → k < length sets → take k (masksIn sets) ≡ masksFrom k l
+    → mask s ≡ maskIn (take wordCount (drop (k * wordCount) l)) → take (k + 1) (masksIn (set sets k s)) ≡ masksFrom (k + 1) l
+read-more sets l k s h e q =
+    rw (add-one k)
+    (ap (take (suc k)) (masks-set sets k s)
+    ∙ take-suc-set (masksIn sets) k (mask s) (omega (arith, h, length-map sets mask))
+    ∙ ap₂ {C = List ℕ} (λ r m. r ++ (m ∷ [])) e q ∙ sym (masks-more k l))
+
+pub read-all : (sets : List NodeSet) (l : List ℕ) (k : ℕ) → length sets ≡ maxFunctions → k ≡ maxFunctions
+    → take k (masksIn sets) ≡ masksFrom k l → masksIn sets ≡ masksFrom maxFunctions l
+read-all sets l k long e h =
+    sym (take-all k (masksIn sets) (omega (arith, long, e, length-map sets mask))) ∙ h ∙ ap (λ (n : ℕ). masksFrom n l) e
+
+-- ... and stores them: the words of the first k, and from there on the words as they were
+length-each : (ms : List ℕ) → length (each wordsOf ms) ≡ length ms * wordCount
+length-each [] = refl
+length-each (m ∷ ms) = length-append (wordsOf m) (each wordsOf ms) ∙ omega (arith, length-words m, length-each ms)
+
+module _ (l l₀ ms : List ℕ) (k : ℕ) (few : k ≤ length ms) (stored : l ≡ each wordsOf (take k ms) ++ drop (k * wordCount) l₀) where
+  front-long : length (each wordsOf (take k ms)) ≡ k * wordCount
+  front-long = length-each (take k ms) ∙ ap (λ (n : ℕ). n * wordCount) (length-take-le k ms few)
+
+  front : take (k * wordCount) l ≡ each wordsOf (take k ms)
+  front = ap (take (k * wordCount)) stored ∙ take-at (each wordsOf (take k ms)) (drop (k * wordCount) l₀) (k * wordCount) front-long
+
+  later : (n : ℕ) → drop (k * wordCount + n) l ≡ drop (k * wordCount + n) l₀
+  later n =
+      sym (drop-drop n (k * wordCount) l)
+      ∙ ap (drop n) (ap (drop (k * wordCount)) stored ∙ drop-at (each wordsOf (take k ms)) (drop (k * wordCount) l₀) (k * wordCount) front-long)
+      ∙ drop-drop n (k * wordCount) l₀
+
+  pub put-more : (m : ℕ) → k < length ms → m ≡ getD ms k 0
+      → take (k * wordCount) l ++ wordsOf m ++ drop (k * wordCount + wordCount) l
+      ≡ each wordsOf (take (k + 1) ms) ++ drop ((k + 1) * wordCount) l₀
+  put-more m h e =
+      let n : k * wordCount + wordCount ≡ (k + 1) * wordCount = omega arith in
+      let one : each wordsOf (take (k + 1) ms) ≡ each wordsOf (take k ms) ++ wordsOf m =
+      rw (add-one k)
+      (ap (each wordsOf) (take-suc ms k 0 h) ∙ each-append wordsOf (take k ms) (getD ms k 0 ∷ [])
+      ∙ ap (λ (r : List ℕ). each wordsOf (take k ms) ++ r) (append-nil (wordsOf (getD ms k 0)) ∙ ap wordsOf (sym e))) in
+      ap₂ (λ (x y : List ℕ). x ++ wordsOf m ++ y) front (later wordCount ∙ ap (λ (i : ℕ). drop i l₀) n)
+      ∙ ap (λ (r : List ℕ). r ++ drop ((k + 1) * wordCount) l₀) (sym one)
+
+  pub put-all : length ms ≡ maxFunctions → k ≡ maxFunctions → l ≡ each wordsOf ms ++ drop setWords l₀
+  put-all eight e =
+      stored
+      ∙ ap₂ (λ (x y : List ℕ). x ++ y) (ap (each wordsOf) (take-all k ms (omega (arith, eight, e)))) (ap (λ (n : ℕ). drop (n * wordCount) l₀) e)
+
+-- The last word, after those of the sets
+pub put-last : (l l₀ ms : List ℕ) (last : ℕ) (isPast : Bool) → placeWords ≤ length l₀ → length l ≡ length l₀
+    → l ≡ each wordsOf ms ++ drop setWords l₀ → last ≡ lastWord isPast
+    → set l setWords last ≡ placed l₀ (record { masks = ms; isPast = isPast })
+put-last l l₀ ms last isPast long same h e =
+    let n : length (each wordsOf ms) ≡ setWords =
+    omega (arith, long, same, ap length h, length-append (each wordsOf ms) (drop setWords l₀), length-drop setWords l₀) in
+    let front : take setWords l ≡ each wordsOf ms = ap (take setWords) h ∙ take-at (each wordsOf ms) (drop setWords l₀) setWords n in
+    let rest : drop placeWords l ≡ drop placeWords l₀ =
+    sym (drop-drop 1 setWords l) ∙ ap (drop 1) (ap (drop setWords) h ∙ drop-at (each wordsOf ms) (drop setWords l₀) setWords n)
+    ∙ drop-drop 1 setWords l₀ in
+    set-split l setWords last (omega (arith, long, same))
+    ∙ ap (λ (i : ℕ). take setWords l ++ (last ∷ drop i l)) (sym (add-one setWords))
+    ∙ ap₂ (λ (x y : List ℕ). x ++ (last ∷ y)) front rest
+    ∙ ap (λ (x : ℕ). each wordsOf ms ++ (x ∷ drop placeWords l₀)) e
+
+-- ---- reading words
+
 pub too-few : (words : List ℕ) → length words < placeWords → placeOfWords words ≡ nowhere
 unfolding placeOfWords
 too-few words h = choose-false _ _ (lt-leb placeWords (length words) h)
 
 module _ (words : List ℕ) (long : placeWords ≤ length words) where
-  with-last : (last : ℕ) → getD words maxFunctions 0 ≡ last → placeOfWords words ≡ valueWith (take maxFunctions words) last
+  with-last : (last : ℕ) → getD words setWords 0 ≡ last → placeOfWords words ≡ valueWith (masksFrom maxFunctions words) last
   unfolding placeOfWords
-  with-last last e = choose-true _ _ (le-leb placeWords (length words) long) ∙ ap (valueWith (take maxFunctions words)) e
+  with-last last e = choose-true _ _ (le-leb placeWords (length words) long) ∙ ap (valueWith (masksFrom maxFunctions words)) e
 
-  pub row-read : (masks : List ℕ) → masks ≡ take maxFunctions words → getD words maxFunctions 0 ≡ 0
+  pub row-read : (masks : List ℕ) → masks ≡ masksFrom maxFunctions words → getD words setWords 0 ≡ 0
       → record { masks = masks; isPast = false } ≡ placeOfWords words
   unfolding valueWith
   row-read masks m e = ap (λ (l : List ℕ). valueWith l 0) m ∙ sym (with-last 0 e)
 
-  pub past-read : (masks : List ℕ) → masks ≡ take maxFunctions words → getD words maxFunctions 0 ≡ 1
+  pub past-read : (masks : List ℕ) → masks ≡ masksFrom maxFunctions words → getD words setWords 0 ≡ 1
       → record { masks = masks; isPast = true } ≡ placeOfWords words
   unfolding valueWith
   past-read masks m e = ap (λ (l : List ℕ). valueWith l 1) m ∙ sym (with-last 1 e)
 
-  pub other-read : 1 < getD words maxFunctions 0 → placeOfWords words ≡ nowhere
+  pub other-read : 1 < getD words setWords 0 → placeOfWords words ≡ nowhere
   unfolding valueWith
-  other-read h = go (getD words maxFunctions 0) refl h
+  other-read h = go (getD words setWords 0) refl h
     where
-      go : (last : ℕ) → getD words maxFunctions 0 ≡ last → 1 < last → placeOfWords words ≡ nowhere
+      go : (last : ℕ) → getD words setWords 0 ≡ last → 1 < last → placeOfWords words ≡ nowhere
       go zero e h = absurd (omega arith)
       go (suc zero) e h = absurd (omega arith)
       go (suc (suc n)) e h = with-last (suc (suc n)) e
@@ -87,19 +200,55 @@ named-long p words place h =
     (λ e. absurd (nowhere-named p place
     (subst (λ (v : PlaceValue). Names p v place) (too-few words (leb-false placeWords (length words) e)) h)))
 
--- What a call writes, the next reads
+-- ---- what a call writes, the next reads
+
 back : (masks : List ℕ) (isPast : Bool) → valueWith masks (lastWord isPast) ≡ record { masks = masks; isPast = isPast }
 unfolding valueWith
 back masks false = refl
 back masks true = refl
 
-pub placed-back : (words : List ℕ) (v : PlaceValue) → length (v .masks) ≡ maxFunctions → placeOfWords (placed words v) ≡ v
-unfolding maxFunctions
-placed-back words v h =
+-- A mask has no more digits than its words
+abbrev pub Small : List ℕ → Type 0
+Small ms = All (λ m. m < 2 ^ width) ms
+
+masks-back : (ms later : List ℕ) → Small ms → masksFrom (length ms) (each wordsOf ms ++ later) ≡ ms
+unfolding masksFrom
+masks-back [] later h = refl
+masks-back (m ∷ ms) later h =
+    let e : (wordsOf m ++ each wordsOf ms) ++ later ≡ wordsOf m ++ (each wordsOf ms ++ later) =
+    append-assoc (wordsOf m) (each wordsOf ms) later in
+    ap (λ (l : List ℕ). maskIn (take wordCount l) ∷ masksFrom (length ms) (drop wordCount l)) e
+    ∙ ap₂ {C = List ℕ} (λ (x y : List ℕ). maskIn x ∷ masksFrom (length ms) y)
+    (take-at (wordsOf m) _ wordCount (length-words m)) (drop-at (wordsOf m) _ wordCount (length-words m))
+    ∙ ap₂ {C = List ℕ} (λ x xs. x ∷ xs) (mask-back m (h .0)) (masks-back ms later (h .1))
+
+pub placed-back : (words : List ℕ) (v : PlaceValue) → length (v .masks) ≡ maxFunctions → Small (v .masks) → placeOfWords (placed words v) ≡ v
+placed-back words v h small =
     let last : List ℕ = lastWord (v .isPast) ∷ drop placeWords words in
-    let same : placed words v ≡ v .masks ++ last = append-assoc (v .masks) (lastWord (v .isPast) ∷ []) (drop placeWords words) in
-    let long : placeWords ≤ length (v .masks ++ last) = omega (arith, length-append (v .masks) last, h) in
-    ap placeOfWords same
-    ∙ with-last (v .masks ++ last) long (lastWord (v .isPast)) (getD-at (v .masks) (lastWord (v .isPast)) (drop placeWords words) 0 8 h)
-    ∙ ap (λ (l : List ℕ). valueWith l (lastWord (v .isPast))) (take-at (v .masks) last 8 h)
+    let sets : List ℕ = each wordsOf (v .masks) in
+    let n : length sets ≡ setWords = length-each (v .masks) ∙ ap (λ (i : ℕ). i * wordCount) h in
+    let long : placeWords ≤ length (sets ++ last) = omega (arith, length-append sets last, n) in
+    with-last (sets ++ last) long (lastWord (v .isPast)) (getD-at sets (lastWord (v .isPast)) (drop placeWords words) 0 setWords n)
+    ∙ ap (λ (l : List ℕ). valueWith l (lastWord (v .isPast)))
+    (ap (λ (i : ℕ). masksFrom i (sets ++ last)) (sym h) ∙ masks-back (v .masks) last small)
     ∙ back (v .masks) (v .isPast)
+
+-- The masks of a place are small
+face-width : maxFaceNodes ≡ width
+unfolding maxFaceNodes width
+face-width = refl
+
+row-small : (r : Row) → Small (map (maskOf maxFaceNodes) r)
+row-small [] = tt
+row-small (ms ∷ r) = (subst (λ (w : ℕ). maskOf maxFaceNodes ms < 2 ^ w) face-width (mask-small maxFaceNodes ms), row-small r)
+
+zeros-small : (n : ℕ) → Small (replicate n 0)
+zeros-small zero = tt
+zeros-small (suc n) = (pow-pos width, zeros-small n)
+
+pub place-small : (place : Place Row) → Small (placeValue place .masks)
+unfolding placeValue masksOf
+place-small (at r) =
+    all-append (λ (m : ℕ). m < 2 ^ width) (map (maskOf maxFaceNodes) r) (replicate (maxFunctions - length r) 0)
+    (row-small r) (zeros-small (maxFunctions - length r))
+place-small past = zeros-small maxFunctions

@@ -1,36 +1,63 @@
-// A place in words: 8 masks, then 0 for a row or 1 for past the last. Any words may be handed in: a place stands at their front.
+// A place in words: those of each function's node set, then 0 for a row or 1 for past the last. Any words may be handed in: a place stands at
+// their front.
+use masks::NodeSet;
 use places::Place;
 ghost use mathlib.Core.Path.{_≡_};
-ghost use Prim.Native.Nat.{_≤_};
-ghost use lib.ListN.{length, take};
+ghost use mathlib.Core.List.{_++_};
+ghost use Prim.Native.Nat.{_+_, _≤_};
+ghost use lib.ListN.{length, take, drop};
 ghost use Rattle.meaning.specs.Limits.{maxFunctions};
+ghost use Rattle.meaning.specs.Basics.{each};
+ghost use Rattle.masks.specs.Sets.{mask, masksIn, wordCount, wordsOf};
 ghost use Rattle.places.specs.Places.{valueOf};
-ghost use Rattle.words.specs.Words.{lastWord, nowhere, placeOfWords, placeWords, placed};
+ghost use Rattle.words.specs.Words.{lastWord, maskIn, masksFrom, nowhere, placeOfWords, placeWords, placed, setWords};
 
-pub const PLACE_WORDS: usize = Place::MAX_FUNCTIONS + 1;
+// The words of all sets; the last word comes after them.
+const SET_WORDS: usize = Place::MAX_FUNCTIONS * NodeSet::WORDS;
 
-// Past the last no mask has a node, so that this names no place of any problem.
+pub const PLACE_WORDS: usize = SET_WORDS + 1;
+
+// Past the last no set has a node, so that this names no place of any problem.
 fn nowhere() -> Place
     ensures { λ r. ⌜ valueOf r ≡ nowhere ⌝ }
 {
+    let last = NodeSet {
+        w0: 0,
+        w1: 0,
+        w2: 0,
+        w3: 1,
+    };
     Place {
-        masks: [1u64; Place::MAX_FUNCTIONS],
+        sets: [last; Place::MAX_FUNCTIONS],
         past: true,
     }
 }
 
-// The words before the last of a place.
-fn masks_in(words: &[u64]) -> [u64; Place::MAX_FUNCTIONS]
-    requires { ⌜ placeWords ≤ length (now words) ⌝ }
-    ensures { λ r. ⌜ r ≡ take maxFunctions (now (words .entry)) ⌝ }
+// The set whose words begin at word `at`.
+fn set_at(words: &[u64], at: usize) -> NodeSet
+    requires { ⌜ at + wordCount ≤ length (now words) ⌝ }
+    ensures { λ r. ⌜ mask r ≡ maskIn (take wordCount (drop at (now (words .entry)))) ⌝ }
 {
-    let mut masks = [0u64; Place::MAX_FUNCTIONS];
-    let mut j = 0;
-    while j < Place::MAX_FUNCTIONS {
-        masks[j] = words[j];
-        j += 1;
+    NodeSet {
+        w0: words[at],
+        w1: words[at + 1],
+        w2: words[at + 2],
+        w3: words[at + 3],
     }
-    masks
+}
+
+// The sets at the front of the words.
+fn sets_in(words: &[u64]) -> [NodeSet; Place::MAX_FUNCTIONS]
+    requires { ⌜ placeWords ≤ length (now words) ⌝ }
+    ensures { λ r. ⌜ masksIn r ≡ masksFrom maxFunctions (now (words .entry)) ⌝ }
+{
+    let mut sets = [NodeSet::none(); Place::MAX_FUNCTIONS];
+    let mut k = 0;
+    while k < Place::MAX_FUNCTIONS {
+        sets[k] = set_at(words, k * NodeSet::WORDS);
+        k += 1;
+    }
+    sets
 }
 
 // The place that words begin with. Words that are no place are "no such place" (16) of every problem.
@@ -40,18 +67,41 @@ pub fn place_of(words: &[u64]) -> Place
     if words.len() < PLACE_WORDS {
         return nowhere();
     }
-    let masks = masks_in(words);
-    let last = words[Place::MAX_FUNCTIONS];
+    let sets = sets_in(words);
+    let last = words[SET_WORDS];
     match last {
         0 => Place {
-            masks: masks,
+            sets: sets,
             past: false,
         },
         1 => Place {
-            masks: masks,
+            sets: sets,
             past: true,
         },
         _ => nowhere(),
+    }
+}
+
+// The words of a set from word `at` on; the others stay as they are.
+fn put_set(words: &mut [u64], at: usize, s: NodeSet)
+    requires { ⌜ at + wordCount ≤ length (now words) ⌝ }
+    ensures { λ _. ⌜ now (words .exit) ≡ take at (now (words .entry)) ++ wordsOf (mask s) ++ drop (at + wordCount) (now (words .entry)) ⌝ }
+{
+    words[at] = s.w0;
+    words[at + 1] = s.w1;
+    words[at + 2] = s.w2;
+    words[at + 3] = s.w3;
+}
+
+// The words of the sets at the front.
+fn put_sets(words: &mut [u64], sets: [NodeSet; Place::MAX_FUNCTIONS])
+    requires { ⌜ placeWords ≤ length (now words) ⌝ }
+    ensures { λ _. ⌜ now (words .exit) ≡ each wordsOf (masksIn sets) ++ drop setWords (now (words .entry)) ⌝ }
+{
+    let mut k = 0;
+    while k < Place::MAX_FUNCTIONS {
+        put_set(words, k * NodeSet::WORDS, sets[k]);
+        k += 1;
     }
 }
 
@@ -66,11 +116,7 @@ pub fn put_place(words: &mut [u64], place: Place)
     requires { ⌜ placeWords ≤ length (now words) ⌝ }
     ensures { λ _. ⌜ now (words .exit) ≡ placed (now (words .entry)) (valueOf place) ⌝ }
 {
-    let masks = place.masks;
-    let mut j = 0;
-    while j < Place::MAX_FUNCTIONS {
-        words[j] = masks[j];
-        j += 1;
-    }
-    words[Place::MAX_FUNCTIONS] = last_word(place.past);
+    let sets = place.sets;
+    put_sets(words, sets);
+    words[SET_WORDS] = last_word(place.past);
 }

@@ -11,10 +11,12 @@ nowhere-requires : tie.Need-nowhere-requires
 nowhere-requires c κs = search needs
 
 returns : tie.Need-returns
+unfolding maxFunctions
 returns c = c .nowhere .ensures ∙ sym (too-few _ (c .before .if1 .taken))
 
-masks-in-requires : tie.Need-masks-in-requires
-masks-in-requires c κs = search needs
+sets-in-requires : tie.Need-sets-in-requires
+unfolding maxFunctions
+sets-in-requires c κs = search needs
 
 shared-slice-read-last : tie.Need-shared-slice-read-last
 shared-slice-read-last c = search needs
@@ -26,13 +28,13 @@ returns-2 : tie.Need-returns-2
 unfolding maxFunctions
 returns-2 c =
     let read = c .before .before in
-    row-read _ (read .before .if1 .left) _ (read .masks-in .ensures) (c .match .keys1)
+    row-read _ (read .before .if1 .left) _ (read .sets-in .ensures) (c .match .keys1)
 
 returns-3 : tie.Need-returns-3
 unfolding maxFunctions
 returns-3 c =
     let read = c .before .before in
-    past-read _ (read .before .if1 .left) _ (read .masks-in .ensures) (c .match .keys2)
+    past-read _ (read .before .if1 .left) _ (read .sets-in .ensures) (c .match .keys2)
 
 returns-4 : tie.Need-returns-4
 unfolding maxFunctions
@@ -47,7 +49,7 @@ place-of-spec =
     (tie.spec
     nowhere-requires
     returns
-    masks-in-requires
+    sets-in-requires
     shared-slice-read-last
     nowhere-requires-2
     returns-2
