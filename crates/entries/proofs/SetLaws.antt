@@ -12,8 +12,7 @@ use borrow.Author.Tests.{eq-eqb, eqb-true, eqb-false, lt-ltb, le-ltb}
 use Rattle.meaning.specs.Limits.{metavariableCount}
 use Rattle.meaning.specs.Basics.{every, upTo}
 use Rattle.meaning.proofs.Lists.{by-test, mem-upTo}
-use Rattle.masks.specs.Mask.{odd, marks, In}
-use Rattle.masks.specs.Table.{Sub}
+use Rattle.masks.specs.Mask.{odd, marks, In, Sub}
 use Rattle.masks.proofs.Cases.{by-order, same-truth}
 use Rattle.masks.proofs.Marks.{marks-at}
 use Rattle.masks.proofs.Nodes.{in-width, nodes-sub}

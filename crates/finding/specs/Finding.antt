@@ -5,6 +5,7 @@ use Prim.Native.Nat.{ℕ}
 use Rattle.meaning.specs.Basics.{Bytes}
 use Rattle.meaning.specs.Read.{got}
 use Rattle.meaning.specs.Entry.{WriteCall}
+use Rattle.masks.specs.Sets.{masksIn}
 use Rattle.places.specs.declared.Place.{Place}
 use Rattle.seeking.specs.declared.Answer.the-variants as answers
 use Rattle.masks.specs.Sets.{masksIn}

@@ -3,6 +3,7 @@
 // handed in.
 pub use checking::Checked;
 pub use checking::check;
+pub use masks::NodeSet;
 pub use places::Place;
 pub use places::Start;
 pub use places::Started;
@@ -21,7 +22,7 @@ pub struct OpenSearch {
 // What a call on an open search answers, and the row of a Found beside it; no other answer's row means anything.
 pub struct Reply {
     pub answer: Answer,
-    pub row: [u64; Place::MAX_FUNCTIONS],
+    pub row: [NodeSet; Place::MAX_FUNCTIONS],
 }
 
 // The open search as a call leaves it, and what the call answers.

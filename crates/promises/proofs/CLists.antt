@@ -27,16 +27,22 @@ use Rattle.meaning.proofs.ProblemReading.{accept-accepted}
 use Rattle.meaning.proofs.CallLaws.{end-here, end-later, no-end, which-end}
 use Rattle.meaning.proofs.OneCall.{NamedReply, reply-named}
 use Rattle.meaning.proofs.PlaceLaws.{from-place, place-long}
-use Rattle.words.specs.Words.{hasPlace, placeOfWords}
-use Rattle.words.proofs.WordLaws.{placed-back}
+use Rattle.words.specs.Words.{hasPlace, placeOfWords, placed}
+use Rattle.words.proofs.WordLaws.{Small, place-small, placed-back}
 use Rattle.tivagyesz.specs.Exported.{SearchExport, StartExport, Told, placeAfter, placeInto, replyCode, rowAfter, startAfter, startCode, withRow}
 use Rattle.promises.specs.Lists.{CCall, CEnd, CRun, cAllowed, cFound}
 use Rattle.promises.specs.Numbers.{Refuses, RefusesReply, answer, refusal}
 use Rattle.promises.proofs.RefusalNumbers.{search-numbers, small, start-numbers}
 
--- Values that a call answers have a mask for each function, so that their words are read back
+-- Values that a call answers have a mask for each function, small enough for its words, so that the words are read back
 abbrev Long : PlaceValue → Type 0
-Long v = length (v .masks) ≡ maxFunctions
+Long v = (length (v .masks) ≡ maxFunctions) × Small (v .masks)
+
+long-back : (words : List ℕ) (v : PlaceValue) → Long v → placeOfWords (placed words v) ≡ v
+long-back words v (long, small) = placed-back words v long small
+
+place-whole : (p : Problem) (place : Place Row) → Accepted p → IsPlace p place → Long (placeValue place)
+place-whole p place a i = (place-long p place a i, place-small place)
 
 abbrev LongReply : HostReply → Type 0
 LongReply (found row next) = Long row × Long next
@@ -45,7 +51,7 @@ LongReply (paused next) = Long next
 LongReply (refusedCall r) = Unit {0}
 
 named-long : (p : Problem) {v : PlaceValue} (place : Place Row) → Accepted p → Names p v place → Long v
-named-long p place a m = ap (λ (v : PlaceValue). length (v .masks)) (m .isValue) ∙ place-long p place a (m .isPlace)
+named-long p place a m = subst Long (sym (m .isValue)) (place-whole p place a (m .isPlace))
 
 reply-long : (p : Problem) (reply : HostReply) → Accepted p → NamedReply p reply → LongReply reply
 reply-long p (found row next) a ((r, m, h), (place, k)) = (named-long p (at r) a m, named-long p place a k)
@@ -133,21 +139,21 @@ module _ (s : Bytes) (place : List ℕ) (c : CCall) (cs : List CCall) where
       record {
         found-here =
             ap (map placeOfWords) (choose-true _ _ (ap (λ (n : ℕ). eqb n 256) a))
-            ∙ ap (λ (v : PlaceValue). v ∷ map placeOfWords (cFound cs)) (ap placeOfWords gives ∙ placed-back (c .row) row row-long);
+            ∙ ap (λ (v : PlaceValue). v ∷ map placeOfWords (cFound cs)) (ap placeOfWords gives ∙ long-back (c .row) row row-long);
         end-here-is = (λ z. absurd (omega (arith, a)), λ w. never (let q = w .1 in cc));
-        next = ap placeOfWords moved ∙ placed-back place next next-long;
+        next = ap placeOfWords moved ∙ long-back place next next-long;
       }
   seen-as (end next) h next-long a moved gives =
       record {
         found-here = ap (map placeOfWords) (nothing-found (λ z. omega (arith, a)));
         end-here-is = (λ z. (next, refl), λ w. a);
-        next = ap placeOfWords moved ∙ placed-back place next next-long;
+        next = ap placeOfWords moved ∙ long-back place next next-long;
       }
   seen-as (paused next) h next-long a moved gives =
       record {
         found-here = ap (map placeOfWords) (nothing-found (λ z. omega (arith, a)));
         end-here-is = (λ z. absurd (omega (arith, a)), λ w. never (let q = w .1 in cc));
-        next = ap placeOfWords moved ∙ placed-back place next next-long;
+        next = ap placeOfWords moved ∙ long-back place next next-long;
       }
   seen-as (refusedCall r) h long a moved gives =
       let below = small r h in
@@ -206,7 +212,7 @@ c-started s words place b h = go (accept s) refl h (start-numbers words s)
         → placeOfWords place ≡ placeValue (start p)
     room p e true a moved =
         let isPlace : IsPlace p (start p) = from-place p (start p) (rows p) (record { before = []; whole = refl; begins = refl }) in
-        ap placeOfWords moved ∙ placed-back words (placeValue (start p)) (place-long p (start p) (accept-accepted s p b e .0) isPlace)
+        ap placeOfWords moved ∙ long-back words (placeValue (start p)) (place-whole p (start p) (accept-accepted s p b e .0) isPlace)
     room p e false a moved = absurd (omega arith)
 
     go : (a : Answer Problem) → accept s ≡ a → Told (starting words a) words place 0 → Refuses (starting words a)

@@ -9,6 +9,8 @@ use Rattle.meaning.specs.PlaceValue.{PlaceValue}
 use Rattle.meaning.specs.Entry.{SearchCall}
 use Rattle.meaning.specs.Calls.{HasEnd, HostCall, Run, allowed, foundIn, founds, positive}
 use Rattle.meaning.proofs.Lists.{map-mem, mem-map, never}
+use Rattle.masks.specs.Sets.{masksIn}
+use Rattle.masks.specs.declared.NodeSet.{NodeSet}
 use Rattle.places.specs.Places.{valueOf}
 use Rattle.places.specs.declared.Place.{Place}
 use Rattle.search.specs.Calling.{Answers, hostReply, replyWith}
@@ -42,7 +44,7 @@ kept-run s kept (c ∷ cs) r =
     (h .call, subst (λ (v : PlaceValue). Run (SearchCall s) v (map callOf (keptCalls cs))) (h .leaves) (kept-run s (c .leaves) cs (r .1)))
 
 -- The rows of the Founds
-found-row : (a : Answer) (row : List ℕ) (v : PlaceValue) → foundIn (replyWith a row v) ≡ map valueOf (rowFound a row)
+found-row : (a : Answer) (row : List NodeSet) (v : PlaceValue) → foundIn (replyWith a (masksIn row) v) ≡ map valueOf (rowFound a row)
 found-row answers.Found row v = refl
 found-row answers.End row v = refl
 found-row answers.Paused row v = refl
@@ -74,7 +76,7 @@ end-carried cs = (forth, back)
           call = callOf c;
           isIn = mem-map callOf m;
           place = valueOf (c .gave .place);
-          isEnd = ap (λ (a : Answer). replyWith a (c .gave .row) (valueOf (c .gave .place))) e;
+          isEnd = ap (λ (a : Answer). replyWith a (masksIn (c .gave .row)) (valueOf (c .gave .place))) e;
         }
 
     back : HasEnd (map callOf cs) → CarriedEnd cs
@@ -82,6 +84,6 @@ end-carried cs = (forth, back)
         let (c, m, e) = map-mem callOf (h .call) cs (h .isIn) in (
           c,
           m,
-          end-answer (c .gave .answer) (c .gave .row) (valueOf (c .gave .place)) (h .place)
+          end-answer (c .gave .answer) (masksIn (c .gave .row)) (valueOf (c .gave .place)) (h .place)
               (ap (λ (x : HostCall). x .reply) (sym e) ∙ h .isEnd),
         )

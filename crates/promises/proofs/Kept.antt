@@ -11,6 +11,7 @@ use Rattle.meaning.specs.Problem.{Problem}
 use Rattle.meaning.specs.Read.{Answer, after, got, refused}
 use Rattle.meaning.specs.Accept.{accept}
 use Rattle.meaning.specs.Search.{at, end, found, past, paused, refusedCall, start}
+use Rattle.meaning.specs.Row.{Row}
 use Rattle.meaning.specs.PlaceValue.{PlaceValue, masksOf, placeValue}
 use Rattle.meaning.specs.Entry.{HostReply, SearchCall, WriteCall, checkCall, startCall}
 use Rattle.meaning.specs.Calls.{Run, ThirdDemand, givenRow, left}
@@ -18,6 +19,8 @@ use Rattle.meaning.proofs.Lists.{never}
 use Rattle.meaning.proofs.CallLaws as calls
 use Rattle.meaning.proofs.PlaceLaws.{place-long}
 use Rattle.meaning.proofs.WriteLaws.{refused-leaves}
+use Rattle.masks.specs.Sets.{masksIn}
+use Rattle.masks.specs.declared.NodeSet.{NodeSet}
 use Rattle.places.specs.Places.{AtPast, AtRow, Starts, valueOf}
 use Rattle.places.specs.declared.Place.{Place}
 use Rattle.places.specs.declared.Start.{Start}
@@ -29,7 +32,7 @@ use Rattle.seeking.specs.declared.Answer as code
 use Rattle.seeking.specs.declared.Answer.the-variants as answers
 use Rattle.seeking.specs.declared.Searched.{Searched}
 use Rattle.words.specs.Words.{hasPlace, placeOfWords, placed}
-use Rattle.words.proofs.WordLaws.{placed-back}
+use Rattle.words.proofs.WordLaws.{Small, place-small, placed-back, setOf, sets-back}
 use Rattle.tivagyesz.specs.Exported.{SearchExport, StartExport, WriteExport, lengthAfter, placeAfter, replyCode, rowAfter, startAfter, startCode}
 use Rattle.tivagyesz.specs.Exported.{startInto, withRow, writeCode}
 use Rattle.places.proofs.Place.start.Met as start-met
@@ -60,8 +63,8 @@ open-contract : OpenContract
 open-contract M 𝓤 H A mem run spans handed r last = (refl, refl)
 
 -- Places that are made
-at-row : {row : List ℕ} {r : Place} → AtRow row r → r ≡ record { masks = row; past = false }
-at-row h = ap₂ (λ (masks : List ℕ) (past : Bool). record { masks = masks; past = past }) (h .masks) (h .here)
+at-row : {row : List NodeSet} {r : Place} → AtRow (masksIn row) r → valueOf r ≡ valueOf (record { sets = row; past = false })
+at-row h = ap₂ (λ (masks : List ℕ) (past : Bool). record { masks = masks; isPast = past }) (h .masks) (h .here)
 
 at-past : {r : Place} → AtPast r → valueOf r ≡ placeValue past
 unfolding placeValue
@@ -87,7 +90,7 @@ begins-at s r h e = go (accept s) refl h
 place-stays : {s : Bytes} {place : Place} {n : ℕ} (k : ℕ) (r : Searched) → Answers s place n r → r .answer ≡ answers.Refused k
     → valueOf (r .place) ≡ valueOf place
 place-stays {place = place} k r h e =
-    h .leaves ∙ ap (λ (a : code.Answer). left (valueOf place) (replyWith a (r .row) (valueOf (r .place)))) e
+    h .leaves ∙ ap (λ (a : code.Answer). left (valueOf place) (replyWith a (masksIn (r .row)) (valueOf (r .place)))) e
 
 words-stay : (words : List ℕ) (a : Answer PlaceValue) → 0 < startCode a → startAfter words a ≡ words
 words-stay words (got v) h = absurd (omega arith)
@@ -175,11 +178,20 @@ first-demand = record {
 }
 
 -- THE SECOND DEMAND, in Rattle and in C
+
+-- The sets of a row: its masks are small enough for them
+held : (r : Row) → (place : Place) × (valueOf place ≡ placeValue (at r))
+held r =
+    let small : Small (masksOf r) = subst (λ (v : PlaceValue). Small (v .masks)) (row-value r) (place-small (at r)) in (
+      record { sets = map setOf (masksOf r); past = false },
+      ap (λ (ms : List ℕ). record { masks = ms; isPast = false }) (sets-back (masksOf r) small) ∙ sym (row-value r),
+    )
+
 rattle-lawful : Lawful inRattle
 rattle-lawful = record {
   writes = λ s row out out′ a w. subst (λ (y : Answer ℕ). WriteCall s (valueOf row) out y out′) (sym (w .2)) (w .1 .1);
   checks = λ s text a c. c .2 ∙ c .1 .1;
-  holds = λ p r a i. (record { masks = masksOf r; past = false }, sym (row-value r));
+  holds = λ p r a i. held r;
 }
 
 c-lawful : Lawful inC
@@ -191,7 +203,7 @@ c-lawful = record {
       ∙ write-read (h .answer) n (write-numbers s (placeOfWords row) out out′ (h .answer) (h .call)) in
       subst (λ (y : Answer ℕ). WriteCall s (placeOfWords row) out y out′) (sym same) (h .call);
   checks = λ s text a (r, c, e). e ∙ ap checkAnswer (c .1) ∙ check-read (checkCall s text) (check-numbers s text);
-  holds = λ p r a i. (placed [] (placeValue (at r)), placed-back [] (placeValue (at r)) (place-long p (at r) a i));
+  holds = λ p r a i. (placed [] (placeValue (at r)), placed-back [] (placeValue (at r)) (place-long p (at r) a i) (place-small (at r)));
 }
 
 pub second-demand : SecondDemand inRattle

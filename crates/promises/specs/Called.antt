@@ -21,6 +21,7 @@ use prog.Memory.{Memory}
 use prog.Routine.{Routine}
 use prog.Wp.{Heap}
 use Rattle.meaning.specs.Basics.{Bytes}
+use Rattle.masks.specs.declared.NodeSet.{NodeSet}
 use Rattle.places.specs.declared.Place.{Place}
 use Rattle.places.specs.declared.Started.{Started}
 use Rattle.seeking.specs.declared.Searched.{Searched}
@@ -67,7 +68,7 @@ abbrev pub lent : {n : ℕ} {A : Type 0} → Lent n → ℕ → A → RefT A
 lent l k x = record { ptr = l .pointer k; name = l .name k; now = x }
 
 -- In Rattle: places and open searches are made, and handed to the calls
-abbrev pub RowAtCalled : List ℕ → Place → Type 0
+abbrev pub RowAtCalled : List NodeSet → Place → Type 0
 RowAtCalled row r = row-at.Learnt tt (row, tt) r (row, tt)
 
 abbrev pub PastLastCalled : Place → Type 0

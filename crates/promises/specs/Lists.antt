@@ -16,6 +16,7 @@ use lib.Dec.{eqb}
 use lib.ListN.{length}
 use Rattle.meaning.specs.Basics.{Bytes, choose, _∈_}
 use Rattle.meaning.specs.Calls.{allowed}
+use Rattle.masks.specs.declared.NodeSet.{NodeSet}
 use Rattle.places.specs.declared.Place.{Place}
 use Rattle.seeking.specs.declared.Answer.{Answer}
 use Rattle.seeking.specs.declared.Answer.the-variants as answers
@@ -35,8 +36,8 @@ abbrev pub CarriedRun : Bytes → Place → List CarriedCall → Type 0
 CarriedRun s place [] = Unit {0}
 CarriedRun s place (c ∷ cs) = SearchCalled s place (c .allowance) (c .gave) × CarriedRun s (c .gave .place) cs
 
-abbrev pub rowFound : Answer → List ℕ → List Place
-rowFound answers.Found row = record { masks = row; past = false } ∷ []
+abbrev pub rowFound : Answer → List NodeSet → List Place
+rowFound answers.Found row = record { sets = row; past = false } ∷ []
 rowFound answers.End row = []
 rowFound answers.Paused row = []
 rowFound (answers.Refused r) row = []

@@ -16,6 +16,7 @@ use Rattle.meaning.specs.Search as meant
 use Rattle.meaning.specs.PlaceValue.{PlaceValue, Names}
 use Rattle.meaning.specs.Entry.{HostReply, startCall, SearchCall, notAccepted, onAccepted, noAllowance, noSuchPlace, searches, WriteCall}
 use Rattle.meaning.proofs.Lists.{never, choose-true, choose-false, eqb-self, by-test, eqb-eq}
+use Rattle.masks.specs.Sets.{masksIn}
 use Rattle.places.specs.Places.{valueOf, Starts, AtRow}
 use Rattle.places.specs.declared.Place.{Place}
 use Rattle.places.specs.declared.Started.{Started}
@@ -172,11 +173,11 @@ module _ (s : Bytes) (n : ℕ) (words row : List ℕ) (from : Place) (searched :
   called = subst (λ (v : PlaceValue). SearchCall s v n (hostReply searched)) reads (h .call)
 
   number : code ≡ replyCode (withRow (hasPlace (length row)) (hostReply searched))
-  number = coded .code (searched .row) (valueOf (searched .place))
+  number = coded .code (masksIn (searched .row)) (valueOf (searched .place))
 
-  told : 256 ≤ code → Answered (searched .answer) (searched .row) (valueOf (searched .place)) (hasPlace (length row))
+  told : 256 ≤ code → Answered (searched .answer) (masksIn (searched .row)) (valueOf (searched .place)) (hasPlace (length row))
   told big =
-      answered (searched .answer) (searched .row) (valueOf (searched .place)) (hasPlace (length row)) (coded .refusal)
+      answered (searched .answer) (masksIn (searched .row)) (valueOf (searched .place)) (hasPlace (length row)) (coded .refusal)
       (omega (arith, big, number))
 
   pub search-refused : code < 256 → SearchExport s n words row words row code
@@ -192,10 +193,10 @@ module _ (s : Bytes) (n : ℕ) (words row : List ℕ) (from : Place) (searched :
   pub row-long : 256 ≤ code → placeWords ≤ length row
   row-long big = leb-true placeWords (length row) (told big .isLong)
 
-  pub search-answered : 256 ≤ code → (here : Place) (words′ row′ : List ℕ) → AtRow (searched .row) here
+  pub search-answered : 256 ≤ code → (here : Place) (words′ row′ : List ℕ) → AtRow (masksIn (searched .row)) here
       → words′ ≡ placed words (valueOf (searched .place)) → row′ ≡ rowGiven code (valueOf here) row → SearchExport s n words row words′ row′ code
   search-answered big here words′ row′ at e f =
-      let row-is : valueOf here ≡ rowValue (searched .row) =
+      let row-is : valueOf here ≡ rowValue (masksIn (searched .row)) =
       ap₂ (λ (m : List ℕ) (b : Bool). record { masks = m; isPast = b }) (at .masks) (at .here) in
       record {
         reply = hostReply searched;

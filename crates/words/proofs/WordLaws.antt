@@ -222,6 +222,20 @@ masks-back (m ∷ ms) later h =
     (take-at (wordsOf m) _ wordCount (length-words m)) (drop-at (wordsOf m) _ wordCount (length-words m))
     ∙ ap₂ {C = List ℕ} (λ x xs. x ∷ xs) (mask-back m (h .0)) (masks-back ms later (h .1))
 
+-- Every small mask is that of a set
+abbrev pub setOf : ℕ → NodeSet
+setOf m =
+    let ws = wordsOf m in
+    record { w0 = getD ws 0 0; w1 = getD ws 1 0; w2 = getD ws 2 0; w3 = getD ws 3 0 }
+
+set-back : (m : ℕ) → m < 2 ^ width → mask (setOf m) ≡ m
+unfolding mask wordsOf wordsIn
+set-back m h = mask-back m h
+
+pub sets-back : (ms : List ℕ) → Small ms → masksIn (map setOf ms) ≡ ms
+sets-back [] h = refl
+sets-back (m ∷ ms) h = ap₂ {C = List ℕ} (λ x xs. x ∷ xs) (set-back m (h .0)) (sets-back ms (h .1))
+
 pub placed-back : (words : List ℕ) (v : PlaceValue) → length (v .masks) ≡ maxFunctions → Small (v .masks) → placeOfWords (placed words v) ≡ v
 placed-back words v h small =
     let last : List ℕ = lastWord (v .isPast) ∷ drop placeWords words in

@@ -100,7 +100,8 @@ module _ (s : Bytes) (ps es ns fs : List ℕ) (a : Standing) (firsts : Firsts) (
   pub row-ready : (scratch : List ℕ) → length ps ≤ length scratch
       → fit.Ready ps′ es′ ns′ fs′ (a .occurring .functions) firsts (masksIn (row .sets)) scratch
   row-ready scratch room =
-      laid-ready p ps′ es′ ns′ fs′ (a .occurring .functions) firsts laid (ready-numbers (accept s) ps es ns fs a firsts ready) (masksIn (row .sets)) row-of scratch
+      laid-ready p ps′ es′ ns′ fs′ (a .occurring .functions) firsts laid (ready-numbers (accept s) ps es ns fs a firsts ready)
+      (masksIn (row .sets)) row-of scratch
       (omega (arith, length-take-le (a .patterns) ps (ready .laid .patternsInside), ready .laid .patternsInside))
 
   -- Which rows are solution rows, by the test of a row
@@ -178,7 +179,8 @@ module _ {ps es ns fs : List ℕ} {a : Standing} {firsts : Firsts} {row : Place}
 
   module _ (judged : Judged)
       (j : Judges
-      (judgedAt (told (take (a .expressions) ns)) (take (a .patterns) ps) (take (a .expressions) es) (take (a .faces) fs) (a .occurring .functions) firsts (masksIn (row .sets)))
+      (judgedAt (told (take (a .expressions) ns)) (take (a .patterns) ps) (take (a .expressions) es) (take (a .faces) fs)
+      (a .occurring .functions) firsts (masksIn (row .sets)))
       judged) where
     pub row-seventeen : {before : Bytes} → not (judged .solves) ≡ true → RowWritten ps es ns fs a firsts row before before (answers.Refused 17)
     row-seventeen {before} e = record {
