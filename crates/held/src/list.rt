@@ -1,5 +1,6 @@
 // A whole list of 32 calls, made by one function. What is asked for has 4 bytes for each call, its allowance; calls that are not asked for
 // are made with 0.
+use calls::ROW_WORDS;
 use calls::Ran;
 use calls::run;
 use lines::input::number_at;
@@ -7,12 +8,13 @@ use lines::output::bad;
 use lines::output::end_line;
 use lines::output::print;
 use lines::output::print_number;
-use places::Place;
 use places::Start;
 ghost use Prim.Native.Nat.{_*_, _≤_};
 ghost use lib.ListN.{length};
 
 const CALLS: usize = 32;
+
+const LAST_WORD: usize = ROW_WORDS - 1;
 
 // The allowances, at the front of the buffer.
 fn allow(asked: &[u8], allowances: &mut [u32])
@@ -39,11 +41,11 @@ fn print_ended(ended: bool) {
 fn print_rows(rows: &[u64], n: usize) {
     let mut i = 0;
     while i < rows.len() {
-        if n <= i / Place::MAX_FUNCTIONS {
+        if n <= i / ROW_WORDS {
             return;
         }
         print_number(rows[i]);
-        if i % Place::MAX_FUNCTIONS == 7 {
+        if i % ROW_WORDS == LAST_WORD {
             end_line();
         } else {
             print(b" ");
@@ -76,7 +78,7 @@ pub fn show_list(label: &[u8], problem: &[u8], asked: &[u8]) {
         return;
     }
     let mut allowances = [0u32; CALLS];
-    let mut rows = [0u64; CALLS * Place::MAX_FUNCTIONS];
+    let mut rows = [0u64; CALLS * ROW_WORDS];
     allow(asked, &mut allowances);
     let ran = run(problem, &allowances, &mut rows);
     print(label);

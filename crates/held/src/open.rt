@@ -5,6 +5,7 @@ use lines::output::bad;
 use lines::output::end_line;
 use lines::output::print;
 use lines::output::print_number;
+use masks::NodeSet;
 use matcher::Answer;
 use matcher::Moved;
 use matcher::OpenSearch;
@@ -38,11 +39,19 @@ fn call(lent: bool, kept: OpenSearch, problem: &[u8], n: u32) -> Moved {
     }
 }
 
-fn print_masks(masks: [u64; Place::MAX_FUNCTIONS]) {
+fn print_word(word: u64) {
+    print(b" ");
+    print_number(word);
+}
+
+fn print_sets(sets: [NodeSet; Place::MAX_FUNCTIONS]) {
     let mut k = 0;
     while k < Place::MAX_FUNCTIONS {
-        print(b" ");
-        print_number(masks[k]);
+        let set = sets[k];
+        print_word(set.w0);
+        print_word(set.w1);
+        print_word(set.w2);
+        print_word(set.w3);
         k += 1;
     }
 }
@@ -52,8 +61,8 @@ fn print_place(place: Place) {
     if place.past {
         print(b" past the last");
     } else {
-        let masks = place.masks;
-        print_masks(masks);
+        let sets = place.sets;
+        print_sets(sets);
     }
     end_line();
 }
@@ -68,7 +77,7 @@ fn print_reply(reply: Reply) {
         Answer::Found => {
             let row = reply.row;
             print(b"found");
-            print_masks(row);
+            print_sets(row);
         }
         Answer::End => {
             print(b"end");

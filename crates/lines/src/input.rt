@@ -3,7 +3,7 @@
 ghost use mathlib.Core.Path.{_≡_};
 ghost use Prim.Native.Nat.{_+_, _*_, _≤_};
 ghost use lib.ListN.{length};
-ghost use Rattle.lines.specs.Parts.{InLine, Placed};
+ghost use Rattle.lines.specs.Parts.{InLine, Placed, Told};
 
 // What stands from an index on.
 pub enum Part {
@@ -11,6 +11,20 @@ pub enum Part {
     Bytes(usize),
     // No pairs of digits up to another space, or more of them than there is room for.
     Missing,
+}
+
+// A line with two parts: its letter, how many bytes each part has, and where the label begins that stands after them.
+pub struct Asked {
+    pub kind: u8,
+    pub first: usize,
+    pub second: usize,
+    pub label: usize,
+}
+
+pub enum Line {
+    Asked(Asked),
+    // No letter, or no two parts.
+    Bad,
 }
 
 // Room for an input of 262,143 bytes: one fewer than the buffer, so that none is cut off.
@@ -115,6 +129,31 @@ pub fn read_part(line: &[u8], from: usize, bytes: &mut [u8]) -> Part
     }
     decode(line, from, n, bytes);
     Part::Bytes(n)
+}
+
+// A line with two parts: their bytes, at the fronts of the buffers.
+pub fn read_line(line: &[u8], first: &mut [u8], second: &mut [u8]) -> Line
+    ensures { λ r. ⌜ Told (length (now (line .entry))) (now (first .exit)) (now (second .exit)) r ⌝ }
+{
+    let letter = kind(line);
+    if letter == 0 {
+        return Line::Bad;
+    }
+    let part = read_part(line, 2, first);
+    let Part::Bytes(n) = part else {
+        return Line::Bad;
+    };
+    let from = 3 + 2 * n;
+    let other = read_part(line, from, second);
+    let Part::Bytes(m) = other else {
+        return Line::Bad;
+    };
+    Line::Asked(Asked {
+        kind: letter,
+        first: n,
+        second: m,
+        label: from + 2 * m + 1,
+    })
 }
 
 // The number in the bytes from there to there, high byte first.

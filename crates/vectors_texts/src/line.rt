@@ -1,14 +1,10 @@
 // One line of the input: its kind, its problem and its text out of their digits, and its label.
 use crate::numbered::show_numbered;
 use crate::pair::show_pair;
-use crate::written::show_written;
 use checking::Checked;
 use checking::check;
-use held::list::show_list;
-use held::open::show_held;
-use lines::input::Part;
-use lines::input::kind;
-use lines::input::read_part;
+use lines::input::Line;
+use lines::input::read_line;
 use lines::output::bad;
 use lines::output::end_line;
 use lines::output::print;
@@ -45,46 +41,25 @@ fn show_readings(label: &[u8], problem: &[u8], text: &[u8]) {
 
 fn show_input(kind: u8, label: &[u8], problem: &[u8], text: &[u8]) {
     match kind {
-        // S, C, W, N, A, L, H, R
+        // S, C, N, A
         83 => show_readings(label, problem, text),
         67 => show_checked(label, problem, text),
-        87 => show_written(label, problem, text),
         78 => show_pair(label, problem, text),
         65 => show_numbered(label, problem, text),
-        76 => show_held(true, label, problem, text),
-        72 => show_held(false, label, problem, text),
-        82 => show_list(label, problem, text),
         _ => bad(label),
     }
 }
 
-// The text stands from there on, and the label after it.
-fn show_text(kind: u8, line: &[u8], from: usize, problem: &[u8]) {
-    let mut text = [0u8; ROOM];
-    let part = read_part(line, from, &mut text);
-    let Part::Bytes(n) = part else {
-        bad(line);
-        return;
-    };
-    let label = from + 2 * n + 1;
-    show_input(kind, &line[label..], problem, &text[..n]);
-}
-
-fn show_problem(kind: u8, line: &[u8]) {
-    let mut problem = [0u8; ROOM];
-    let part = read_part(line, 2, &mut problem);
-    let Part::Bytes(n) = part else {
-        bad(line);
-        return;
-    };
-    show_text(kind, line, 3 + 2 * n, &problem[..n]);
-}
-
 pub fn show(line: &[u8]) {
-    let letter = kind(line);
-    if letter == 0 {
+    let mut problem = [0u8; ROOM];
+    let mut text = [0u8; ROOM];
+    let read = read_line(line, &mut problem, &mut text);
+    let Line::Asked(asked) = read else {
         bad(line);
         return;
-    }
-    show_problem(letter, line);
+    };
+    let p = asked.first;
+    let t = asked.second;
+    let label = asked.label;
+    show_input(asked.kind, &line[label..], &problem[..p], &text[..t]);
 }

@@ -4,17 +4,12 @@
 // where PROBLEM and TEXT are bytes, two upper-case digits for each, and one space stands between the parts. KIND is
 //     S   every solution of the problem, as document 01's program `readings` prints them, below the label; TEXT is empty
 //     C   the text is checked
-//     W   a row is written: TEXT is a place and the length of the buffer (see `written`)
 //     N   two nodes of the problem's expressions are compared: TEXT is their numbers (see `pair`)
 //     A   all nodes of the problem's expressions are numbered (see `numbered`); TEXT is empty
-//     L   an open search is lent to call after call: TEXT is what each call is handed (see `held::open`)
-//     H   the same, where it is handed over and back by value
-//     R   a list of calls, made by one function: TEXT is their allowances (see `held::list`)
 // Any other line is printed as a bad line.
 mod line;
 mod numbered;
 mod pair;
-mod written;
 
 use line::show;
 use lines::input::buffer;

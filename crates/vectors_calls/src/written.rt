@@ -1,35 +1,48 @@
-// One row written into a buffer, and how the buffer stands after it. What is asked for has 67 bytes: a place, as a mask of 8 bytes for
-// each of 8 functions and a byte that is 1 past the last and else 0; and the buffer's length, 2 bytes. Before, its bytes are all 170.
+// One row written into a buffer, and how the buffer stands after it. What is asked for has 259 bytes: a place, as a node set of four words
+// of 8 bytes for each of 8 functions and a byte that is 1 past the last and else 0; and the buffer's length, 2 bytes. Before, its bytes are
+// all 170.
 use lines::input::number_at;
 use lines::output::bad;
 use lines::output::end_line;
 use lines::output::print;
 use lines::output::print_bytes;
 use lines::output::print_number;
+use masks::NodeSet;
 use places::Place;
 use writing::write::Written;
 use writing::write::write;
 ghost use mathlib.Core.Path.{_≡_};
-ghost use Prim.Native.Nat.{_≤_};
+ghost use Prim.Native.Nat.{_+_, _≤_};
 ghost use lib.ListN.{length};
 
 const ROOM: usize = 8192;
 
 const FILL: u8 = 170;
 
-fn place_of(asked: &[u8]) -> Place
-    requires { ⌜ length (now asked) ≡ 67 ⌝ }
+// The set whose words stand from there on.
+fn set_at(asked: &[u8], from: usize) -> NodeSet
+    requires { ⌜ from + 32 ≤ length (now asked) ⌝ }
 {
-    let mut masks = [0u64; Place::MAX_FUNCTIONS];
+    NodeSet {
+        w0: number_at(asked, from, from + 8),
+        w1: number_at(asked, from + 8, from + 16),
+        w2: number_at(asked, from + 16, from + 24),
+        w3: number_at(asked, from + 24, from + 32),
+    }
+}
+
+fn place_of(asked: &[u8]) -> Place
+    requires { ⌜ length (now asked) ≡ 259 ⌝ }
+{
+    let mut sets = [NodeSet::none(); Place::MAX_FUNCTIONS];
     let mut k = 0;
     while k < Place::MAX_FUNCTIONS {
-        let from = 8 * k;
-        masks[k] = number_at(asked, from, from + 8);
+        sets[k] = set_at(asked, 32 * k);
         k += 1;
     }
     Place {
-        masks: masks,
-        past: asked[64] == 1,
+        sets: sets,
+        past: asked[256] == 1,
     }
 }
 
@@ -80,15 +93,15 @@ fn show_row(problem: &[u8], row: Place, room: usize)
 }
 
 pub fn show_written(label: &[u8], problem: &[u8], asked: &[u8]) {
-    if asked.len() != 67 {
+    if asked.len() != 259 {
         bad(label);
         return;
     }
-    if 1 < asked[64] {
+    if 1 < asked[256] {
         bad(label);
         return;
     }
-    let room = number_at(asked, 65, 67) as usize;
+    let room = number_at(asked, 257, 259) as usize;
     if ROOM < room {
         bad(label);
         return;

@@ -2,8 +2,8 @@
 use Prim.Native.Nat.{_-_}
 use lib.ListN.{length}
 use borrow.Author.Needs.{needs}
-use Rattle.vectors_texts.proofs.written.changed.Statement.{statement}
-use Rattle.vectors_texts.proofs.written.changed.Tie as tie
+use Rattle.vectors_calls.proofs.written.changed.Statement.{statement}
+use Rattle.vectors_calls.proofs.written.changed.Tie as tie
 
 abbrev Inv-loop : tie.InvT-loop
 Inv-loop buffer from i₀ i = Unit {0}

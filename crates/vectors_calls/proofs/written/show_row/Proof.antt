@@ -2,8 +2,8 @@
 use mathlib.Core.Path.{sym}
 use lib.Seq.{length-take-le}
 use borrow.Author.Needs.{needs}
-use Rattle.vectors_texts.proofs.written.show_row.Statement.{statement}
-use Rattle.vectors_texts.proofs.written.show_row.Tie as tie
+use Rattle.vectors_calls.proofs.written.show_row.Statement.{statement}
+use Rattle.vectors_calls.proofs.written.show_row.Tie as tie
 
 array-borrow-prefix-space : tie.Need-array-borrow-prefix-space
 array-borrow-prefix-space c = search needs
