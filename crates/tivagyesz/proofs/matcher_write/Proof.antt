@@ -23,7 +23,8 @@ returns : tie.Need-returns
 returns c =
     let length = c .before in
     let write = length .before .before .before .before in
-    written _ _ _ _ _ _ _ _ (write .write .result) (write .before .before .place-of .ensures) (write .write .ensures)
+    written _ _ (write .before .before .place-of .result) _ _ _ _ _ (write .write .result)
+    (write .before .before .place-of .ensures) (write .write .ensures)
     (length .give-length .ensures) (c .write-code .ensures)
 
 pub matcher-write-spec : {M : Type 1} → statement M
