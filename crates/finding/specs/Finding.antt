@@ -8,7 +8,6 @@ use Rattle.meaning.specs.Entry.{WriteCall}
 use Rattle.masks.specs.Sets.{masksIn}
 use Rattle.places.specs.declared.Place.{Place}
 use Rattle.seeking.specs.declared.Answer.the-variants as answers
-use Rattle.masks.specs.Sets.{masksIn}
 use Rattle.search.specs.Calling.{Answers, rowValue}
 use Rattle.finding.specs.declared.Finding.{Finding}
 

@@ -150,7 +150,8 @@ module _ {k : ℕ} (then : Listing) where
   ended : then .over ≡ true → k ≤ 1000 → (left then < 1001 - k) × (then .over ≡ false → then .count ≤ 1000)
   ended o few = (omega (arith, choose-true 0 (1001 - then .count) o), λ goesOn. absurd (false≢true (sym goesOn ∙ o)))
 
-  fewer-left : {s x : Bytes} {place : PlaceValue} → LineOf s place k x then → k ≤ 1000 → (left then < 1001 - k) × (then .over ≡ false → then .count ≤ 1000)
+  fewer-left : {s x : Bytes} {place : PlaceValue} → LineOf s place k x then → k ≤ 1000
+      → (left then < 1001 - k) × (then .over ≡ false → then .count ≤ 1000)
   unfolding mostPrinted
   fewer-left (line.solution p e call r named few goes) h =
       (omega (arith, choose-false 0 (1001 - then .count) (goes .goesOn), goes .count), λ goesOn. omega (arith, goes .count))

@@ -44,9 +44,11 @@ returns-3 : tie.Need-returns-3
 returns-3 c =
     let write = c .before .before .before .before in
     let told = write .before .before .before .before in
+    let known = told .before .before .before .before in
+    let start = known .before in
     never-refused (told .before .before .search .ensures) (told .enum-told .given .1) (write .before .before .at .ensures)
     (write .write .result) (c .enum-told2 .given .1)
-    (are-bytes (told .before .before .before .before .before .args .problem .now) (λ i. omega (arith, told .before .before .before .before .shared-slice-known .given i))) (told .before .before .before .before .before .pre) (write .write .ensures)
+    (are-bytes (start .args .problem .now) (λ i. omega (arith, known .shared-slice-known .given i))) (start .pre) (write .write .ensures)
 
 pub find-spec : {M : Type 1} → statement M
 find-spec =

@@ -37,7 +37,8 @@ returns c = row-seventeen _ (c .before .before .before .before .judge .ensures) 
 
 slice-aggregate-write-text : tie.Need-slice-aggregate-write-text
 slice-aggregate-write-text c =
-    let start = c .before .before .before .before .before .before .before .before .before .before .before .before .before .before .before .before .before .before .before .before .before in
+    let judge = c .before .before .before .before .before .before .before in
+    let start = judge .before .before .before .before .before .before .before .before .before .before .before .before .before .before in
     sym (length-take-le _ _ (start .pre .callable .ready .laid .expressionsInside))
 
 write-text-requires : tie.Need-write-text-requires
