@@ -13,7 +13,6 @@ use rows::next_row;
 use table::TABLE_ROOM;
 ghost use mathlib.Core.Path.{_≡_};
 ghost use mathlib.Core.Bool.{true};
-ghost use Rattle.meaning.specs.Basics.{_∈_};
 ghost use Rattle.meaning.specs.Search.{at, placeOf};
 ghost use Rattle.masks.specs.Sets.{masksIn};
 ghost use Rattle.rows.specs.Rows.{Faced, rowsOf};

@@ -55,7 +55,8 @@ slice-aggregate-count-2 c = sym (length-take-le _ _ (both (c .before .before .be
 count-requires : tie.Need-count-requires
 count-requires c κs =
     let v = c .before .before .before in
-    steppable _ _ _ _ _ _ (v .before .before .before .before .before .before .before .prepare .ensures) (v .verdict .given .0 .0) (v .verdict .given .1)
+    steppable _ _ _ _ _ _ (v .before .before .before .before .before .before .before .prepare .ensures)
+    (v .verdict .given .0 .0) (v .verdict .given .1)
 
 returns : tie.Need-returns
 returns c = search needs

@@ -1,5 +1,6 @@
 -- `read_line`: the digits of both parts lie in the line, and their bytes in the buffers.
-use Prim.Native.Nat.{_+_, _*_, _<_}
+use mathlib.Core.List.{List}
+use Prim.Native.Nat.{ℕ, _+_, _*_, _<_}
 use native.Mathlib.Omega.{arith}
 use lib.ListN.{length}
 use borrow.Author.Needs.{needs}
@@ -8,16 +9,27 @@ use Rattle.lines.proofs.PartLaws.{found}
 use Rattle.lines.proofs.input.read_line.Statement.{statement}
 use Rattle.lines.proofs.input.read_line.Tie as tie
 
--- The parts that are read, and the buffers after the calls
-found-first : (c : tie.After-known-told)
-    → (2 + 2 * c .before .part .given .0 .0 < length (c .before .before .before .before .before .before .before .before .before .before .before .before .args .line .now))
-    × Counts (c .before .part .given .0 .0) (c .before .before .before .before .before .read-part .last .1 .1 .0)
-found-first c = found _ _ _ (c .before .part .given .1) (c .before .before .before .before .before .read-part .ensures)
+-- After the first part is read: how many bytes it has, and the line
+module _ (c : tie.After-known-told) where
+  abbrev n : ℕ
+  n = c .before .part .given .0 .0
 
-found-second : (c : tie.After-known-told2)
-    → (3 + 2 * c .before .before .before .before .before .before .before .before .part .given .0 .0 + 2 * c .before .other .given .0 .0 < length (c .before .before .before .before .before .before .before .before .before .before .before .before .before .before .before .before .before .before .before .args .line .now))
-    × Counts (c .before .other .given .0 .0) (c .before .before .before .before .before .read-part2 .last .1 .1 .0)
-found-second c = found _ _ _ (c .before .other .given .1) (c .before .before .before .before .before .read-part2 .ensures)
+  abbrev line : List ℕ
+  line = c .before .before .before .before .before .before .before .before .before .before .before .before .args .line .now
+
+  first-part : (2 + 2 * n < length line) × Counts n (c .before .before .before .before .before .read-part .last .1 .1 .0)
+  first-part = found _ _ _ (c .before .part .given .1) (c .before .before .before .before .before .read-part .ensures)
+
+-- After the second
+module _ (c : tie.After-known-told2) where
+  abbrev before : tie.After-known-told
+  before = c .before .before .before .before .before .before .before
+
+  abbrev m : ℕ
+  m = c .before .other .given .0 .0
+
+  second-part : (3 + 2 * n before + 2 * m < length (line before)) × Counts m (c .before .before .before .before .before .read-part2 .last .1 .1 .0)
+  second-part = found _ _ _ (c .before .other .given .1) (c .before .before .before .before .before .read-part2 .ensures)
 
 kind-requires : tie.Need-kind-requires
 kind-requires c κs = search needs
@@ -41,10 +53,10 @@ returns-2 : tie.Need-returns-2
 returns-2 c = search needs
 
 mul-from : tie.Need-mul-from
-mul-from c = omega (arith, found-first c .0)
+mul-from c = omega (arith, first-part c .0)
 
 add-from : tie.Need-add-from
-add-from c = omega (arith, found-first c .0)
+add-from c = omega (arith, first-part c .0)
 
 read-part-requires-2 : tie.Need-read-part-requires-2
 read-part-requires-2 c κs = search needs
@@ -65,13 +77,13 @@ returns-3 : tie.Need-returns-3
 returns-3 c = search needs
 
 mul-t13 : tie.Need-mul-t13
-mul-t13 c = omega (arith, found-second c .0)
+mul-t13 c = omega (arith, second-part c .0)
 
 add-t16 : tie.Need-add-t16
-add-t16 c = omega (arith, found-second c .0)
+add-t16 c = omega (arith, second-part c .0)
 
 add-t17 : tie.Need-add-t17
-add-t17 c = omega (arith, found-second c .0)
+add-t17 c = omega (arith, second-part c .0)
 
 same-length-4 : tie.Need-same-length-4
 same-length-4 c = search needs
@@ -80,7 +92,7 @@ same-length-5 : tie.Need-same-length-5
 same-length-5 c = search needs
 
 returns-4 : tie.Need-returns-4
-returns-4 c = (omega (arith, found-second c .0), found-first (c .before .before .before .before .before .before .before) .1, found-second c .1)
+returns-4 c = (omega (arith, second-part c .0), first-part (before c) .1, second-part c .1)
 
 pub read-line-spec : {M : Type 1} → statement M
 read-line-spec =

@@ -1,5 +1,6 @@
 -- `show`: both parts lie in the line, and their bytes in the buffers.
-use Prim.Native.Nat.{_≤_}
+use mathlib.Core.List.{List}
+use Prim.Native.Nat.{ℕ, _≤_}
 use native.Mathlib.Omega.{arith}
 use lib.ListN.{length}
 use borrow.Author.Needs.{needs}
@@ -14,8 +15,13 @@ module _ (c : tie.After-known-told) where
   abbrev asked : Asked
   asked = c .before .read .given .0 .0
 
-  parts : (asked .label ≤ length (c .before .before .before .before .before .before .before .before .before .args .line .now)) × Counts (asked .first) (c .before .before .before .before .before .read-line .last .1 .0)
-      × Counts (asked .second) (c .before .before .before .before .before .read-line .last .1 .1 .0)
+  abbrev line : List ℕ
+  line = c .before .before .before .before .before .before .before .before .before .args .line .now
+
+  abbrev left : List ℕ × List ℕ
+  left = let last = c .before .before .before .before .before .read-line .last .1 in (last .0, last .1 .0)
+
+  parts : (asked .label ≤ length line) × Counts (asked .first) (left .0) × Counts (asked .second) (left .1)
   parts = told _ _ _ (c .before .read .given .1) (c .before .before .before .before .before .read-line .ensures)
 
 slice-aggregate-read-line : tie.Need-slice-aggregate-read-line
