@@ -6,7 +6,7 @@ use Prim.Native.Nat.{ℕ, zero, suc, _+_, _-_, _*_, _/_, _%_, _^_, _≤_, _<_, m
 use native.Mathlib.Nat.{one-mul, mod-eq-of-lt}
 use native.Mathlib.Omega.{arith}
 use lib.ListN.{length, getD, set, length-set, length-replicate, getD-replicate}
-use lib.Seq.{ext-getD, set-out, set-getD}
+use lib.Seq.{ext-getD, set-getD}
 use lib.Pow.{pow-lt}
 use lib.Bits.{bitAnd, bitOr, and-step, or-step, and-shr, or-shr, and-le-l}
 use Rattle.masks.specs.Mask.{odd, marks, value, bit, first, In, empty, join, leave, only, Sub}
@@ -92,9 +92,6 @@ value-only (suc w) (suc k) h =
     let e : w - suc k ≡ suc w - suc (suc k) = omega arith in
     value-only w k (omega arith) ∙ ap (λ (x : ℕ). 2 ^ x) e
 
-pub value-only-past : (w k : ℕ) → w ≤ k → value (only w k) ≡ 0
-value-only-past w k h = ap value (set-out (empty w) k true (omega (arith, length-replicate w false))) ∙ value-empty w
-
 set-or : (l : List Bool) (k j : ℕ) → j < length l → getD l j false || getD (only (length l) k) j false ≡ getD (set l k true) j false
 set-or [] k j h = absurd (omega arith)
 set-or (b ∷ l) zero zero h = or-true b
@@ -156,16 +153,6 @@ unfolding leave
 leave-none l k e = sym (ap (set l k) (sym e) ∙ set-getD l k false)
 
 -- ---- a submask node by node
-
-pub sub-nodes : (w m d : ℕ) → Sub m d → (k : ℕ) → In (marks w m) k → In (marks w d) k
-unfolding Sub
-sub-nodes w m d h k i =
-    and-same (getD (marks w m) k false) (getD (marks w d) k false)
-    (sym (marks-and-at w m d k (in-width w m k i)) ∙ ap (λ (x : ℕ). getD (marks w x) k false) h) i
-  where
-    and-same : (t u : Bool) → t && u ≡ t → t ≡ true → u ≡ true
-    and-same true u e h = e
-    and-same false u e h = absurd (false≢true h)
 
 pub nodes-sub : (w m d : ℕ) → m < 2 ^ w → ((k : ℕ) → In (marks w m) k → In (marks w d) k) → Sub m d
 unfolding Sub

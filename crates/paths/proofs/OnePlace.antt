@@ -191,9 +191,6 @@ clear-last n ls s (x ∷ xs) (none ∷ ms) h =
 clear-last n ls s (x ∷ xs) (some q ∷ ms) h = let e : _≡_ {A = Mark} (some q) none = h 0 (some q) (omega arith) refl in never (cc)
 
 -- NO PATH COMES AFTER THE ONE WITHOUT HOLES
-pub none-next : (xs : List Node) (ms : Marks) → ClearFrom ms 0 → nextPath (unset 1) xs ms ≡ none
-none-next xs ms h = clear-last 1 (marksOf 1) (unset 1) xs ms h
-
 -- The class that the place has from its marks before node i on, where it had class c
 record ClassTo (c : Option ℕ) (xs : List Node) (ms : Marks) (i : ℕ) (d : Option ℕ) : Type 0 where
   clear : ClearTo ms i → d ≡ c

@@ -1,7 +1,6 @@
 -- `first_of`: the first choice of the face, or none.
 use borrow.Author.Needs.{needs}
 use native.Mathlib.Omega.{arith}
-use Prim.Native.Nat.{_-_}
 use Rattle.meaning.specs.Limits.{maxFunctions}
 use Rattle.rows.proofs.RowLaws.{first-here, first-none}
 use Rattle.rows.proofs.first_of.Statement.{statement}

@@ -1,7 +1,6 @@
 -- `is_choice_of`: a choice of the face, or none.
 use borrow.Author.Needs.{needs}
 use native.Mathlib.Omega.{arith}
-use Prim.Native.Nat.{_-_}
 use mathlib.Core.Path.{sym, _∙_}
 use Rattle.meaning.specs.Limits.{maxFunctions}
 use Rattle.masks.specs.Sets.{mask}

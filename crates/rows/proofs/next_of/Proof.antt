@@ -1,6 +1,5 @@
 -- `next_of`: the next choice of the face.
 use native.Mathlib.Omega.{arith}
-use Prim.Native.Nat.{_-_}
 use Rattle.meaning.specs.Limits.{maxFunctions}
 use Rattle.masks.specs.Sets.{mask}
 use Rattle.rows.proofs.RowLaws.{there, there-choice, next-here}
