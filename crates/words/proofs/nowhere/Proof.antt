@@ -4,7 +4,6 @@ use Rattle.meaning.specs.Limits.{maxFunctions}
 use Rattle.masks.specs.Mask.{marks, value}
 use Rattle.masks.specs.Sets.{marksIn, mask}
 use Rattle.words.specs.Words.{nowhere}
-use borrow.Author.Needs.{needs}
 use Rattle.words.proofs.nowhere.Statement.{statement}
 use Rattle.words.proofs.nowhere.Tie as tie
 
