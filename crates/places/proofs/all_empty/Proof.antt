@@ -20,6 +20,7 @@ abbrev μ-loop : tie.MeasureT-loop
 μ-loop sets k₀ k = maxFunctions - k
 
 loop-holds : tie.Need-loop-holds Inv-loop μ-loop
+unfolding maxFunctions
 loop-holds c = (omega arith, λ j h. absurd (omega arith))
 
 mul-is-empty : tie.Need-mul-is-empty Inv-loop μ-loop
