@@ -65,7 +65,8 @@ module _ (v : Place) (hasRows : Bool) (es ns : List ℕ) (firsts : Firsts) where
   tells-no-row e n = (λ r. n (r .member), λ q. false≢true (sym e ∙ q .past))
 
 -- The answers of `first`
-pub begins-row : (hasRows : Bool) (es ns : List ℕ) (firsts : Firsts) (row : MaskRow) (r : Place) → hasRows ≡ true → placeOf (rowsOf es ns firsts) ≡ at row → AtRow row r
+pub begins-row : (hasRows : Bool) (es ns : List ℕ) (firsts : Firsts) (row : MaskRow) (r : Place) → hasRows ≡ true
+    → placeOf (rowsOf es ns firsts) ≡ at row → AtRow row r
     → Begins hasRows es ns firsts r
 unfolding Begins
 begins-row true es ns firsts row r e p h = (row, p, h)

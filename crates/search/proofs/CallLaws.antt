@@ -95,7 +95,8 @@ place-back v next c e = go (v .past) refl next e
     go true q past e =
         same-value v (record { masks = replicate maxFunctions 0; isPast = true }) (c q) q ∙ sym past-value
     go false q (at r) e =
-        let z : _≡_ {A = Place MaskRow} (at (masksIn (v .sets))) (at (masksOf r)) = ap (λ (x : Bool). choose x past (at (masksIn (v .sets)))) (sym q) ∙ e in
+        let z : _≡_ {A = Place MaskRow} (at (masksIn (v .sets))) (at (masksOf r)) =
+        ap (λ (x : Bool). choose x past (at (masksIn (v .sets)))) (sym q) ∙ e in
         let m : masksIn (v .sets) ≡ masksOf r = cc in
         same-value v (record { masks = masksOf r; isPast = false }) m q ∙ sym (row-value r)
     go false q past e = never (let z = ap (λ (x : Bool). choose x past (at (masksIn (v .sets)))) (sym q) ∙ e in cc)

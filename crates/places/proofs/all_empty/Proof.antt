@@ -20,6 +20,7 @@ abbrev μ-loop : tie.MeasureT-loop
 μ-loop sets k₀ k = maxFunctions - k
 
 loop-holds : tie.Need-loop-holds Inv-loop μ-loop
+unfolding maxFunctions
 loop-holds c = (omega arith, λ j h. absurd (omega arith))
 
 mul-is-empty : tie.Need-mul-is-empty Inv-loop μ-loop
@@ -32,10 +33,12 @@ is-empty-requires : tie.Need-is-empty-requires Inv-loop μ-loop
 is-empty-requires c κs = search needs
 
 returns : tie.Need-returns Inv-loop μ-loop
-returns c = (
-  λ e. absurd (false≢true e),
-  λ e. absurd (filled-at (c .before .before .before .before .before .args .t1) (c .before .before .before .before .loop .k) _ (c .before .is-empty .ensures) maxFunctions (not-true _ (c .if1 .taken)) e),
-)
+returns c =
+    let sets = c .before .before .before .before .before .args .t1 in
+    let at = c .before .before .before .before .loop in (
+      λ e. absurd (false≢true e),
+      λ e. absurd (filled-at sets (at .k) _ (c .before .is-empty .ensures) maxFunctions (not-true _ (c .if1 .taken)) e),
+    )
 
 add-k : tie.Need-add-k Inv-loop μ-loop
 add-k c = search needs
@@ -47,8 +50,9 @@ loop-less c = omega arith
 loop-again : tie.Need-loop-again Inv-loop μ-loop
 unfolding maxFunctions
 loop-again c =
+    let sets = c .before .before .before .before .before .args .t1 in
     let at = c .before .before .before .before .loop in
-    (omega arith, below-more _ _ (at .inv .1) (empty-at (c .before .before .before .before .before .args .t1) (at .k) _ (c .before .is-empty .ensures) (not-false _ (c .if1 .left))))
+    (omega arith, below-more _ _ (at .inv .1) (empty-at sets (at .k) _ (c .before .is-empty .ensures) (not-false _ (c .if1 .left))))
 
 returns-2 : tie.Need-returns-2 Inv-loop μ-loop
 unfolding maxFunctions

@@ -60,17 +60,20 @@ slice-aggregate-first-2 c = let v = c .before .before .before in sym (length-tak
 first-requires : tie.Need-first-requires
 first-requires c κs =
     let v = c .before .before .before in
-    starts-open _ _ _ _ _ _ (v .before .before .before .before .before .before .before .prepare .ensures) (v .verdict2 .given .0 .0) (v .verdict2 .given .1)
+    let prepared = v .before .before .before .before .before .before .before .prepare in
+    starts-open _ _ _ _ _ _ (prepared .ensures) (v .verdict2 .given .0 .0) (v .verdict2 .given .1)
 
 returns : tie.Need-returns
 returns c =
     let v = c .before .before in
-    starts-refused _ _ _ _ _ _ (v .before .before .before .before .before .before .before .prepare .ensures) _ _ (v .verdict .given .1) refl
+    let prepared = v .before .before .before .before .before .before .before .prepare in
+    starts-refused _ _ _ _ _ _ (prepared .ensures) _ _ (v .verdict .given .1) refl
 
 returns-2 : tie.Need-returns-2
 returns-2 c =
     let v = c .before .before .before .before in
-    starts-begins _ _ _ _ _ _ (v .before .before .before .before .before .before .before .prepare .ensures) (v .verdict2 .given .0 .0) (v .verdict2 .given .1) _ refl (c .first .ensures)
+    let prepared = v .before .before .before .before .before .before .before .prepare in
+    starts-begins _ _ _ _ _ _ (prepared .ensures) (v .verdict2 .given .0 .0) (v .verdict2 .given .1) _ refl (c .first .ensures)
 
 pub start-spec : {M : Type 1} → statement M
 start-spec =

@@ -14,10 +14,14 @@ returns : tie.Need-returns
 returns c = placed-zero _ _ _ _ _ _ _ _ _ (c .before .if1 .taken) (c .refused .ensures)
 
 slice-aggregate-named-by : tie.Need-slice-aggregate-named-by
-slice-aggregate-named-by c = sym (length-take-le _ _ (c .before .before .before .before .before .before .before .pre .ready .laid .expressionsInside))
+slice-aggregate-named-by c =
+    let s = c .before .before .before .before .before .before .before in
+    sym (length-take-le _ _ (s .pre .ready .laid .expressionsInside))
 
 slice-aggregate-named-by-2 : tie.Need-slice-aggregate-named-by-2
-slice-aggregate-named-by-2 c = sym (length-take-le _ _ (c .before .before .before .before .before .before .before .before .pre .ready .tabled .numbersInside))
+slice-aggregate-named-by-2 c =
+    let s = c .before .before .before .before .before .before .before .before in
+    sym (length-take-le _ _ (s .pre .ready .tabled .numbersInside))
 
 named-by-requires : tie.Need-named-by-requires
 named-by-requires c κs = callable-open _ _ _ _ _ _ _ (c .before .before .before .before .before .before .before .before .pre)
@@ -58,8 +62,9 @@ same-length c = search needs
 
 returns-4 : tie.Need-returns-4
 returns-4 c =
+    let told = c .before .before .before .before in
     placed-row _ _ _ _ _ _ _ _ _ (c .before .before .before .before .before .before .before .before .before .if1 .left)
-    (subst (Tells _ _ _ _ _) (c .before .before .before .before .enum-told3 .given .1) (c .before .before .before .before .before .before .named-by .ensures)) (c .before .before .from-row .ensures)
+    (subst (Tells _ _ _ _ _) (told .enum-told3 .given .1) (told .before .before .named-by .ensures)) (c .before .before .from-row .ensures)
 
 pub from-place-spec : {M : Type 1} → statement M
 from-place-spec =

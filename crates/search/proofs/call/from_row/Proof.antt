@@ -7,25 +7,39 @@ use Rattle.search.proofs.call.from_row.Statement.{statement}
 use Rattle.search.proofs.call.from_row.Tie as tie
 
 slice-aggregate-first-row : tie.Need-slice-aggregate-first-row
-slice-aggregate-first-row c = sym (length-take-le _ _ (c .before .before .before .before .before .before .pre .0 .ready .laid .expressionsInside))
+slice-aggregate-first-row c =
+    let s = c .before .before .before .before .before .before in
+    sym (length-take-le _ _ (s .pre .0 .ready .laid .expressionsInside))
 
 slice-aggregate-first-row-2 : tie.Need-slice-aggregate-first-row-2
-slice-aggregate-first-row-2 c = sym (length-take-le _ _ (c .before .before .before .before .before .before .before .pre .0 .ready .tabled .numbersInside))
+slice-aggregate-first-row-2 c =
+    let s = c .before .before .before .before .before .before .before in
+    sym (length-take-le _ _ (s .pre .0 .ready .tabled .numbersInside))
 
 first-row-requires : tie.Need-first-row-requires
-first-row-requires c κs = let s = c .before .before .before .before .before .before .before in callable-open _ _ _ _ _ _ _ (s .pre .0) (s .pre .1 .someRows)
+first-row-requires c κs =
+    let s = c .before .before .before .before .before .before .before in
+    callable-open _ _ _ _ _ _ _ (s .pre .0) (s .pre .1 .someRows)
 
 slice-aggregate-seek : tie.Need-slice-aggregate-seek
-slice-aggregate-seek c = sym (length-take-le _ _ (c .before .before .before .before .before .before .before .before .before .before .pre .0 .ready .laid .patternsInside))
+slice-aggregate-seek c =
+    let s = c .before .before .before .before .before .before .before .before .before .before in
+    sym (length-take-le _ _ (s .pre .0 .ready .laid .patternsInside))
 
 slice-aggregate-seek-2 : tie.Need-slice-aggregate-seek-2
-slice-aggregate-seek-2 c = sym (length-take-le _ _ (c .before .before .before .before .before .before .before .before .before .before .before .pre .0 .ready .laid .expressionsInside))
+slice-aggregate-seek-2 c =
+    let s = c .before .before .before .before .before .before .before .before .before .before .before in
+    sym (length-take-le _ _ (s .pre .0 .ready .laid .expressionsInside))
 
 slice-aggregate-seek-3 : tie.Need-slice-aggregate-seek-3
-slice-aggregate-seek-3 c = sym (length-take-le _ _ (c .before .before .before .before .before .before .before .before .before .before .before .before .pre .0 .ready .tabled .numbersInside))
+slice-aggregate-seek-3 c =
+    let s = c .before .before .before .before .before .before .before .before .before .before .before .before in
+    sym (length-take-le _ _ (s .pre .0 .ready .tabled .numbersInside))
 
 slice-aggregate-seek-4 : tie.Need-slice-aggregate-seek-4
-slice-aggregate-seek-4 c = sym (length-take-le _ _ (c .before .before .before .before .before .before .before .before .before .before .before .before .before .pre .0 .ready .laid .facesInside))
+slice-aggregate-seek-4 c =
+    let s = c .before .before .before .before .before .before .before .before .before .before .before .before .before in
+    sym (length-take-le _ _ (s .pre .0 .ready .laid .facesInside))
 
 seek-requires : tie.Need-seek-requires
 seek-requires c κs =

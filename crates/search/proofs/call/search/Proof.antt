@@ -47,17 +47,20 @@ slice-aggregate-from-place-5 c = search needs
 from-place-requires : tie.Need-from-place-requires
 from-place-requires c κs =
     let v = c .before .before .before .before .before .before in
-    prepared-callable _ _ _ _ _ _ _ _ (v .before .before .before .before .before .before .before .prepare .ensures) (v .verdict2 .given .1) (search needs)
+    let prepared = v .before .before .before .before .before .before .before .prepare in
+    prepared-callable _ _ _ _ _ _ _ _ (prepared .ensures) (v .verdict2 .given .1) (search needs)
 
 returns : tie.Need-returns
 returns c =
     let v = c .before .before in
-    search-refused _ _ _ _ _ _ _ _ _ _ (v .before .before .before .before .before .before .before .prepare .ensures) (v .verdict .given .1) (c .refused .ensures)
+    let prepared = v .before .before .before .before .before .before .before .prepare in
+    search-refused _ _ _ _ _ _ _ _ _ _ (prepared .ensures) (v .verdict .given .1) (c .refused .ensures)
 
 returns-2 : tie.Need-returns-2
 returns-2 c =
     let v = c .before .before .before .before .before .before .before .before in
-    search-accepted _ _ _ _ _ _ _ _ _ _ (v .before .before .before .before .before .before .before .prepare .ensures) (v .verdict2 .given .1) (c .before .from-place .ensures)
+    let prepared = v .before .before .before .before .before .before .before .prepare in
+    search-accepted _ _ _ _ _ _ _ _ _ _ (prepared .ensures) (v .verdict2 .given .1) (c .before .from-place .ensures)
 
 pub search-spec : {M : Type 1} → statement M
 search-spec =
