@@ -89,6 +89,14 @@ has-node s k h =
     sym (word-has (words s) (k / 64) (k % 64) (omega arith) (omega arith))
     ∙ ap₂ (λ (l : List Bool) (n : ℕ). getD l n false) (sym (nodes-words s)) (split-node k)
 
+-- A node of the first word
+pub has-first : (s : NodeSet) (k : ℕ) → k < wordNodes → getD (marks wordNodes (s .w0)) k false ≡ getD (nodes s) k false
+unfolding marksIn
+has-first s k h =
+    sym
+    (ap (λ (l : List Bool). getD l k false) (nodes-words s)
+    ∙ List·getD-append (marks wordNodes (s .w0)) _ false k (omega (arith, length-marks wordNodes (s .w0))))
+
 pub set-node : (s r : NodeSet) (k w : ℕ) (b : Bool) → k < width → words r ≡ set (words s) (k / 64) w
     → marks wordNodes w ≡ set (marks wordNodes (getD (words s) (k / 64) 0)) (k % 64) b → nodes r ≡ set (nodes s) k b
 unfolding width

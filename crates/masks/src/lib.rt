@@ -119,6 +119,10 @@ impl NodeSet {
     pub fn has(self, k: usize) -> bool
         ensures { λ r. ⌜ r ≡ getD (nodes self) k false ⌝ }
     {
+        // Asked of every node of a face in every row, and most faces have no more nodes than a word.
+        if k < WORD {
+            return in_word(self.w0, k);
+        }
         if k < NodeSet::ROOM {
             return in_word(self.word(k / WORD), k % WORD);
         }
