@@ -89,8 +89,8 @@ pub fn first_row(es: &[u64], ns: &[u64], firsts: Firsts) -> [NodeSet; MAX_FUNCTI
 }
 
 // The row after `row`, or that it is the last: the last function with a choice left takes its next one, and the later ones begin
-// again. Functions that are not there have one choice, and are passed over. The first row is lent so that beginning again costs nothing: a call that makes many steps computes it once for itself. It is
-// never kept with a place, since what a host hands in may be any bytes.
+// again. Functions that are not there have one choice, and are passed over. The first row is lent so that beginning again costs nothing: a
+// call that makes many steps computes it once for itself. It is never kept with a place, since what a host hands in may be any bytes.
 pub fn next_row(
     es: &[u64],
     ns: &[u64],

@@ -26,7 +26,10 @@ size-requires c κs = search needs
 loop-holds : tie.Need-loop-holds Inv-loop μ-loop
 loop-holds c =
     let s = c .before .before .before .before in
-    (omega arith, omega (arith, c .size .ensures, s .pre .2), filling-begun (s .args .ns .now) (s .args .es .now) (s .args .root) _ _ _)
+    let ns = s .args .ns .now in
+    let es = s .args .es .now in
+    let root = s .args .root in
+    (omega arith, omega (arith, c .size .ensures, s .pre .2), filling-begun ns es root _ _ _)
 
 opens-requires : tie.Need-opens-requires Inv-loop μ-loop
 opens-requires c κs =
@@ -50,14 +53,19 @@ loop-less c = search needs
 loop-again : tie.Need-loop-again Inv-loop μ-loop
 loop-again c =
     let s = c .before .before .before .before .before .before .before .before .before .before in
+    let ns = s .args .ns .now in
+    let es = s .args .es .now in
+    let root = s .args .root in
     let at = c .before .before .before .before .before .loop in
-    let inside : at .i < sizeFrom (s .args .es .now) (s .args .root) = omega (arith, c .before .before .before .before .before .before .size .ensures) in
+    let size = c .before .before .before .before .before .before .size .ensures in
+    let inside : at .i < sizeFrom es root = omega (arith, size) in
     let one : suc (at .i) ≡ at .i + 1 = omega arith in (
       omega (arith, at .inv .0),
       omega arith,
-      subst (Filling (s .args .ns .now) (s .args .es .now) (s .args .root) (s .args .set) (s .args .walk) (s .args .from) _ _) one
-          (filling-opened (s .args .ns .now) (s .args .es .now) (s .args .root) (s .args .set) (s .args .walk) (s .args .from) (s .pre .0 .fits)
-          (at .filled) (at .at) (at .i) inside _ _ (at .inv .2) (sym (c .before .before .before .opens .ensures) ∙ c .before .before .if1 .taken) (c .before .with .ensures) (c .holed .ensures)),
+      subst (Filling ns es root (s .args .set) (s .args .walk) (s .args .from) _ _) one
+          (filling-opened ns es root (s .args .set) (s .args .walk) (s .args .from) (s .pre .0 .fits)
+          (at .filled) (at .at) (at .i) inside _ _ (at .inv .2) (sym (c .before .before .before .opens .ensures) ∙ c .before .before .if1 .taken)
+          (c .before .with .ensures) (c .holed .ensures)),
     )
 
 add-i-2 : tie.Need-add-i-2 Inv-loop μ-loop
@@ -69,21 +77,28 @@ loop-less-2 c = search needs
 loop-again-2 : tie.Need-loop-again-2 Inv-loop μ-loop
 loop-again-2 c =
     let s = c .before .before .before .before .before .before .before .before in
+    let ns = s .args .ns .now in
+    let es = s .args .es .now in
+    let root = s .args .root in
     let at = c .before .before .before .loop in
-    let inside : at .i < sizeFrom (s .args .es .now) (s .args .root) = omega (arith, c .before .before .before .before .size .ensures) in
+    let size = c .before .before .before .before .size .ensures in
+    let inside : at .i < sizeFrom es root = omega (arith, size) in
     let one : suc (at .i) ≡ at .i + 1 = omega arith in (
       omega (arith, at .inv .0),
       omega arith,
-      subst (Filling (s .args .ns .now) (s .args .es .now) (s .args .root) (s .args .set) (s .args .walk) (s .args .from) _ _) one
-          (filling-passed (s .args .ns .now) (s .args .es .now) (s .args .root) (s .args .set) (s .args .walk) (s .args .from) (s .pre .0 .fits)
+      subst (Filling ns es root (s .args .set) (s .args .walk) (s .args .from) _ _) one
+          (filling-passed ns es root (s .args .set) (s .args .walk) (s .args .from) (s .pre .0 .fits)
           (at .filled) (at .at) (at .i) inside (at .inv .2) (sym (c .before .opens .ensures) ∙ c .if1 .left)),
     )
 
 returns : tie.Need-returns Inv-loop μ-loop
 returns c =
     let s = c .before .before .before .before .before .before in
+    let ns = s .args .ns .now in
+    let es = s .args .es .now in
+    let root = s .args .root in
     let at = c .before .loop in
-    filling-done (s .args .ns .now) (s .args .es .now) (s .args .root) (s .args .set) (s .args .walk) (s .args .from) (s .pre .0 .fits)
+    filling-done ns es root (s .args .set) (s .args .walk) (s .args .from) (s .pre .0 .fits)
     (at .filled) (at .at) (at .i) (omega (arith, c .before .before .size .ensures)) (at .inv .2)
 
 pub fill-spec : {M : Type 1} → statement M

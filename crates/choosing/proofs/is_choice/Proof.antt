@@ -12,7 +12,8 @@ use Rattle.choosing.proofs.is_choice.Statement.{statement}
 use Rattle.choosing.proofs.is_choice.Tie as tie
 
 abbrev Inv-loop : tie.InvT-loop
-Inv-loop es ns root set n walk₀ met₀ i₀ walk met i = (i ≤ n) × (met ≤ i) × ((fits : sizeFrom es root ≤ maxFaceNodes) → Tested ns es root fits set walk met i)
+Inv-loop es ns root set n walk₀ met₀ i₀ walk met i =
+    (i ≤ n) × (met ≤ i) × ((fits : sizeFrom es root ≤ maxFaceNodes) → Tested ns es root fits set walk met i)
 
 abbrev μ-loop : tie.MeasureT-loop
 μ-loop es ns root set n walk₀ met₀ i₀ walk met i = n - i
@@ -32,7 +33,10 @@ begun-requires c κs = search needs
 loop-holds : tie.Need-loop-holds Inv-loop μ-loop
 loop-holds c =
     let s = c .before .before .before .before .before in
-    (omega arith, omega arith, λ fits. tested-begun (s .args .ns .now) (s .args .es .now) (s .args .root) fits (s .args .set) _ (c .begun .ensures))
+    let ns = s .args .ns .now in
+    let es = s .args .es .now in
+    let root = s .args .root in
+    (omega arith, omega arith, λ fits. tested-begun ns es root fits (s .args .set) _ (c .begun .ensures))
 
 has-requires : tie.Need-has-requires Inv-loop μ-loop
 has-requires c κs = search needs
@@ -45,9 +49,14 @@ opens-requires c κs =
 returns : tie.Need-returns Inv-loop μ-loop
 returns c =
     let s = c .before .before .before .before .before .before .before .before .before .before .before in
+    let ns = s .args .ns .now in
+    let es = s .args .es .now in
+    let root = s .args .root in
     let at = c .before .before .before .before .before .loop in
     let fits = s .pre .0 .fits in
-    let refused = tested-refused (s .args .ns .now) (s .args .es .now) (s .args .root) fits (s .args .set) (at .walk) (at .met) (at .i) (omega (arith, c .before .before .before .before .before .before .before .size .ensures)) (at .inv .2 fits)
+    let size = c .before .before .before .before .before .before .before .size .ensures in
+    let refused =
+    tested-refused ns es root fits (s .args .set) (at .walk) (at .met) (at .i) (omega (arith, size)) (at .inv .2 fits)
     (sym (c .before .before .before .has .ensures) ∙ c .before .before .if1 .taken) (sym (c .before .opens .ensures) ∙ not-true _ (c .if2 .taken)) in
     (λ e. absurd (false≢true e), λ m. absurd (refused m))
 
@@ -57,7 +66,7 @@ holed-requires c κs =
     (s .pre .0, s .pre .1, omega (arith, c .before .before .before .before .before .before .before .size .ensures))
 
 add-met : tie.Need-add-met Inv-loop μ-loop
-add-met c = omega (arith, c .before .before .before .before .before .before .loop .inv .1, c .before .before .before .before .before .before .loop .inv .0)
+add-met c = let at = c .before .before .before .before .before .before .loop in omega (arith, at .inv .1, at .inv .0)
 
 add-i : tie.Need-add-i Inv-loop μ-loop
 add-i c = search needs
@@ -68,15 +77,19 @@ loop-less c = search needs
 loop-again : tie.Need-loop-again Inv-loop μ-loop
 loop-again c =
     let s = c .before .before .before .before .before .before .before .before .before .before .before .before in
+    let ns = s .args .ns .now in
+    let es = s .args .es .now in
+    let root = s .args .root in
     let at = c .before .before .before .before .before .before .loop in
     let one : suc (at .i) ≡ at .i + 1 = omega arith in
     let more : suc (at .met) ≡ at .met + 1 = omega arith in
     let size = c .before .before .before .before .before .before .before .before .size .ensures in (
       omega arith,
       omega (arith, at .inv .1),
-      λ fits. subst₂ (Tested (s .args .ns .now) (s .args .es .now) (s .args .root) fits (s .args .set) _) more one
-          (tested-hole (s .args .ns .now) (s .args .es .now) (s .args .root) fits (s .args .set) (at .walk) (at .met) (at .i) (omega (arith, size)) (at .inv .2 fits)
-          (sym (c .before .before .before .before .has .ensures) ∙ c .before .before .before .if1 .taken) _ (sym (c .before .before .opens .ensures) ∙ not-false _ (c .before .if2 .left)) (c .holed .ensures)),
+      λ fits. subst₂ (Tested ns es root fits (s .args .set) _) more one
+          (tested-hole ns es root fits (s .args .set) (at .walk) (at .met) (at .i) (omega (arith, size)) (at .inv .2 fits)
+          (sym (c .before .before .before .before .has .ensures) ∙ c .before .before .before .if1 .taken) _
+          (sym (c .before .before .opens .ensures) ∙ not-false _ (c .before .if2 .left)) (c .holed .ensures)),
     )
 
 add-i-2 : tie.Need-add-i-2 Inv-loop μ-loop
@@ -88,13 +101,17 @@ loop-less-2 c = search needs
 loop-again-2 : tie.Need-loop-again-2 Inv-loop μ-loop
 loop-again-2 c =
     let s = c .before .before .before .before .before .before .before .before .before in
+    let ns = s .args .ns .now in
+    let es = s .args .es .now in
+    let root = s .args .root in
     let at = c .before .before .before .loop in
     let one : suc (at .i) ≡ at .i + 1 = omega arith in
     let size = c .before .before .before .before .before .size .ensures in (
       omega arith,
       omega (arith, at .inv .1),
-      λ fits. subst (Tested (s .args .ns .now) (s .args .es .now) (s .args .root) fits (s .args .set) (at .walk) (at .met)) one
-          (tested-none (s .args .ns .now) (s .args .es .now) (s .args .root) fits (s .args .set) (at .walk) (at .met) (at .i) (omega (arith, size)) (at .inv .2 fits) (sym (c .before .has .ensures) ∙ c .if1 .left)),
+      λ fits. subst (Tested ns es root fits (s .args .set) (at .walk) (at .met)) one
+          (tested-none ns es root fits (s .args .set) (at .walk) (at .met) (at .i) (omega (arith, size)) (at .inv .2 fits)
+          (sym (c .before .has .ensures) ∙ c .if1 .left)),
     )
 
 holes-requires : tie.Need-holes-requires Inv-loop μ-loop
@@ -103,9 +120,13 @@ holes-requires c κs = search needs
 returns-2 : tie.Need-returns-2 Inv-loop μ-loop
 returns-2 c =
     let s = c .before .before .before .before .before .before .before .before in
+    let ns = s .args .ns .now in
+    let es = s .args .es .now in
+    let root = s .args .root in
     let at = c .before .before .loop in
     let fits = s .pre .0 .fits in
-    tested-done (s .args .ns .now) (s .args .es .now) (s .args .root) fits (s .args .set) (at .walk) (at .met) (at .i) _ (omega (arith, c .before .before .before .before .size .ensures)) (at .inv .2 fits) (c .holes .ensures)
+    tested-done ns es root fits (s .args .set) (at .walk) (at .met) (at .i) _ (omega (arith, c .before .before .before .before .size .ensures)) (at .inv .2 fits)
+    (c .holes .ensures)
 
 pub is-choice-spec : {M : Type 1} → statement M
 is-choice-spec =

@@ -19,7 +19,10 @@ size-requires c κs = search needs
 last-requires : tie.Need-last-requires
 last-requires c κs =
     let s = c .before .before .before .before in
-    ending (s .args .ns .now) (s .args .es .now) (s .args .root) (s .pre .0 .0 .fits) (s .args .set) (s .pre .1 .0) (s .pre .1 .1) _ (c .size .ensures)
+    let ns = s .args .ns .now in
+    let es = s .args .es .now in
+    let root = s .args .root in
+    ending ns es root (s .pre .0 .0 .fits) (s .args .set) (s .pre .1 .0) (s .pre .1 .1) _ (c .size .ensures)
 
 without-requires : tie.Need-without-requires
 without-requires c κs = search needs
@@ -40,9 +43,13 @@ fill-requires c κs =
 returns : tie.Need-returns
 returns c =
     let s = c .before .before .before .before .before .before .before .before in
+    let ns = s .args .ns .now in
+    let es = s .args .es .now in
+    let root = s .args .root in
     let i = c .before .before .before .last .result in
-    let low : i < sizeFrom (s .args .es .now) (s .args .root) = omega (arith, c .before .before .before .last .ensures .1, c .before .before .before .before .size .ensures) in
-    next-is (s .args .ns .now) (s .args .es .now) (s .args .root) (s .pre .0 .0 .fits) (s .args .set) (s .pre .1 .0) i (c .before .before .before .last .ensures .0) low _ (c .before .before .without .ensures) _ (c .before .left-at .ensures) _ _ (omega arith) (c .fill .ensures)
+    let low : i < sizeFrom es root = omega (arith, c .before .before .before .last .ensures .1, c .before .before .before .before .size .ensures) in
+    next-is ns es root (s .pre .0 .0 .fits) (s .args .set) (s .pre .1 .0) i (c .before .before .before .last .ensures .0) low _
+    (c .before .before .without .ensures) _ (c .before .left-at .ensures) _ _ (omega arith) (c .fill .ensures)
 
 pub next-choice-spec : {M : Type 1} → statement M
 next-choice-spec =

@@ -29,7 +29,8 @@ uses-requires c κs = search needs
 returns-2 : tie.Need-returns-2
 returns-2 c =
     let s = c .before .before .before .before .before .before .before .before .args in
-    opens-bound (s .ns .now) (s .es .now) (s .root) (s .i) (s .walk) (c .before .before .before .before .if1 .left) (sym (used (s .ns .now) (s .root + s .i) _ _ _ (c .before .before .depth .ensures) (c .before .uses .ensures)) ∙ c .if2 .taken)
+    let uses = used (s .ns .now) (s .root + s .i) _ _ _ (c .before .before .depth .ensures) (c .before .uses .ensures) in
+    opens-bound (s .ns .now) (s .es .now) (s .root) (s .i) (s .walk) (c .before .before .before .before .if1 .left) (sym uses ∙ c .if2 .taken)
 
 add-result : tie.Need-add-result
 add-result c = search needs
@@ -43,13 +44,15 @@ shared-slice-read-result c = search needs
 returns-3 : tie.Need-returns-3
 returns-3 c =
     let s = c .before .before .before .before .before .before .before .before .before .before .before .args in
-    opens-equal (s .ns .now) (s .es .now) (s .root) (s .i) (s .walk) (c .before .before .before .before .before .before .before .if1 .left) (sym (used (s .ns .now) (s .root + s .i) _ _ _ (c .before .before .before .before .before .depth .ensures) (c .before .before .before .before .uses .ensures)) ∙ c .before .before .before .if2 .left)
+    let uses = used (s .ns .now) (s .root + s .i) _ _ _ (c .before .before .before .before .before .depth .ensures) (c .before .before .before .before .uses .ensures) in
+    opens-equal (s .ns .now) (s .es .now) (s .root) (s .i) (s .walk) (c .before .before .before .before .before .before .before .if1 .left) (sym uses ∙ c .before .before .before .if2 .left)
     (c .before .before .if3 .taken)
 
 returns-4 : tie.Need-returns-4
 returns-4 c =
     let s = c .before .before .before .before .before .before .before .before .before .args in
-    opens-first (s .ns .now) (s .es .now) (s .root) (s .i) (s .walk) (c .before .before .before .before .before .if1 .left) (sym (used (s .ns .now) (s .root + s .i) _ _ _ (c .before .before .before .depth .ensures) (c .before .before .uses .ensures)) ∙ c .before .if2 .left) (c .if3 .left)
+    let uses = used (s .ns .now) (s .root + s .i) _ _ _ (c .before .before .before .depth .ensures) (c .before .before .uses .ensures) in
+    opens-first (s .ns .now) (s .es .now) (s .root) (s .i) (s .walk) (c .before .before .before .before .before .if1 .left) (sym uses ∙ c .before .if2 .left) (c .if3 .left)
 
 pub opens-spec : {M : Type 1} → statement M
 opens-spec =

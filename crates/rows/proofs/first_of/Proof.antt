@@ -22,7 +22,10 @@ first-choice-requires c κs =
 returns : tie.Need-returns
 returns c =
     let s = c .before .before .before .before .before .before in
-    first-here (s .args .es .now) (s .args .ns .now) (s .args .firsts) (s .args .k) _ (c .before .before .if1 .taken) (c .first-choice .ensures)
+    let es = s .args .es .now in
+    let ns = s .args .ns .now in
+    let firsts = s .args .firsts in
+    first-here es ns firsts (s .args .k) _ (c .before .before .if1 .taken) (c .first-choice .ensures)
 
 none-requires : tie.Need-none-requires
 none-requires c κs = search needs
@@ -30,7 +33,10 @@ none-requires c κs = search needs
 returns-2 : tie.Need-returns-2
 returns-2 c =
     let s = c .before .before .before .before .before in
-    first-none (s .args .es .now) (s .args .ns .now) (s .args .firsts) (s .args .k) _ (c .before .if1 .left) (c .none .ensures)
+    let es = s .args .es .now in
+    let ns = s .args .ns .now in
+    let firsts = s .args .firsts in
+    first-none es ns firsts (s .args .k) _ (c .before .if1 .left) (c .none .ensures)
 
 pub first-of-spec : {M : Type 1} → statement M
 first-of-spec =

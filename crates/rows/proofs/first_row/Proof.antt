@@ -22,7 +22,10 @@ loop-holds : tie.Need-loop-holds Inv-loop μ-loop
 unfolding maxFunctions
 loop-holds c =
     let s = c .before .before .before in
-    (omega arith, freshly-none (s .args .es .now) (s .args .ns .now) (s .args .firsts) (replicate maxFunctions (c .none .result)) refl)
+    let es = s .args .es .now in
+    let ns = s .args .ns .now in
+    let firsts = s .args .firsts in
+    (omega arith, freshly-none es ns firsts (replicate maxFunctions (c .none .result)) refl)
 
 sub-k : tie.Need-sub-k Inv-loop μ-loop
 sub-k c = search needs
@@ -46,17 +49,24 @@ loop-again : tie.Need-loop-again Inv-loop μ-loop
 unfolding maxFunctions
 loop-again c =
     let s = c .before .before .before .before .before .before in
+    let es = s .args .es .now in
+    let ns = s .args .ns .now in
+    let firsts = s .args .firsts in
     let at = c .before .before .loop in
     let j : ℕ = at .k - 1 in
     let e : at .k ≡ suc j = omega arith in
-    (omega arith, freshly-more (s .args .es .now) (s .args .ns .now) (s .args .firsts) (at .row) j _ (omega arith) (subst (Freshly (s .args .es .now) (s .args .ns .now) (s .args .firsts) (at .row)) e (at .inv .1)) (c .first-of .ensures))
+    let w : Freshly es ns firsts (at .row) (suc j) = subst (Freshly es ns firsts (at .row)) e (at .inv .1) in
+    (omega arith, freshly-more es ns firsts (at .row) j _ (omega arith) w (c .first-of .ensures))
 
 returns : tie.Need-returns Inv-loop μ-loop
 returns c =
     let s = c .before .before .before .before .before in
+    let es = s .args .es .now in
+    let ns = s .args .ns .now in
+    let firsts = s .args .firsts in
     let at = c .before .loop in
     let e : at .k ≡ 0 = omega arith in
-    first-of-rows (s .args .es .now) (s .args .ns .now) (s .args .firsts) (s .pre) (at .row) (subst (Freshly (s .args .es .now) (s .args .ns .now) (s .args .firsts) (at .row)) e (at .inv .1))
+    first-of-rows es ns firsts (s .pre) (at .row) (subst (Freshly es ns firsts (at .row)) e (at .inv .1))
 
 pub first-row-spec : {M : Type 1} → statement M
 first-row-spec =

@@ -24,7 +24,10 @@ is-choice-requires c κs =
 returns : tie.Need-returns
 returns c =
     let s = c .before .before .before .before .before .before in
-    let here = there-choice (s .args .es .now) (s .args .ns .now) (s .args .firsts) (s .args .k) (mask (s .args .set)) (c .before .before .if1 .taken) in
+    let es = s .args .es .now in
+    let ns = s .args .ns .now in
+    let firsts = s .args .firsts in
+    let here = there-choice es ns firsts (s .args .k) (mask (s .args .set)) (c .before .before .if1 .taken) in
     let is = c .is-choice .ensures in
     (λ e. here .0 (is .0 e), λ m. is .1 (here .1 m))
 
@@ -34,7 +37,10 @@ is-empty-requires c κs = search needs
 returns-2 : tie.Need-returns-2
 returns-2 c =
     let s = c .before .before .before .before .before in
-    let here = absent-choice (s .args .es .now) (s .args .ns .now) (s .args .firsts) (s .args .k) (mask (s .args .set)) (c .before .if1 .left) in
+    let es = s .args .es .now in
+    let ns = s .args .ns .now in
+    let firsts = s .args .firsts in
+    let here = absent-choice es ns firsts (s .args .k) (mask (s .args .set)) (c .before .if1 .left) in
     let is = c .is-empty .ensures in
     (λ e. here .0 (sym is ∙ e), λ m. is ∙ here .1 m)
 

@@ -40,13 +40,17 @@ returns : tie.Need-returns Inv-loop μ-loop
 unfolding maxFunctions
 returns c =
     let s = c .before .before .before .before .before .before .before in
+    let es = s .args .es .now in
+    let ns = s .args .ns .now in
+    let firsts = s .args .firsts in
     let at = c .before .before .before .before .loop in (
       λ e. absurd (false≢true e),
       λ m. absurd
           (true≢false
           (sym
           (c .before .is-choice-of .ensures .1
-          (subst (λ (x : ℕ). x ∈ choicesOf (s .args .es .now) (s .args .ns .now) (s .args .firsts) (at .k)) (sym (masks-at (s .args .t4) (at .k))) (row-choice (s .args .es .now) (s .args .ns .now) (s .args .firsts) (s .args .t4) m (at .k) (omega arith))))
+          (subst (λ (x : ℕ). x ∈ choicesOf es ns firsts (at .k)) (sym (masks-at (s .args .t4) (at .k)))
+          (row-choice es ns firsts (s .args .t4) m (at .k) (omega arith))))
           ∙ not-true _ (c .if1 .taken))),
     )
 
@@ -61,10 +65,13 @@ loop-again : tie.Need-loop-again Inv-loop μ-loop
 unfolding maxFunctions
 loop-again c =
     let s = c .before .before .before .before .before .before .before in
+    let es = s .args .es .now in
+    let ns = s .args .ns .now in
+    let firsts = s .args .firsts in
     let at = c .before .before .before .before .loop in (
       omega arith,
       below-more _ _ (at .inv .1)
-          (subst (λ (x : ℕ). x ∈ choicesOf (s .args .es .now) (s .args .ns .now) (s .args .firsts) (at .k)) (masks-at (s .args .t4) (at .k))
+          (subst (λ (x : ℕ). x ∈ choicesOf es ns firsts (at .k)) (masks-at (s .args .t4) (at .k))
           (c .before .is-choice-of .ensures .0 (not-false _ (c .if1 .left)))),
     )
 
@@ -72,8 +79,11 @@ returns-2 : tie.Need-returns-2 Inv-loop μ-loop
 unfolding maxFunctions
 returns-2 c =
     let s = c .before .before .before .before in
+    let es = s .args .es .now in
+    let ns = s .args .ns .now in
+    let firsts = s .args .firsts in
     let n : length (s .args .t4) ≡ maxFunctions = search needs in
-    (λ e. choice-row (s .args .es .now) (s .args .ns .now) (s .args .firsts) (s .args .t4) n (λ k h. c .before .loop .inv .1 k (omega arith)), λ m. refl)
+    (λ e. choice-row es ns firsts (s .args .t4) n (λ k h. c .before .loop .inv .1 k (omega arith)), λ m. refl)
 
 pub is-row-spec : {M : Type 1} → statement M
 is-row-spec =

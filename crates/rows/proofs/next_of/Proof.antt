@@ -17,16 +17,22 @@ array-read-next-choice c = c .before .before .before .pre .1 .0
 next-choice-requires : tie.Need-next-choice-requires
 next-choice-requires c κs =
     let s = c .before .before .before in
-    let here = there (s .args .es .now) (s .args .ns .now) (s .args .firsts) (s .args .k) (mask (s .args .set)) (s .pre .1 .1 .0) (s .pre .1 .1 .1) in (
+    let es = s .args .es .now in
+    let ns = s .args .ns .now in
+    let firsts = s .args .firsts in
+    let here = there es ns firsts (s .args .k) (mask (s .args .set)) (s .pre .1 .1 .0) (s .pre .1 .1 .1) in (
       (s .pre .0 .faces .whole (s .args .k) here, s .pre .0 .numbers),
-      (there-choice (s .args .es .now) (s .args .ns .now) (s .args .firsts) (s .args .k) (mask (s .args .set)) here .1 (s .pre .1 .1 .0), s .pre .1 .1 .1),
+      (there-choice es ns firsts (s .args .k) (mask (s .args .set)) here .1 (s .pre .1 .1 .0), s .pre .1 .1 .1),
     )
 
 returns : tie.Need-returns
 returns c =
     let s = c .before .before .before .before in
-    let here = there (s .args .es .now) (s .args .ns .now) (s .args .firsts) (s .args .k) (mask (s .args .set)) (s .pre .1 .1 .0) (s .pre .1 .1 .1) in
-    next-here (s .args .es .now) (s .args .ns .now) (s .args .firsts) (s .args .k) _ _ here (c .next-choice .ensures)
+    let es = s .args .es .now in
+    let ns = s .args .ns .now in
+    let firsts = s .args .firsts in
+    let here = there es ns firsts (s .args .k) (mask (s .args .set)) (s .pre .1 .1 .0) (s .pre .1 .1 .1) in
+    next-here es ns firsts (s .args .k) _ _ here (c .next-choice .ensures)
 
 pub next-of-spec : {M : Type 1} → statement M
 next-of-spec =

@@ -25,8 +25,11 @@ loop-holds : tie.Need-loop-holds Inv-loop μ-loop
 unfolding maxFunctions
 loop-holds c =
     let s = c .before .before in
+    let es = s .args .es .now in
+    let ns = s .args .ns .now in
+    let firsts = s .args .firsts in
     let n : length (s .args .row) ≡ maxFunctions = search needs in
-    (s .pre .0 .faces .few, carrying-there (s .args .es .now) (s .args .ns .now) (s .args .firsts) (s .pre .0) (s .args .row) n (s .pre .1 .0))
+    (s .pre .0 .faces .few, carrying-there es ns firsts (s .pre .0) (s .args .row) n (s .pre .1 .0))
 
 sub-k : tie.Need-sub-k Inv-loop μ-loop
 sub-k c = search needs
@@ -46,16 +49,20 @@ next-of-requires : tie.Need-next-of-requires Inv-loop μ-loop
 unfolding maxFunctions
 next-of-requires c κs =
     let s = c .before .before .before .before .before .before .before in
+    let es = s .args .es .now in
+    let ns = s .args .ns .now in
+    let firsts = s .args .firsts in
     let at = c .before .before .before .before .loop in
     let e : at .k ≡ suc (at .k - 1) = omega arith in
-    let w : Carrying (s .args .es .now) (s .args .ns .now) (s .args .firsts) (s .args .row) (at .next) (suc (at .k - 1)) = subst (Carrying (s .args .es .now) (s .args .ns .now) (s .args .firsts) (s .args .row) (at .next)) e (at .inv .1) in
+    let w : Carrying es ns firsts (s .args .row) (at .next) (suc (at .k - 1)) =
+    subst (Carrying es ns firsts (s .args .row) (at .next)) e (at .inv .1) in
     let here = masks-at (at .next) (at .k - 1) in
-    let choice = carried-choice (s .args .es .now) (s .args .ns .now) (s .args .firsts) (s .pre .0) (s .args .row) (at .next) (at .k - 1) (omega arith) w (s .pre .1 .0) in (
+    let choice = carried-choice es ns firsts (s .pre .0) (s .args .row) (at .next) (at .k - 1) (omega arith) w (s .pre .1 .0) in (
       s .pre .0,
       (
         omega arith,
         (
-          subst (λ (x : ℕ). x ∈ choicesOf (s .args .es .now) (s .args .ns .now) (s .args .firsts) (at .k - 1)) (sym here) choice,
+          subst (λ (x : ℕ). x ∈ choicesOf es ns firsts (at .k - 1)) (sym here) choice,
           above-zero _ (sym (c .before .is-empty .ensures) ∙ not-true _ (c .if1 .taken)),
         ),
       ),
@@ -73,11 +80,16 @@ returns : tie.Need-returns Inv-loop μ-loop
 unfolding maxFunctions
 returns c =
     let s = c .before .before .before .before .before .before .before .before in
+    let es = s .args .es .now in
+    let ns = s .args .ns .now in
+    let firsts = s .args .firsts in
     let at = c .before .before .before .before .before .loop in
     let e : at .k ≡ suc (at .k - 1) = omega arith in
-    let w : Carrying (s .args .es .now) (s .args .ns .now) (s .args .firsts) (s .args .row) (at .next) (suc (at .k - 1)) = subst (Carrying (s .args .es .now) (s .args .ns .now) (s .args .firsts) (s .args .row) (at .next)) e (at .inv .1) in
-    steps-set (s .args .es .now) (s .args .ns .now) (s .args .firsts) (s .pre .0) (s .args .row) (at .next) (at .k - 1) (omega arith) w _
-    (subst (λ (x : ℕ). Next (choicesOf (s .args .es .now) (s .args .ns .now) (s .args .firsts) (at .k - 1)) x (mask (c .next-of .result))) (masks-at (at .next) (at .k - 1)) (c .next-of .ensures))
+    let w : Carrying es ns firsts (s .args .row) (at .next) (suc (at .k - 1)) =
+    subst (Carrying es ns firsts (s .args .row) (at .next)) e (at .inv .1) in
+    steps-set es ns firsts (s .pre .0) (s .args .row) (at .next) (at .k - 1) (omega arith) w _
+    (subst (λ (x : ℕ). Next (choicesOf es ns firsts (at .k - 1)) x (mask (c .next-of .result))) (masks-at (at .next) (at .k - 1))
+    (c .next-of .ensures))
 
 mul-next-2 : tie.Need-mul-next-2 Inv-loop μ-loop
 unfolding maxFunctions
@@ -102,14 +114,18 @@ loop-again : tie.Need-loop-again Inv-loop μ-loop
 unfolding maxFunctions
 loop-again c =
     let s = c .before .before .before .before .before .before .before .before in
+    let es = s .args .es .now in
+    let ns = s .args .ns .now in
+    let firsts = s .args .firsts in
     let at = c .before .before .before .before .before .loop in
     let e : at .k ≡ suc (at .k - 1) = omega arith in
-    let w : Carrying (s .args .es .now) (s .args .ns .now) (s .args .firsts) (s .args .row) (at .next) (suc (at .k - 1)) = subst (Carrying (s .args .es .now) (s .args .ns .now) (s .args .firsts) (s .args .row) (at .next)) e (at .inv .1) in
+    let w : Carrying es ns firsts (s .args .row) (at .next) (suc (at .k - 1)) =
+    subst (Carrying es ns firsts (s .args .row) (at .next)) e (at .inv .1) in
     let few : at .k - 1 < maxFunctions = omega arith in
     let none-left = eqb-true _ 0 (sym (c .before .before .is-empty .ensures) ∙ not-false _ (c .before .if1 .left)) in (
       omega arith,
-      carrying-more (s .args .es .now) (s .args .ns .now) (s .args .firsts) (s .pre .0) (s .args .row) (at .next) (at .k - 1) few w _ (sym (masks-at (at .next) (at .k - 1)) ∙ none-left)
-          (masks-at (s .args .t4) (at .k - 1) ∙ first-set (s .args .es .now) (s .args .ns .now) (s .args .firsts) (s .pre .0) (s .args .t4) (s .pre .1 .1) (at .k - 1) few),
+      carrying-more es ns firsts (s .pre .0) (s .args .row) (at .next) (at .k - 1) few w _ (sym (masks-at (at .next) (at .k - 1)) ∙ none-left)
+          (masks-at (s .args .t4) (at .k - 1) ∙ first-set es ns firsts (s .pre .0) (s .args .t4) (s .pre .1 .1) (at .k - 1) few),
     )
 
 none-requires : tie.Need-none-requires Inv-loop μ-loop
@@ -119,9 +135,13 @@ returns-2 : tie.Need-returns-2 Inv-loop μ-loop
 unfolding maxFunctions
 returns-2 c =
     let s = c .before .before .before .before .before in
+    let es = s .args .es .now in
+    let ns = s .args .ns .now in
+    let firsts = s .args .firsts in
     let at = c .before .before .loop in
     let e : at .k ≡ 0 = omega arith in
-    steps-none (s .args .es .now) (s .args .ns .now) (s .args .firsts) (s .pre .0) (s .args .row) (at .next) (replicate maxFunctions (c .none .result)) (subst (Carrying (s .args .es .now) (s .args .ns .now) (s .args .firsts) (s .args .row) (at .next)) e (at .inv .1))
+    steps-none es ns firsts (s .pre .0) (s .args .row) (at .next) (replicate maxFunctions (c .none .result))
+    (subst (Carrying es ns firsts (s .args .row) (at .next)) e (at .inv .1))
     (ap (λ (m : ℕ). replicate maxFunctions m) (c .none .ensures))
 
 pub next-row-spec : {M : Type 1} → statement M
