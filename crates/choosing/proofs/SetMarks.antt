@@ -3,16 +3,17 @@ use mathlib.Core.Path.{_≡_, refl, sym, ap, ap₂, _∙_, subst}
 use mathlib.Core.Bool.{Bool, true, false}
 use mathlib.Core.List.{List, [], _∷_, _++_, map, append-assoc, map-append}
 use mathlib.Core.Option.{none, some}
-use Prim.Native.Nat.{ℕ, zero, suc, _-_, _^_, _≤_, _<_}
+use Prim.Native.Nat.{ℕ, zero, suc, _+_, _-_, _^_, _≤_, _<_}
 use native.Mathlib.Omega.{arith}
-use lib.ListN.{length, set, length-append, length-map, length-replicate}
-use lib.Seq.{set-append-seam}
+use lib.ListN.{length, set, length-append, length-map, length-replicate, replicate-append-replicate}
+use lib.Seq.{drop-at, set-append-seam, take-at}
 use Rattle.meaning.specs.Limits.{maxFaceNodes}
 use Rattle.meaning.specs.Basics.{isSome}
 use Rattle.meaning.specs.Choice.{Mark, Marks}
 use Rattle.meaning.specs.PlaceValue.{maskOf}
+use Rattle.meaning.proofs.OldLimit.{oldLimit}
 use Rattle.masks.specs.Mask.{marks, value, empty, join}
-use Rattle.masks.specs.Sets.{width, mask, nodes}
+use Rattle.masks.specs.Sets.{mask, nodes, width, wordsIn, wordsOf}
 use Rattle.masks.specs.declared.NodeSet.{NodeSet}
 use Rattle.masks.proofs.Marks.{marks-value}
 use Rattle.masks.proofs.Nodes.{value-empty}
@@ -64,6 +65,24 @@ module _ (s : NodeSet) (ms : Marks) (h : length ms ≤ maxFaceNodes) where
   mask-marked e =
       ap (marks width) (e ∙ wide) ∙ ap (λ (n : ℕ). marks n (value (padded width ms))) (sym (length-padded width ms short))
       ∙ marks-value (padded width ms)
+
+-- Within the old limit the first word is the old mask, and the others are empty
+pub old-words : (ms : Marks) → length ms ≤ oldLimit → wordsOf (maskOf maxFaceNodes ms) ≡ maskOf oldLimit ms ∷ 0 ∷ 0 ∷ 0 ∷ []
+unfolding wordsOf wordsIn value oldLimit width maxFaceNodes
+old-words ms h =
+    let e : 256 - length ms ≡ (64 - length ms) + 192 = omega arith in
+    let room : padded 256 ms ≡ padded 64 ms ++ empty 192 =
+    ap (λ (k : ℕ). map isSome ms ++ empty k) e
+    ∙ ap (λ (l : List Bool). map isSome ms ++ l) (sym (replicate-append-replicate (64 - length ms) 192 false))
+    ∙ sym (append-assoc (map isSome ms) (empty (64 - length ms)) (empty 192)) in
+    let digits : marks 256 (maskOf 256 ms) ≡ padded 64 ms ++ empty 192 =
+    ap (marks 256) (mask-value 256 ms (omega arith))
+    ∙ ap (λ (n : ℕ). marks n (value (padded 256 ms))) (sym (length-padded 256 ms (omega arith)))
+    ∙ marks-value (padded 256 ms) ∙ room in
+    ap (wordsIn 4) digits
+    ∙ ap₂ (λ (l r : List Bool). value l ∷ wordsIn 3 r) (take-at (padded 64 ms) (empty 192) 64 (length-padded 64 ms h))
+    (drop-at (padded 64 ms) (empty 192) 64 (length-padded 64 ms h))
+    ∙ ap (λ (m : ℕ). m ∷ 0 ∷ 0 ∷ 0 ∷ []) (sym (mask-value 64 ms h))
 
 -- One mark more
 next-room : (w n : ℕ) → n < w → empty (w - n) ≡ false ∷ empty (w - suc n)

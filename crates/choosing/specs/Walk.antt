@@ -36,7 +36,7 @@ pub record HoledAt (ns es : List ℕ) (root i : ℕ) (r : Walk) : Type 0 where
   pub end : r .end ≡ i + sizeIn (table.at es (root + i))
   pub class : classOf r ≡ some (table.at ns (root + i))
 
--- The set has just the marked nodes among those that are marked
+-- The set has just the nodes that are marked, and none past the marks
 unfoldable pub Marked : NodeSet → Marks → Type 0
 Marked s ms = nodes s ≡ map isSome ms ++ empty (width - length ms)
 

@@ -119,7 +119,7 @@ pub fn first_choice(es: &[u64], ns: &[u64], root: usize) -> NodeSet
     fill(es, ns, root, NodeSet::none(), begun(), 0)
 }
 
-// The last node of a set that has one among the first n.
+// The last node of a set that has one, and none from node n on.
 fn last(set: NodeSet, n: usize) -> usize
     requires { ⌜ Ending set n ⌝ }
     ensures { λ r. ⌜ Last set r × (r < n) ⌝ }

@@ -1,13 +1,13 @@
 -- Node sets as the code holds them: "node set as a 64-bit mask", of which T-10 makes four: node 0 at the highest bit of the first.
 --
---   wordNodes   how many nodes a word has; nothing but this, the number of words and what they come to knows a number
+--   wordNodes   how many nodes a word has; this, the number of words and what they come to are the only numbers
 --   wordCount   how many words a set has
 --   width       how many nodes a set has room for
 --   words       the words of a set, the first first
 --   mask        the set as one number of as many binary digits as there is room for nodes
 --   nodes       its marks
 --   masksIn     the masks of several sets: a row has one set for each function
---   wordsOf     the words of a mask, as a host holds them: the other way round than `mask`
+--   wordsOf     the words of a mask, as a host holds them: the inverse of `mask`
 use mathlib.Core.Bool.{Bool}
 use mathlib.Core.List.{List, [], _∷_, _++_, map}
 use Prim.Native.Nat.{ℕ, zero, suc}

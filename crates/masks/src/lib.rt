@@ -9,9 +9,10 @@ ghost use lib.ListN.{getD, set};
 ghost use Rattle.masks.specs.Mask.{marks, value, trues, first, join, leave, only};
 ghost use Rattle.masks.specs.Sets.{wordNodes, words, mask, nodes};
 
-// How many nodes a word has. Node 0 of a word stands this many bits above the lowest, less one.
+// How many nodes a word has.
 const WORD: usize = 64;
 
+// Node 0 of a word stands so many bits above the lowest.
 const LAST: usize = WORD - 1;
 
 // The word of node k alone.
@@ -174,7 +175,7 @@ impl NodeSet {
         3 * WORD + leading(self.w3)
     }
 
-    // Asked of every function at every step of a row: the lowest node is found with fewer instructions than the ones are counted.
+    // Whether no node is in the set. Asked of every function at every step of a row: the lowest node is found with fewer instructions than the ones are counted.
     pub fn is_empty(self) -> bool
         ensures { λ r. ⌜ r ≡ eqb (mask self) 0 ⌝ }
     {

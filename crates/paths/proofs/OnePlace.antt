@@ -10,8 +10,7 @@ use mathlib.Core.Bool.{Bool, true, false}
 use mathlib.Core.List.{List, [], _∷_, _++_}
 use mathlib.Core.Option.{Option, none, some}
 use native.Mathlib.Omega.{arith}
-use lib.ListN.{length, drop, getElem?, replicate, take, drop-of-length-le, length-drop}
-use lib.Seq.{drop-drop}
+use lib.ListN.{length, drop, getElem?, take, drop-of-length-le}
 use lib.Dec.{T}
 use Rattle.meaning.specs.Basics.{andThen, guard, holds, orElse}
 use Rattle.meaning.specs.Choice.{Mark, Marks}
@@ -65,15 +64,6 @@ first-below : (k : ℕ) (c : Option ℕ) (x : Node) (xs : List Node) → 0 < k
     → firstPath (onePlace k c) (x ∷ xs) ≡ none ∷ firstPath (onePlace (k - 1) c) xs
 first-below k c x xs l = first-begun k c x xs ∙ ap (begun k c x xs) (step-below x c k l)
 
-pub first-skips : (k : ℕ) (c : Option ℕ) (xs : List Node) → k ≤ length xs
-    → firstPath (onePlace k c) xs ≡ replicate k none ++ firstPath (onePlace 0 c) (drop k xs)
-first-skips zero c xs h = refl
-first-skips (suc k) c [] h = absurd (omega arith)
-first-skips (suc k) c (x ∷ xs) h =
-    let z : suc k - 1 ≡ k = omega arith in
-    first-below (suc k) c x xs (omega arith)
-    ∙ ap {B = Marks} (λ (i : ℕ). none ∷ firstPath (onePlace i c) xs) z ∙ ap {B = Marks} (λ (ms : Marks). none ∷ ms) (first-skips k c xs (omega arith))
-
 -- Node k of the list, and mark k
 node-at : (xs : List Node) (k : ℕ) → k < length xs → drop k xs ≡ record { size = sizeAt xs k; class = classAt xs k } ∷ drop (suc k) xs
 node-at [] k h = absurd (omega arith)
@@ -119,14 +109,6 @@ module _ (xs : List Node) (k end : ℕ) (c : Option ℕ) where
         ap₂ (λ (i : ℕ) (ys : List Node). firstPath (onePlace i c) ys) z (node-at xs k h)
         ∙ first-passes c (record { size = sizeAt xs k; class = classAt xs k }) (drop (suc k) xs) e
         ∙ ap {B = Marks} (λ (i : ℕ). none ∷ firstPath (onePlace i c) (drop (suc k) xs)) y
-
-  -- A leap over what lies below a hole
-  pub first-at-leap : k ≤ end → end ≤ length xs → first-from ≡ replicate (end - k) none ++ firstPath (onePlace 0 c) (drop end xs)
-  first-at-leap l h =
-      let z : k + (end - k) ≡ end = omega arith in
-      first-skips (end - k) c (drop k xs) (omega (arith, length-drop k xs))
-      ∙ ap {B = Marks} (λ (ys : List Node). replicate (end - k) none ++ firstPath (onePlace 0 c) ys)
-      (drop-drop (end - k) k xs ∙ ap (λ (i : ℕ). drop i xs) z)
 
 -- The walk, from node k on
 module _ (xs : List Node) (ms : Marks) (k end : ℕ) (c : Option ℕ) where

@@ -23,8 +23,8 @@ pub fn table() {
     println!();
     calls();
     calls_on_a_large_face();
-    class_tables(63, 8);
-    class_tables(255, 3);
+    faces_prepared(63, 8);
+    faces_prepared(255, 3);
     starts();
     println!();
 }
@@ -89,7 +89,7 @@ fn calls_on_a_large_face() {
 
 /// What the start of a problem takes longer where functions face so many symbols than where plain metavariables do, for each of them: it
 /// prepares their faces.
-fn class_tables(symbols: usize, functions: u8) {
+fn faces_prepared(symbols: usize, functions: u8) {
     let (equal, different) = (problems::equal_symbols(symbols), problems::different_symbols(symbols));
     for (name, face) in [("equal", equal), ("different", different)] {
         let start = |pattern: fn(u8) -> Tree| {
@@ -99,7 +99,7 @@ fn class_tables(symbols: usize, functions: u8) {
         };
         let longer = start(|m| problems::call(m, &Tree::Meta(20))) - start(Tree::Meta);
         println!(
-            "the class table of a face of {symbols} {name} symbols: {}",
+            "preparing a face of {symbols} {name} symbols: {}",
             shown(longer / f64::from(functions))
         );
     }
