@@ -8,8 +8,9 @@ use faces::first::Firsts;
 use libc::STDOUT_FILENO;
 use masks::NodeSet;
 use prepare::prepare;
+use rows::begin_again;
 use rows::first_row;
-use rows::next_row;
+use rows::next_step;
 use table::TABLE_ROOM;
 ghost use mathlib.Core.Path.{_≡_};
 ghost use mathlib.Core.Bool.{true};
@@ -29,12 +30,17 @@ fn count_from(es: &[u64], ns: &[u64], firsts: Firsts, first: [NodeSet; rows::MAX
     let mut reached = first;
     let mut n = 1u64;
     while n < MOST {
-        let step = next_row(es, ns, firsts, first, reached);
+        let step = next_step(es, ns, firsts, reached);
         if !step.more {
             return n;
         }
-        let next = step.row;
-        reached = next;
+        let k = step.function;
+        if k + 1 < firsts.count {
+            let begun = begin_again(firsts, first, k + 1, reached);
+            reached = begun;
+        }
+        let set = step.set;
+        reached[k] = set;
         n += 1;
     }
     n

@@ -1,21 +1,21 @@
 -- The mask rows of a problem's functions are the masks of the problem's rows, in their order.
 use mathlib.Core.Path.{_≡_, refl, ap, ap₂, sym, _∙_, subst}
 use mathlib.Core.Logic.{_↔_}
-use mathlib.Core.Bool.{Bool, true, false, not, true≢false, false≢true}
+use mathlib.Core.Bool.{Bool, true, false, true≢false, false≢true}
 use mathlib.Core.List.{List, [], _∷_, _++_, map, map-map, map-append}
 use mathlib.Core.Option.{Option, none, some}
 use Prim.Native.Nat.{ℕ, zero, suc, _+_, _-_, _<_, _≤_}
 use native.Mathlib.Omega.{arith}
 use lib.ListN.{length, take, replicate, getElem?, length-map}
 use Rattle.meaning.specs.Limits.{maxFunctions, maxFaceNodes}
-use Rattle.meaning.specs.Basics.{countFrom, upTo, _∈_, isSome}
+use Rattle.meaning.specs.Basics.{choose, countFrom, upTo, _∈_, isSome}
 use Rattle.meaning.specs.Problem.{Problem, placesOf, functions}
 use Rattle.meaning.specs.Face.{Face, faces}
 use Rattle.meaning.specs.Choice.{Marks}
 use Rattle.meaning.specs.Choices.{choices}
 use Rattle.meaning.specs.Row.{Row, faceOf}
 use Rattle.meaning.specs.Rows.{product, rowsOver, rows}
-use Rattle.meaning.specs.Search.{at, placeOf, start}
+use Rattle.meaning.specs.Search.{at, past, placeOf, start}
 use Rattle.meaning.specs.PlaceValue.{maskOf, PlaceValue, masksOf, placeValue}
 use Rattle.meaning.specs.Readable.{Accepted}
 use Rattle.meaning.proofs.Lists.{never, mem-map, map-mem, map-same, at-mem}
@@ -71,10 +71,10 @@ rows-product p e = go (faces p) e
 
 -- The place of a list of mask rows, as a host holds it
 value-place : (rs : List Row) (more : Bool) (next : MaskRow) → Leads (placeOf (map masksOf rs)) more next
-    → record { masks = next; isPast = not more } ≡ placeValue (placeOf rs)
+    → choose more (record { masks = next; isPast = false }) (placeValue past) ≡ placeValue (placeOf rs)
 unfolding placeValue
 value-place [] true next h = let e = h .goes refl in never (cc)
-value-place [] false next h = ap {B = PlaceValue} (λ (m : MaskRow). record { masks = m; isPast = true }) (h .clear refl)
+value-place [] false next h = refl
 value-place (r ∷ rs) true next h =
     ap {B = PlaceValue} (λ (m : MaskRow). record { masks = m; isPast = false }) (let e = h .goes refl in let q : next ≡ masksOf r = cc in q)
 value-place (r ∷ rs) false next h = let e = h .ends refl in never (cc)
@@ -144,12 +144,12 @@ module _ (p : Problem) (ns es nodes : List ℕ) (count : ℕ) (listed : maskRows
   pub first-row-of : (row : MaskRow) → placeOf (maskRows ns es nodes count) ≡ at row → record { masks = row; isPast = false } ≡ placeValue (start p)
   first-row-of row e =
       value-place (rows p) true row
-      (record { goes = λ q. ap placeOf (sym listed) ∙ e; ends = λ q. absurd (true≢false q); clear = λ q. absurd (true≢false q) })
+      (record { goes = λ q. ap placeOf (sym listed) ∙ e; ends = λ q. absurd (true≢false q) })
 
   -- What a step gives after the masks of a row: those of the row after it, or past the last.
   pub next-row-of : (before later : List Row) (r : Row) (more : Bool) (next : MaskRow) → rows p ≡ before ++ (r ∷ later)
       → Steps ns es nodes count (masksOf r) more next
-      → record { masks = next; isPast = not more } ≡ placeValue (placeOf later)
+      → choose more (record { masks = next; isPast = false }) (placeValue past) ≡ placeValue (placeOf later)
   unfolding Steps
   next-row-of before later r more next e h =
       value-place later more next

@@ -203,14 +203,13 @@ module _ (ns es nodes : List ℕ) (count : ℕ) where
     unfolding Steps
     steps-on old row j x h w b before later e =
         let d = after before later old e ∙ carried-step cs first maxFunctions (λ f l. at-first f) old row j x h w b in
-        record { goes = λ q. ap placeOf d; ends = λ q. absurd (true≢false q); clear = λ q. absurd (true≢false q) }
+        record { goes = λ q. ap placeOf d; ends = λ q. absurd (true≢false q) }
 
     -- Past the last there is no row left.
-    pub steps-past : (old row : MaskRow) → Carried cs first maxFunctions old row 0 → Steps ns es nodes count old false (replicate maxFunctions 0)
+    pub steps-past : (old row next : MaskRow) → Carried cs first maxFunctions old row 0 → Steps ns es nodes count old false next
     unfolding Steps
-    steps-past old row w before later e =
+    steps-past old row next w before later e =
         record {
           goes = λ q. absurd (false≢true q);
           ends = λ q. ap placeOf (after before later old e ∙ carried-end cs first maxFunctions old row w);
-          clear = λ q. refl;
         }

@@ -8,7 +8,6 @@ use mathlib.Core.Path.{_≡_}
 use mathlib.Core.Bool.{Bool, true, false}
 use mathlib.Core.List.{List, [], _∷_, _++_, map}
 use Prim.Native.Nat.{ℕ}
-use lib.ListN.{replicate}
 use lib.Dec.{eqb, ltb}
 use Rattle.meaning.specs.Limits.{maxFaceNodes, maxFunctions}
 use Rattle.meaning.specs.Basics.{choose, upTo}
@@ -48,11 +47,10 @@ Next cs m x = behind cs m ≡ x ∷ behind cs x
 unfoldable pub maskRows : List ℕ → List ℕ → List ℕ → ℕ → List MaskRow
 maskRows ns es nodes count = product (map (choicesAt ns es nodes count) (upTo maxFunctions))
 
--- The answer of a step that leads to a place: whether there is a row, and the row; past the last no mask has a node.
+-- The answer of a step that leads to a place: whether there is a row, and the row; past the last it may be any.
 pub record Leads (place : Place MaskRow) (more : Bool) (row : MaskRow) : Type 0 where
   pub goes : more ≡ true → place ≡ at row
   pub ends : more ≡ false → place ≡ past
-  pub clear : more ≡ false → row ≡ replicate maxFunctions 0
 
 -- The answer of the step from a row: it leads to the place after the row, wherever in the list of all rows the row stands.
 unfoldable pub Steps : List ℕ → List ℕ → List ℕ → ℕ → MaskRow → Bool → MaskRow → Type 0

@@ -1,7 +1,7 @@
 -- The row of a Found is written, since there is room for any text.
 use mathlib.Core.Path.{_≡_, refl, ap, sym, _∙_, subst}
 use mathlib.Core.Logic.{inl, inr}
-use mathlib.Core.List.{[], _∷_}
+use mathlib.Core.List.{List, [], _∷_}
 use Prim.Native.Nat.{ℕ, _≤_}
 use native.Mathlib.Omega.{arith}
 use lib.ListN.{length}
@@ -19,7 +19,7 @@ use Rattle.meaning.proofs.ProblemReading.{accept-accepted}
 use Rattle.meaning.proofs.OneCall.{reply-named}
 use Rattle.meaning.proofs.WriteLaws.{when-large, write-on}
 use Rattle.masks.specs.Sets.{masksIn}
-use Rattle.choosing.specs.Rows.{MaskRow}
+use Rattle.masks.specs.declared.NodeSet.{NodeSet}
 use Rattle.places.specs.Places.{AtRow, valueOf}
 use Rattle.places.specs.declared.Place.{Place}
 use Rattle.seeking.specs.declared.Answer.{Answer as Kind}
@@ -52,7 +52,7 @@ other-answer k e = go (subst (λ (a : Kind). OneOf (0 ∷ 2 ∷ 3 ∷ []) (tagOf
     go (inr (inl z)) = absurd (omega arith)
     go (inr (inr z)) = absurd (omega arith)
 
-row-value : {masks : MaskRow} {row : Place} → AtRow masks row → valueOf row ≡ rowValue masks
+row-value : {sets : List NodeSet} {row : Place} → AtRow sets row → valueOf row ≡ rowValue (masksIn sets)
 row-value is = cc
 
 module _ {s : Bytes} {place : Place} {n : ℕ} {searched : Searched} (call : Answers s place n searched) where
@@ -60,7 +60,7 @@ module _ {s : Bytes} {place : Place} {n : ℕ} {searched : Searched} (call : Ans
       → Finds s place n before before (record { searched = searched; length = 0 })
   nothing-found none = record { call = call; text = λ e. absurd (none e); nothing = λ h. refl }
 
-  module _ (e : searched .answer ≡ answers.Found) {row : Place} (is : AtRow (masksIn (searched .row)) row) {before after : Bytes} where
+  module _ (e : searched .answer ≡ answers.Found) {row : Place} (is : AtRow (searched .row) row) {before after : Bytes} where
     written-call : (answer : Written) → Writes s row before after answer
         → WriteCall s (rowValue (masksIn (searched .row))) before (answerOf answer) after
     written-call answer w = subst (λ (v : PlaceValue). WriteCall s v before (answerOf answer) after) (row-value is) w

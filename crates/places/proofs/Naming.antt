@@ -108,8 +108,8 @@ module _ (p : Problem) (es ns : List ℕ) (firsts : Firsts) (hasRows : Bool) (to
     where
       go : (b : Bool) → hasRows ≡ b → Begins b es ns firsts v → valueOf v ≡ placeValue (start p)
       go true e h =
-          same-value v (record { masks = h .0; isPast = false }) (h .2 .masks) (h .2 .here)
-          ∙ first-row-of p ns es (firsts .nodes) (firsts .count) (listed e) (h .0) (h .1)
+          same-value v (record { masks = masksIn (h .0); isPast = false }) (ap masksIn (h .2 .sets)) (h .2 .here)
+          ∙ first-row-of p ns es (firsts .nodes) (firsts .count) (listed e) (masksIn (h .0)) (h .1)
       go false e h = past-named h .isValue ∙ ap (λ (l : List Row). placeValue (placeOf l)) (sym (no-rows p (sym told ∙ e)))
 
 -- The answers of `start`

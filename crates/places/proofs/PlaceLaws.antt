@@ -15,7 +15,6 @@ use Rattle.masks.specs.Sets.{mask, masksIn}
 use Rattle.masks.specs.declared.NodeSet.{NodeSet}
 use Rattle.masks.proofs.Words.{masks-at}
 use Rattle.faces.specs.declared.first.Firsts.{Firsts}
-use Rattle.choosing.specs.Rows.{MaskRow}
 use Rattle.rows.specs.Rows.{rowsOf}
 use Rattle.places.specs.Places.{AtRow, AtPast, Tells, Begins}
 use Rattle.places.specs.declared.Place.{Place}
@@ -65,8 +64,8 @@ module _ (v : Place) (hasRows : Bool) (es ns : List ℕ) (firsts : Firsts) where
   tells-no-row e n = (λ r. n (r .member), λ q. false≢true (sym e ∙ q .past))
 
 -- The answers of `first`
-pub begins-row : (hasRows : Bool) (es ns : List ℕ) (firsts : Firsts) (row : MaskRow) (r : Place) → hasRows ≡ true
-    → placeOf (rowsOf es ns firsts) ≡ at row → AtRow row r
+pub begins-row : (hasRows : Bool) (es ns : List ℕ) (firsts : Firsts) (row : List NodeSet) (r : Place) → hasRows ≡ true
+    → placeOf (rowsOf es ns firsts) ≡ at (masksIn row) → AtRow row r
     → Begins hasRows es ns firsts r
 unfolding Begins
 begins-row true es ns firsts row r e p h = (row, p, h)

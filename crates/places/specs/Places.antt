@@ -13,8 +13,8 @@ use Rattle.meaning.specs.Read.{Answer, refused, got}
 use Rattle.meaning.specs.Search.{at, placeOf}
 use Rattle.meaning.specs.PlaceValue.{PlaceValue}
 use Rattle.masks.specs.Sets.{masksIn}
+use Rattle.masks.specs.declared.NodeSet.{NodeSet}
 use Rattle.faces.specs.declared.first.Firsts.{Firsts}
-use Rattle.choosing.specs.Rows.{MaskRow}
 use Rattle.rows.specs.Rows.{Faced, rowsOf}
 use Rattle.places.specs.declared.Place.{Place}
 use Rattle.places.specs.declared.Named.{Named}
@@ -25,8 +25,8 @@ use Rattle.places.specs.declared.Start.the-variants as starts
 abbrev pub valueOf : Place → PlaceValue
 valueOf p = record { masks = masksIn (p .sets); isPast = p .past }
 
-pub record AtRow (row : MaskRow) (r : Place) : Type 0 where
-  pub masks : masksIn (r .sets) ≡ row
+pub record AtRow (row : List NodeSet) (r : Place) : Type 0 where
+  pub sets : r .sets ≡ row
   pub here : r .past ≡ false
 
 pub record AtPast (r : Place) : Type 0 where
@@ -49,7 +49,7 @@ abbrev pub Openable : Bool → List ℕ → List ℕ → Firsts → Type 0
 Openable hasRows es ns firsts = hasRows ≡ true → Faced es ns firsts
 
 unfoldable pub Begins : Bool → List ℕ → List ℕ → Firsts → Place → Type 0
-Begins true es ns firsts r = (row : MaskRow) × (placeOf (rowsOf es ns firsts) ≡ at row) × AtRow row r
+Begins true es ns firsts r = (row : List NodeSet) × (placeOf (rowsOf es ns firsts) ≡ at (masksIn row)) × AtRow row r
 Begins false es ns firsts r = AtPast r
 
 -- Document 01's refusal with its number, or the value of the start

@@ -62,7 +62,7 @@ impl Place {
     pub const MAX_FACE_NODES: usize = NodeSet::ROOM;
 
     pub fn at(row: [NodeSet; Place::MAX_FUNCTIONS]) -> Place
-        ensures { λ r. ⌜ AtRow (masksIn row) r ⌝ }
+        ensures { λ r. ⌜ AtRow row r ⌝ }
     {
         Place {
             sets: row,

@@ -63,8 +63,8 @@ open-contract : OpenContract
 open-contract M 𝓤 H A mem run spans handed r last = (refl, refl)
 
 -- Places that are made
-at-row : (row : List NodeSet) (r : Place) → AtRow (masksIn row) r → valueOf r ≡ valueOf (record { sets = row; past = false })
-at-row row r h = ap₂ (λ (masks : List ℕ) (past : Bool). record { masks = masks; isPast = past }) (h .masks) (h .here)
+at-row : {row : List NodeSet} {r : Place} → AtRow row r → r ≡ record { sets = row; past = false }
+at-row h = ap₂ (λ (sets : List NodeSet) (past : Bool). record { sets = sets; past = past }) (h .sets) (h .here)
 
 at-past : {r : Place} → AtPast r → valueOf r ≡ placeValue past
 unfolding placeValue
@@ -146,7 +146,7 @@ pub first-demand : FirstDemand
 first-demand = record {
   anything = unasked;
   anythingOpen = open-contract;
-  rowsAt = λ row r c. at-row row r c;
+  rowsAt = λ row r c. at-row c;
   pastLast = λ r c. at-past c;
   opens = λ place r c. c;
   starts = λ s r c. started (startCall s) r (c .1);

@@ -62,7 +62,7 @@ pub record FirstDemand : Type 2 where
   pub anything : Unasked
   pub anythingOpen : OpenContract
   -- "and gives the answer or the refusal that document 01 fixes"
-  pub rowsAt : (row : List NodeSet) (r : Place) → RowAtCalled row r → valueOf r ≡ valueOf (record { sets = row; past = false })
+  pub rowsAt : (row : List NodeSet) (r : Place) → RowAtCalled row r → r ≡ record { sets = row; past = false }
   pub pastLast : (r : Place) → PastLastCalled r → valueOf r ≡ placeValue past
   pub opens : (place : Place) (r : OpenSearch) → OpenedCalled place r → r .place ≡ place
   pub starts : (s : Bytes) (r : Started) → StartCalled s r → startAnswer (r .answer) (valueOf (r .place)) ≡ startCall s

@@ -1,14 +1,14 @@
 -- Rows of sets by the laws of rows of masks (crate `choosing`).
 --   Freshly    from function k on each set is its function's first choice
---   Carrying   what a step knows on its way from the last function to the first
-use mathlib.Core.Path.{_≡_, ap, sym, _∙_, subst}
+--   Passing    the functions from k on have had their last choices, and begin again
+use mathlib.Core.Path.{_≡_, refl, ap, sym, _∙_, subst}
 use mathlib.Core.Logic.{_↔_, ⊎-elim}
-use mathlib.Core.Bool.{true, false}
+use mathlib.Core.Bool.{true, false, true≢false}
 use mathlib.Core.List.{List, [], List·Memᴰ·head, List·Memᴰ·cases-cons, List·Memᴰ·not-nil}
 use Prim.Native.Nat.{ℕ, zero, suc, _+_, _-_, _≤_, _<_}
 use native.Mathlib.Nat.{eq-or-lt-of-le}
 use native.Mathlib.Omega.{arith}
-use lib.ListN.{length, getD, replicate, set, length-map}
+use lib.ListN.{length, getD, set, length-map}
 use lib.Seq.{set-getD}
 use lib.Dec.{eqb}
 use borrow.Author.Tests.{eq-eqb, eqb-false, eqb-true}
@@ -21,14 +21,37 @@ use Rattle.masks.specs.declared.NodeSet.{NodeSet}
 use Rattle.masks.proofs.Cases.{lt-or-ge}
 use Rattle.masks.proofs.Words.{masks-set}
 use Rattle.faces.specs.declared.first.Firsts.{Firsts}
-use Rattle.choosing.specs.Rows.{Next, Steps, behind, choicesAt, choicesFrom, firstAt, firstFrom}
+use Rattle.choosing.specs.Rows.{MaskRow, Next, behind, choicesAt, choicesFrom, firstAt, firstFrom}
 use Rattle.choosing.proofs.Stepping.{Carried, Fresh, carried-at, carried-more, carried-none, fresh-more, fresh-none}
 use Rattle.choosing.proofs.RowSteps.{choices-absent, choices-there, empty-last, first-absent, first-at, first-row, first-there, mem-row, row-mem}
 use Rattle.choosing.proofs.RowSteps.{steps-on, steps-past}
-use Rattle.rows.specs.Rows.{Faced, StepsFrom, choicesOf, rowsOf}
+use Rattle.rows.specs.Rows.{Faced, StepsBy, StepsFrom, begun, begunFrom, choicesOf, rowsOf}
+use Rattle.rows.specs.declared.Step.{Step}
 
 pub above-zero : (m : ℕ) → eqb m 0 ≡ false → 0 < m
 above-zero m e = let n = eqb-false m 0 e in ⊎-elim (λ (q : 0 ≡ m). absurd (n (sym q))) (λ (q : 0 < m). q) (eq-or-lt-of-le (omega arith))
+
+-- ---- beginning again
+
+module _ (count : ℕ) (first : List NodeSet) (row : List NodeSet) where
+  abbrev again : ℕ → MaskRow
+  again j = begun count (masksIn first) j (masksIn row)
+
+  pub again-none : (j : ℕ) → count ≤ j → masksIn row ≡ again j
+  unfolding begunFrom
+  again-none j h =
+      let z : 0 ≡ count - j = omega arith in
+      subst (λ (d : ℕ). masksIn row ≡ begunFrom (masksIn first) (masksIn row) j d) z refl
+
+  pub again-more : (j : ℕ) (next : List NodeSet) (s : NodeSet) → j < count → masksIn next ≡ again (suc j)
+      → mask s ≡ getD (masksIn first) j 0
+      → masksIn (set next j s) ≡ again j
+  unfolding begunFrom
+  again-more j next s h e q =
+      let d : suc (count - suc j) ≡ count - j = omega arith in
+      masks-set next j s
+      ∙ subst (λ (n : ℕ). set (masksIn next) j (mask s) ≡ begunFrom (masksIn first) (masksIn row) j n) d
+      (ap (λ (r : MaskRow). set r j (mask s)) e ∙ ap (set (again (suc j)) j) q)
 
 module _ (es ns : List ℕ) (firsts : Firsts) where
   -- ---- one function
@@ -82,8 +105,12 @@ module _ (es ns : List ℕ) (firsts : Firsts) where
   abbrev pub Freshly : List NodeSet → ℕ → Type 0
   Freshly row k = Fresh first maxFunctions (masksIn row) k
 
-  abbrev pub Carrying : List NodeSet → List NodeSet → ℕ → Type 0
-  Carrying old row k = Carried (choicesAt ns es (firsts .nodes) (firsts .count)) first maxFunctions (masksIn old) (masksIn row) k
+  abbrev Carrying : MaskRow → MaskRow → ℕ → Type 0
+  Carrying = Carried (choicesAt ns es (firsts .nodes) (firsts .count)) first maxFunctions
+
+  abbrev pub Passing : List NodeSet → ℕ → Type 0
+  Passing row k =
+      (f : MaskRow) → placeOf (rowsOf es ns firsts) ≡ at f → Carrying (masksIn row) (begun (firsts .count) f k (masksIn row)) k
 
   pub freshly-none : (row : List NodeSet) → length row ≡ maxFunctions → Freshly row maxFunctions
   freshly-none row l = fresh-none first maxFunctions (masksIn row) (length-map row mask ∙ l)
@@ -93,68 +120,104 @@ module _ (es ns : List ℕ) (firsts : Firsts) where
       subst (λ (r : List ℕ). Fresh first maxFunctions r j) (sym (masks-set row j s ∙ ap (set (masksIn row) j) e))
       (fresh-more first maxFunctions (masksIn row) j h w)
 
-  carrying-none : (row : List NodeSet) → length row ≡ maxFunctions → Carrying row row maxFunctions
-  carrying-none row l = carried-none (choicesAt ns es (firsts .nodes) (firsts .count)) first maxFunctions (masksIn row) (length-map row mask ∙ l)
-
   module _ (f : Faced es ns firsts) where
     pub first-of-rows : (row : List NodeSet) → Freshly row 0 → placeOf (rowsOf es ns firsts) ≡ at (masksIn row)
     unfolding rowsOf
     first-of-rows row w = first-row ns es (firsts .nodes) (firsts .count) (f .faces) (masksIn row) w
 
-    pub first-set : (row : List NodeSet) → placeOf (rowsOf es ns firsts) ≡ at (masksIn row) → (k : ℕ) → k < maxFunctions
-        → getD (masksIn row) k 0 ≡ first k
+    first-set : (row : MaskRow) → placeOf (rowsOf es ns firsts) ≡ at row → (k : ℕ) → k < maxFunctions → getD row k 0 ≡ first k
     unfolding rowsOf
-    first-set row e k h = first-at ns es (firsts .nodes) (firsts .count) (f .faces) (masksIn row) e k h
+    first-set row e k h = first-at ns es (firsts .nodes) (firsts .count) (f .faces) row e k h
 
-    -- The functions that are not there have had their last choice, and would begin again with it
-    pub carrying-there : (row : List NodeSet) → length row ≡ maxFunctions → masksIn row ∈ rowsOf es ns firsts → Carrying row row (firsts .count)
-    carrying-there row l m =
-        go (maxFunctions - firsts .count) (firsts .count) (omega (arith, f .faces .few)) (omega arith)
-      where
-        cs : ℕ → List ℕ
-        cs = choicesAt ns es (firsts .nodes) (firsts .count)
+    -- The empty choice is a function's last
+    last-choice : (j x : ℕ) → x ≡ 0 → behind (choicesOf es ns firsts j) x ≡ []
+    last-choice j x z = subst (λ (y : ℕ). behind (choicesOf es ns firsts j) y ≡ []) (sym z) (empty-last ns es (firsts .nodes) (firsts .count) (f .faces) j)
 
-        only : (j : ℕ) → firsts .count ≤ j → j < maxFunctions → getD (masksIn row) j 0 ≡ 0
-        only j h g = eqb-true (getD (masksIn row) j 0) 0 (absent-choice j (getD (masksIn row) j 0) h .1 (row-choice row m j g))
+    module _ (row : List NodeSet) (l : length row ≡ maxFunctions) (m : masksIn row ∈ rowsOf es ns firsts) where
+      abbrev old : MaskRow
+      old = masksIn row
 
-        go : (d j : ℕ) → j + d ≡ maxFunctions → firsts .count ≤ j → Carrying row row j
-        go zero j e h = let z : maxFunctions ≡ j = omega arith in subst (Carrying row row) z (carrying-none row l)
-        go (suc d) j e h =
-            let g : j < maxFunctions = omega arith in
-            let z = only j h g in
-            let same : set (masksIn row) j (first j) ≡ masksIn row =
-            ap (set (masksIn row) j) (first-absent ns es (firsts .nodes) (firsts .count) j h ∙ sym z) ∙ set-getD (masksIn row) j 0 in
-            subst (λ (r : List ℕ). Carried cs first maxFunctions (masksIn row) r j) same
-            (carried-more cs first maxFunctions (masksIn row) (masksIn row) j g (go d (suc j) (omega arith) (omega arith))
-            (subst (λ (x : ℕ). behind (choicesOf es ns firsts j) x ≡ []) (sym z) (empty-last ns es (firsts .nodes) (firsts .count) (f .faces) j)))
+      -- The functions that are not there have had their last choice, and would begin again with it
+      carrying-there : Carrying old old (firsts .count)
+      carrying-there = go (maxFunctions - firsts .count) (firsts .count) (omega (arith, f .faces .few)) (omega arith)
+        where
+          only : (j : ℕ) → firsts .count ≤ j → j < maxFunctions → getD old j 0 ≡ 0
+          only j h g = eqb-true (getD old j 0) 0 (absent-choice j (getD old j 0) h .1 (row-choice row m j g))
 
-    module _ (old row : List NodeSet) (j : ℕ) (h : j < maxFunctions) (w : Carrying old row (suc j)) where
+          go : (d j : ℕ) → j + d ≡ maxFunctions → firsts .count ≤ j → Carrying old old j
+          go zero j e h =
+              let z : maxFunctions ≡ j = omega arith in
+              subst (Carrying old old) z
+              (carried-none (choicesAt ns es (firsts .nodes) (firsts .count)) first maxFunctions old (length-map row mask ∙ l))
+          go (suc d) j e h =
+              let g : j < maxFunctions = omega arith in
+              let z = only j h g in
+              let same : set old j (first j) ≡ old =
+              ap (set old j) (first-absent ns es (firsts .nodes) (firsts .count) j h ∙ sym z) ∙ set-getD old j 0 in
+              subst (λ (r : MaskRow). Carrying old r j) same
+              (carried-more (choicesAt ns es (firsts .nodes) (firsts .count)) first maxFunctions old old j g (go d (suc j) (omega arith) (omega arith))
+              (last-choice j (getD old j 0) z))
+
+      pub passing-there : Passing row (firsts .count)
+      unfolding begunFrom
+      passing-there g e =
+          let z : 0 ≡ firsts .count - firsts .count = omega arith in
+          subst (λ (d : ℕ). Carrying old (begunFrom g old (firsts .count) d) (firsts .count)) z carrying-there
+
+    module _ (row : List NodeSet) (j : ℕ) (h : j < firsts .count) (w : Passing row (suc j)) where
+      few : j < maxFunctions
+      few = omega (arith, f .faces .few)
+
       -- The set of the function that the step has come to is still the given one
-      pub carried-choice : masksIn old ∈ rowsOf es ns firsts → getD (masksIn row) j 0 ∈ choicesOf es ns firsts j
-      carried-choice m =
-          subst (λ (x : ℕ). x ∈ choicesOf es ns firsts j)
-          (carried-at (choicesAt ns es (firsts .nodes) (firsts .count)) first maxFunctions (masksIn old) (masksIn row) j h w)
-          (row-choice old m j h)
+      still : (g : MaskRow) (e : placeOf (rowsOf es ns firsts) ≡ at g)
+          → getD (masksIn row) j 0 ≡ getD (begun (firsts .count) g (suc j) (masksIn row)) j 0
+      still g e =
+          carried-at (choicesAt ns es (firsts .nodes) (firsts .count)) first maxFunctions (masksIn row)
+          (begun (firsts .count) g (suc j) (masksIn row)) j few (w g e)
 
       -- Its last choice: it begins again
-      pub carrying-more : (s : NodeSet) → getD (masksIn row) j 0 ≡ 0 → mask s ≡ first j → Carrying old (set row j s) j
-      carrying-more s z e =
-          subst (λ (r : List ℕ). Carried (choicesAt ns es (firsts .nodes) (firsts .count)) first maxFunctions (masksIn old) r j)
-          (sym (masks-set row j s ∙ ap (set (masksIn row) j) e))
-          (carried-more (choicesAt ns es (firsts .nodes) (firsts .count)) first maxFunctions (masksIn old) (masksIn row) j h w
-          (subst (λ (x : ℕ). behind (choicesOf es ns firsts j) x ≡ []) (sym z) (empty-last ns es (firsts .nodes) (firsts .count) (f .faces) j)))
+      pub passing-more : getD (masksIn row) j 0 ≡ 0 → Passing row j
+      unfolding begunFrom
+      passing-more z g e =
+          let d : suc (firsts .count - suc j) ≡ firsts .count - j = omega arith in
+          let next = begun (firsts .count) g (suc j) (masksIn row) in
+          subst (λ (n : ℕ). Carrying (masksIn row) (begunFrom g (masksIn row) j n) j) d
+          (subst (λ (x : ℕ). Carrying (masksIn row) (set next j x) j) (sym (first-set g e j few))
+          (carried-more (choicesAt ns es (firsts .nodes) (firsts .count)) first maxFunctions (masksIn row) next j few (w g e)
+          (last-choice j (getD next j 0) (sym (still g e) ∙ z))))
 
       -- Another choice: that is the next row
-      pub steps-set : (s : NodeSet) → Next (choicesOf es ns firsts j) (getD (masksIn row) j 0) (mask s)
-          → StepsFrom es ns firsts (masksIn old) true (masksIn (set row j s))
+      pub steps-by : (r : Step) → r .more ≡ true → r .function ≡ j → Next (choicesOf es ns firsts j) (getD (masksIn row) j 0) (mask (r .set))
+          → StepsBy es ns firsts (masksIn row) r
       unfolding StepsFrom
-      steps-set s n =
-          subst (Steps ns es (firsts .nodes) (firsts .count) (masksIn old) true) (sym (masks-set row j s))
-          (steps-on ns es (firsts .nodes) (firsts .count) (f .faces) (masksIn old) (masksIn row) j (mask s) h w n)
+      steps-by r more at-j n = record {
+        there = λ q. omega (arith, at-j);
+        leads = λ g e.
+            let next = begun (firsts .count) g (suc j) (masksIn row) in
+            let on = steps-on ns es (firsts .nodes) (firsts .count) (f .faces) (masksIn row) next j (mask (r .set)) few (w g e)
+            (subst (λ (x : ℕ). Next (choicesOf es ns firsts j) x (mask (r .set))) (still g e) n) in
+            rw (more, at-j) on;
+      }
 
-    pub steps-none : (old row rest : List NodeSet) → Carrying old row 0 → masksIn rest ≡ replicate maxFunctions 0
-        → StepsFrom es ns firsts (masksIn old) false (masksIn rest)
+    pub steps-none : (row : List NodeSet) (r : Step) → r .more ≡ false → Passing row 0 → StepsBy es ns firsts (masksIn row) r
     unfolding StepsFrom
-    steps-none old row rest w e =
-        subst (Steps ns es (firsts .nodes) (firsts .count) (masksIn old) false) (sym e)
-        (steps-past ns es (firsts .nodes) (firsts .count) (f .faces) (masksIn old) (masksIn row) w)
+    steps-none row r more w = record {
+      there = λ q. absurd (true≢false (sym q ∙ more));
+      leads = λ g e.
+          let past = steps-past ns es (firsts .nodes) (firsts .count) (f .faces) (masksIn row) (begun (firsts .count) g 0 (masksIn row))
+          (set (begun (firsts .count) g (suc (r .function)) (masksIn row)) (r .function) (mask (r .set))) (w g e) in
+          rw more past;
+    }
+
+-- The row that a step leads to, as it is written into an array that has begun again
+pub step-taken : (es ns : List ℕ) (firsts : Firsts) (first row again : List NodeSet) (step : Step) → StepsBy es ns firsts (masksIn row) step
+    → placeOf (rowsOf es ns firsts) ≡ at (masksIn first)
+    → masksIn again ≡ begun (firsts .count) (masksIn first) (step .function + 1) (masksIn row)
+    → StepsFrom es ns firsts (masksIn row) (step .more) (masksIn (set again (step .function) (step .set)))
+step-taken es ns firsts first row again step h f e =
+    let k : ℕ = step .function in
+    let z : k + 1 ≡ suc k = omega arith in
+    let begun-next = subst (λ (j : ℕ). masksIn again ≡ begun (firsts .count) (masksIn first) j (masksIn row)) z e in
+    subst (StepsFrom es ns firsts (masksIn row) (step .more))
+    (sym (masks-set again k (step .set) ∙ ap (λ (r : MaskRow). set r k (mask (step .set))) begun-next))
+    (h .leads (masksIn first) f)

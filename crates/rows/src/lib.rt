@@ -8,20 +8,22 @@ use masks::NodeSet;
 ghost use mathlib.Core.Path.{_≡_};
 ghost use mathlib.Core.Logic.{_↔_};
 ghost use mathlib.Core.Bool.{true};
-ghost use Prim.Native.Nat.{_<_};
+ghost use Prim.Native.Nat.{_<_, _≤_};
 ghost use Rattle.meaning.specs.Limits.{maxFunctions};
 ghost use Rattle.meaning.specs.Basics.{_∈_};
 ghost use Rattle.meaning.specs.Search.{at, placeOf};
 ghost use Rattle.masks.specs.Sets.{mask, masksIn};
 ghost use Rattle.choosing.specs.Rows.{Next, firstAt};
-ghost use Rattle.rows.specs.Rows.{Faced, choicesOf, rowsOf, StepsFrom};
+ghost use Rattle.rows.specs.Rows.{Faced, choicesOf, rowsOf, StepsBy, begun};
 
 // How many functions a row has sets for.
 pub const MAX_FUNCTIONS: usize = metavariables::MAX_FUNCTIONS;
 
-// Whether there is a row after another, and that row. Past the last every set is empty.
-pub struct Stepped {
-    pub row: [NodeSet; MAX_FUNCTIONS],
+// A step from a row: whether there is a row after it, and if so the function that takes its next choice, and that choice. The later functions
+// begin again. A row is 256 bytes and a step is few, so that who goes from row to row keeps one array and writes steps into it.
+pub struct Step {
+    pub set: NodeSet,
+    pub function: usize,
     pub more: bool,
 }
 
@@ -88,36 +90,47 @@ pub fn first_row(es: &[u64], ns: &[u64], firsts: Firsts) -> [NodeSet; MAX_FUNCTI
     row
 }
 
-// The row after `row`, or that it is the last: the last function with a choice left takes its next one, and the later ones begin
-// again. Functions that are not there have one choice, and are passed over. The first row is lent so that beginning again costs nothing: a
-// call that makes many steps computes it once for itself. It is never kept with a place, since what a host hands in may be any bytes.
-pub fn next_row(
-    es: &[u64],
-    ns: &[u64],
-    firsts: Firsts,
-    first: [NodeSet; MAX_FUNCTIONS],
-    row: [NodeSet; MAX_FUNCTIONS],
-) -> Stepped
-    requires { ⌜ Faced (now es) (now ns) firsts ⌝ ∗ ⌜ masksIn row ∈ rowsOf (now es) (now ns) firsts ⌝
-        ∗ ⌜ placeOf (rowsOf (now es) (now ns) firsts) ≡ at (masksIn first) ⌝ }
-    ensures { λ r. ⌜ StepsFrom (now (es .entry)) (now (ns .entry)) firsts (masksIn row) (r .more) (masksIn (r .row)) ⌝ }
+// The step from a row, if it is not the last: the last function with a choice left takes its next one. Functions that are not there have one
+// choice, and are passed over.
+pub fn next_step(es: &[u64], ns: &[u64], firsts: Firsts, row: [NodeSet; MAX_FUNCTIONS]) -> Step
+    requires { ⌜ Faced (now es) (now ns) firsts ⌝ ∗ ⌜ masksIn row ∈ rowsOf (now es) (now ns) firsts ⌝ }
+    ensures { λ r. ⌜ StepsBy (now (es .entry)) (now (ns .entry)) firsts (masksIn row) r ⌝ }
 {
-    let mut next = row;
     let mut k = firsts.count;
     while 0 < k {
         k -= 1;
-        let set = next[k];
+        let set = row[k];
         if !set.is_empty() {
-            next[k] = next_of(es, ns, firsts, k, set);
-            return Stepped {
+            return Step {
+                set: next_of(es, ns, firsts, k, set),
+                function: k,
                 more: true,
-                row: next,
             };
         }
-        next[k] = first[k];
     }
-    Stepped {
+    Step {
+        set: NodeSet::none(),
+        function: 0,
         more: false,
-        row: [NodeSet::none(); MAX_FUNCTIONS],
     }
+}
+
+// The row with the functions from k on at their first choices again. The first row is lent: a call that makes many steps computes it once for
+// itself. It is never kept with a place, since what a host hands in may be any bytes.
+pub fn begin_again(
+    firsts: Firsts,
+    first: [NodeSet; MAX_FUNCTIONS],
+    k: usize,
+    row: [NodeSet; MAX_FUNCTIONS],
+) -> [NodeSet; MAX_FUNCTIONS]
+    requires { ⌜ k ≤ firsts .count ⌝ ∗ ⌜ firsts .count ≤ maxFunctions ⌝ }
+    ensures { λ r. ⌜ masksIn r ≡ begun (firsts .count) (masksIn first) k (masksIn row) ⌝ }
+{
+    let mut next = row;
+    let mut j = firsts.count;
+    while k < j {
+        j -= 1;
+        next[j] = first[j];
+    }
+    next
 }

@@ -1,28 +1,29 @@
 -- Judging rows one after the other: what each call requires, and a law for each answer.
-use mathlib.Core.Path.{_≡_, refl, ap, sym, _∙_, subst}
-use mathlib.Core.Bool.{Bool, true, false, true≢false}
+use mathlib.Core.Path.{_≡_, refl, ap, sym, _∙_, subst, subst₂}
+use mathlib.Core.Bool.{Bool, true, false, not, true≢false}
 use mathlib.Core.List.{List, [], _∷_, _++_, append-assoc, List·Memᴰ·head, List·Memᴰ·tail, Memᴰ·append-right}
-use Prim.Native.Nat.{ℕ, suc, _<_}
+use Prim.Native.Nat.{ℕ, suc, _+_, _<_}
 use native.Mathlib.Omega.{arith}
-use lib.ListN.{length, replicate}
-use Rattle.meaning.specs.Limits.{maxFunctions}
+use lib.ListN.{length, set}
 use Rattle.meaning.specs.Basics.{choose, _∈_}
 use Rattle.meaning.specs.Search.{Place, at, past, placeOf, found, end, paused, Keeps, finds, ends, pauses}
 use Rattle.meaning.proofs.Lists.{never}
 use Rattle.meaning.proofs.PlaceLaws.{mem-split}
 use Rattle.meaning.proofs.OneCall.{one-before}
 use Rattle.masks.specs.Sets.{masksIn}
+use Rattle.masks.specs.declared.NodeSet.{NodeSet}
 use Rattle.faces.specs.declared.first.Firsts.{Firsts}
 use Rattle.choosing.specs.Rows.{MaskRow, Leads, Steps}
 use Rattle.choosing.proofs.Problem.{row-masks}
-use Rattle.rows.specs.Rows.{rowsOf, StepsFrom}
+use Rattle.rows.specs.Rows.{StepsBy, StepsFrom, begun, rowsOf}
+use Rattle.rows.specs.declared.Step.{Step}
+use Rattle.rows.proofs.RowLaws.{step-taken}
 use Rattle.places.specs.Places.{AtRow, AtPast}
 use Rattle.places.specs.declared.Place as code
 use Rattle.fit.specs.Ready as fit
 use Rattle.fit.proofs.Readiness.{laid-ready}
-use Rattle.seeking.specs.Seeking.{Judged, allRows, Grounded, Seekable, Turned, Passed, Ended, Paused, maskPlace, maskReply, Seeks}
+use Rattle.seeking.specs.Seeking.{Ended, Grounded, Judged, Passed, Paused, Seekable, Seeks, Steppable, allRows, judged, maskPlace, maskReply}
 use Rattle.seeking.specs.declared.Fixed.{Fixed}
-use Rattle.seeking.specs.declared.Turn.{Turn}
 use Rattle.seeking.specs.declared.Answer.the-variants as answers
 use Rattle.seeking.specs.declared.Searched.{Searched}
 
@@ -39,135 +40,149 @@ module _ (ps es ns fs : List ℕ) (fixed : Fixed) (row : MaskRow) (scratch : Lis
       (record { choices = r; isRow = m; masks = e }) scratch
       (ground .room)
 
+  pub seekable-steppable : Steppable es ns fixed row
+  seekable-steppable = record { faced = ground .faced; first = ground .first; isRow = h .isRow }
+
 -- Where a step leads
-steps-lead : (es ns : List ℕ) (firsts : Firsts) (row next : MaskRow) (more : Bool) → StepsFrom es ns firsts row more next
-    → (before later : List MaskRow) → rowsOf es ns firsts ≡ before ++ (row ∷ later) → Leads (placeOf later) more next
+abbrev Leading : List ℕ → List ℕ → Fixed → MaskRow → Bool → MaskRow → Type 0
+Leading es ns fixed row more next =
+    (before later : List MaskRow) → allRows es ns fixed ≡ before ++ (row ∷ later) → Leads (placeOf later) more next
+
+steps-lead : (es ns : List ℕ) (fixed : Fixed) (row : MaskRow) (more : Bool) (next : MaskRow) → StepsFrom es ns (fixed .firsts) row more next
+    → Leading es ns fixed row more next
 unfolding StepsFrom Steps rowsOf
-steps-lead es ns firsts row next more h before later e = h before later e
+steps-lead es ns fixed row more next h before later e = h before later e
 
 -- Places
-at-place : (v : code.Place) (row : MaskRow) → AtRow row v → maskPlace v ≡ at row
-at-place v row h = ap (λ (b : Bool). choose b past (at (masksIn (v .sets)))) (h .here) ∙ ap at (h .masks)
+at-place : (v : code.Place) (row : List NodeSet) → AtRow row v → maskPlace v ≡ at (masksIn row)
+at-place v row h = ap (λ (b : Bool). choose b past (at (masksIn (v .sets)))) (h .here) ∙ ap (λ (r : List NodeSet). at (masksIn r)) (h .sets)
 
 past-place : (v : code.Place) → AtPast v → maskPlace v ≡ past
 past-place v h = ap (λ (b : Bool). choose b past (at (masksIn (v .sets)))) (h .past)
 
 -- The place after a row
-later-place : (t : Turn) (row : MaskRow) (r : Searched) (later : List MaskRow) → Leads (placeOf later) (t .more) (masksIn (t .next))
-    → Passed row t r → maskPlace (r .place) ≡ placeOf later
-later-place t row r later s p = go (t .more) refl
+later-place : (v : code.Place) (later : List MaskRow) → Leads (placeOf later) (not (v .past)) (masksIn (v .sets)) → maskPlace v ≡ placeOf later
+later-place v later s = go (v .past) refl
   where
-    go : (b : Bool) → t .more ≡ b → maskPlace (r .place) ≡ placeOf later
-    go true q = at-place (r .place) (masksIn (t .next)) (p .more q) ∙ sym (s .goes q)
-    go false q = past-place (r .place) (p .last q) ∙ sym (s .ends q)
+    go : (b : Bool) → v .past ≡ b → maskPlace v ≡ placeOf later
+    go true q =
+        ap (λ (b : Bool). choose b past (at (masksIn (v .sets)))) q ∙ sym (s .ends (ap not q))
+    go false q =
+        ap (λ (b : Bool). choose b past (at (masksIn (v .sets)))) q ∙ sym (s .goes (ap not q))
 
 module _ (ps es ns fs : List ℕ) (fixed : Fixed) (row : MaskRow) where
   abbrev Solves : MaskRow → Type 0
   Solves r = Judged ps es ns fs fixed r
 
-  no-solution : (t : Turn) → Turned ps es ns fs fixed row t → t .solves ≡ false → Solves row → ⊥
-  no-solution t h s q = true≢false (sym q ∙ sym (h .solves) ∙ s)
-
-  leads : (t : Turn) → Turned ps es ns fs fixed row t → (before later : List MaskRow) → allRows es ns fixed ≡ before ++ (row ∷ later)
-      → Leads (placeOf later) (t .more) (masksIn (t .next))
-  leads t h = steps-lead es ns (fixed .firsts) row (masksIn (t .next)) (t .more) (h .steps)
-
-  abbrev KeepsFrom : ℕ → Searched → Type 0
-  KeepsFrom n r =
-      (before later : List MaskRow) → allRows es ns fixed ≡ before ++ (row ∷ later)
-      → Keeps Solves n (row ∷ later) (maskReply (r .answer) (masksIn (r .row)) (r .place))
+  no-solution : judged ps es ns fs fixed row ≡ false → Solves row → ⊥
+  no-solution s q = true≢false (sym q ∙ s)
 
   -- A Found
-  keeps-found : (n : ℕ) (t : Turn) (r : Searched) → 0 < n → Turned ps es ns fs fixed row t → t .solves ≡ true → Passed row t r
-      → KeepsFrom n r
-  keeps-found n t r l h s p before later e =
-      let reply : maskReply (r .answer) (masksIn (r .row)) (r .place) ≡ found row (placeOf later) =
-      rw (p .answer, p .here, later-place t row r later (leads t h before later e) p) in
-      subst (Keeps Solves n (row ∷ later)) (sym reply) (finds [] row later tt (sym (h .solves) ∙ s) l)
-
-  pub seeks-found : (n : ℕ) (t : Turn) (r : Searched) → 0 < n → Turned ps es ns fs fixed row t → t .solves ≡ true → Passed row t r
+  pub seeks-found : (n : ℕ) (r : Searched) → 0 < n → judged ps es ns fs fixed row ≡ true → Passed es ns fixed row r
       → Seeks ps es ns fs fixed row n r
-  seeks-found n t r l h s p = record { keeps = keeps-found n t r l h s p; clean = λ q. clean (t .more) refl q }
-    where
-      clean : (b : Bool) → t .more ≡ b → r .place .past ≡ true → masksIn (r .place .sets) ≡ replicate maxFunctions 0
-      clean true m q = absurd (true≢false (sym q ∙ p .more m .here))
-      clean false m q = p .last m .masks
-
-  -- An End: no row follows
-  no-later : (t : Turn) (later : List MaskRow) → Leads (placeOf later) (t .more) (masksIn (t .next)) → t .more ≡ false → later ≡ []
-  no-later t [] s m = refl
-  no-later t (x ∷ xs) s m = never (let z = s .ends m in cc)
-
-  pub seeks-ended : (n : ℕ) (t : Turn) (r : Searched) → 0 < n → Turned ps es ns fs fixed row t → t .solves ≡ false → t .more ≡ false
-      → Ended r
-      → Seeks ps es ns fs fixed row n r
-  seeks-ended n t r l h s m d = record {
+  seeks-found n r l s p = record {
     keeps = λ before later e.
-        let none = no-later t later (leads t h before later e) m in
-        let reply : maskReply (r .answer) (masksIn (r .row)) (r .place) ≡ end past = rw (d .answer, past-place (r .place) (d .place)) in
-        subst (Keeps Solves n (row ∷ later)) (sym reply)
-        (subst (λ (l : List MaskRow). Keeps Solves n (row ∷ l) (end past)) (sym none)
-        (ends (row ∷ []) (no-solution t h s, tt) (omega arith)));
-    clean = λ q. d .place .masks;
+        let leads = steps-lead es ns fixed row _ _ (p .after) before later e in
+        let reply : maskReply (r .answer) (masksIn (r .row)) (r .place) ≡ found row (placeOf later) =
+        rw (p .answer, p .here, later-place (r .place) later leads) in
+        subst (Keeps Solves n (row ∷ later)) (sym reply) (finds [] row later tt s l);
+    clean = p .clean;
   }
 
   -- A pause, where no allowance is left
-  pub seeks-paused : (n : ℕ) (r : Searched) → n ≡ 0 → Paused row r → Seeks ps es ns fs fixed row n r
-  seeks-paused n r z d = record {
+  pub seeks-paused : (n : ℕ) (here : List NodeSet) (r : Searched) → n ≡ 0 → masksIn here ≡ row → Paused here r → Seeks ps es ns fs fixed row n r
+  seeks-paused n here r z q d = record {
     keeps = λ before later e.
-        let reply : maskReply (r .answer) (masksIn (r .row)) (r .place) ≡ paused (at row) = rw (d .answer, at-place (r .place) row (d .place)) in
+        let reply : maskReply (r .answer) (masksIn (r .row)) (r .place) ≡ paused (at row) =
+        rw (d .answer, at-place (r .place) here (d .place), q) in
         subst (Keeps Solves n (row ∷ later)) (sym reply) (pauses [] row later tt (omega arith));
     clean = λ q. absurd (true≢false (sym q ∙ d .place .here));
   }
 
-  -- One row is passed
   begins-with : (next : MaskRow) (later : List MaskRow) → placeOf later ≡ at next → (rest : List MaskRow) × (later ≡ next ∷ rest)
   begins-with next [] e = never (cc)
   begins-with next (x ∷ xs) e = (xs, let z : x ≡ next = cc in ap {B = List MaskRow} (λ y. y ∷ xs) z)
 
-  pub seeks-on : (n m : ℕ) (t : Turn) (r : Searched) → n ≡ suc m → Turned ps es ns fs fixed row t → t .solves ≡ false → t .more ≡ true
-      → Seeks ps es ns fs fixed (masksIn (t .next)) m r → Seeks ps es ns fs fixed row n r
-  seeks-on n m t r z h s g k = record {
-    keeps = λ before later e.
-        let (rest, q) = begins-with (masksIn (t .next)) later (leads t h before later e .goes g) in
-        let on : allRows es ns fixed ≡ (before ++ (row ∷ [])) ++ (masksIn (t .next) ∷ rest) =
-        e ∙ ap (λ (l : List MaskRow). before ++ (row ∷ l)) q ∙ sym (append-assoc before (row ∷ []) (masksIn (t .next) ∷ rest)) in
-        let kept = one-before Solves row (no-solution t h s) (k .keeps (before ++ (row ∷ [])) rest on) in
-        rw (z, q) kept;
-    clean = k .clean;
-  }
+  -- No solution row, and a step from it
+  module _ (s : judged ps es ns fs fixed row ≡ false) (more : Bool) (next : MaskRow) (steps : StepsFrom es ns (fixed .firsts) row more next) where
+    leads : Leading es ns fixed row more next
+    leads = steps-lead es ns fixed row more next steps
 
-  -- ... and the next is again one of the tables
-  pub next-member : (t : Turn) → Turned ps es ns fs fixed row t → t .more ≡ true → row ∈ allRows es ns fixed → masksIn (t .next) ∈ allRows es ns fixed
-  next-member t h g m =
-      let (before, later, e) = mem-split row (allRows es ns fixed) m in
-      let (rest, q) = begins-with (masksIn (t .next)) later (leads t h before later e .goes g) in
-      subst (λ (l : List MaskRow). masksIn (t .next) ∈ l) (sym (e ∙ ap (λ (l : List MaskRow). before ++ (row ∷ l)) q))
-      (Memᴰ·append-right before (List·Memᴰ·tail (List·Memᴰ·head refl)))
+    -- An End: no row follows
+    no-later : (later : List MaskRow) → Leads (placeOf later) more next → more ≡ false → later ≡ []
+    no-later [] h m = refl
+    no-later (x ∷ xs) h m = never (let z = h .ends m in cc)
 
-  pub seekable-next : (scratch scratch′ : List ℕ) (t : Turn) → Seekable ps es ns fs fixed row scratch → Turned ps es ns fs fixed row t
-      → t .more ≡ true → length scratch′ ≡ length scratch → Seekable ps es ns fs fixed (masksIn (t .next)) scratch′
-  seekable-next scratch scratch′ t h d g l =
-      let ground = h .grounded in
-      let room = ground .room in
-      record {
-        grounded = record {
-          problem = ground .problem;
-          laid = ground .laid;
-          faced = ground .faced;
-          listed = ground .listed;
-          first = ground .first;
-          room = omega arith;
-        };
-        isRow = next-member t d g (h .isRow);
-      }
+    pub seeks-ended : (n : ℕ) (r : Searched) → 0 < n → more ≡ false → Ended r → Seeks ps es ns fs fixed row n r
+    seeks-ended n r l m d = record {
+      keeps = λ before later e.
+          let none = no-later later (leads before later e) m in
+          let reply : maskReply (r .answer) (masksIn (r .row)) (r .place) ≡ end past = rw (d .answer, past-place (r .place) (d .place)) in
+          subst (Keeps Solves n (row ∷ later)) (sym reply)
+          (subst (λ (l : List MaskRow). Keeps Solves n (row ∷ l) (end past)) (sym none) (ends (row ∷ []) (no-solution s, tt) (omega arith)));
+      clean = λ q. d .place .masks;
+    }
+
+    -- One row is passed
+    pub seeks-on : (n m : ℕ) (r : Searched) → n ≡ suc m → more ≡ true → Seeks ps es ns fs fixed next m r → Seeks ps es ns fs fixed row n r
+    seeks-on n m r z g k = record {
+      keeps = λ before later e.
+          let (rest, q) = begins-with next later (leads before later e .goes g) in
+          let on : allRows es ns fixed ≡ (before ++ (row ∷ [])) ++ (next ∷ rest) =
+          e ∙ ap (λ (l : List MaskRow). before ++ (row ∷ l)) q ∙ sym (append-assoc before (row ∷ []) (next ∷ rest)) in
+          let kept = one-before Solves row (no-solution s) (k .keeps (before ++ (row ∷ [])) rest on) in
+          rw (z, q) kept;
+      clean = k .clean;
+    }
+
+    -- ... and the next is again one of the tables
+    next-member : more ≡ true → row ∈ allRows es ns fixed → next ∈ allRows es ns fixed
+    next-member g m =
+        let (before, later, e) = mem-split row (allRows es ns fixed) m in
+        let (rest, q) = begins-with next later (leads before later e .goes g) in
+        subst (λ (l : List MaskRow). next ∈ l) (sym (e ∙ ap (λ (l : List MaskRow). before ++ (row ∷ l)) q))
+        (Memᴰ·append-right before (List·Memᴰ·tail (List·Memᴰ·head refl)))
+
+    pub seekable-next : (scratch scratch′ : List ℕ) → Seekable ps es ns fs fixed row scratch → more ≡ true → length scratch′ ≡ length scratch
+        → Seekable ps es ns fs fixed next scratch′
+    seekable-next scratch scratch′ h g l =
+        let ground = h .grounded in
+        let room = ground .room in
+        record {
+          grounded = record {
+            problem = ground .problem;
+            laid = ground .laid;
+            faced = ground .faced;
+            listed = ground .listed;
+            first = ground .first;
+            room = omega arith;
+          };
+          isRow = next-member g (h .isRow);
+        }
 
 -- The answers of `found_at`
-pub passed-more : (row : MaskRow) (t : Turn) (r : Searched) → t .more ≡ true → r .answer ≡ answers.Found → masksIn (r .row) ≡ row
-    → AtRow (masksIn (t .next)) (r .place)
-    → Passed row t r
-passed-more row t r e a h p = record { answer = a; here = h; more = λ q. p; last = λ q. absurd (true≢false (sym e ∙ q)) }
+module _ (es ns : List ℕ) (fixed : Fixed) (row : List NodeSet) (step : Step) (h : StepsBy es ns (fixed .firsts) (masksIn row) step)
+    (first : placeOf (allRows es ns fixed) ≡ at (masksIn (fixed .first))) where
+  pub passed-more : (again : List NodeSet) (r : Searched) → step .more ≡ true
+      → masksIn again ≡ begun (fixed .firsts .count) (masksIn (fixed .first)) (step .function + 1) (masksIn row)
+      → r .answer ≡ answers.Found → masksIn (r .row) ≡ masksIn row → AtRow (set again (step .function) (step .set)) (r .place)
+      → Passed es ns fixed (masksIn row) r
+  passed-more again r more e a here place = record {
+    answer = a;
+    here = here;
+    after = subst₂ (StepsFrom es ns (fixed .firsts) (masksIn row)) (more ∙ sym (ap not (place .here))) (sym (ap masksIn (place .sets)))
+        (step-taken es ns (fixed .firsts) (fixed .first) row again step h first e);
+    clean = λ q. absurd (true≢false (sym q ∙ place .here));
+  }
 
-pub passed-last : (row : MaskRow) (t : Turn) (r : Searched) → t .more ≡ false → r .answer ≡ answers.Found → masksIn (r .row) ≡ row → AtPast (r .place)
-    → Passed row t r
-passed-last row t r e a h p = record { answer = a; here = h; more = λ q. absurd (true≢false (sym q ∙ e)); last = λ q. p }
+  pub passed-last : (r : Searched) → step .more ≡ false → r .answer ≡ answers.Found → masksIn (r .row) ≡ masksIn row → AtPast (r .place)
+      → Passed es ns fixed (masksIn row) r
+  unfolding StepsFrom Steps
+  passed-last r last a here place = record {
+    answer = a;
+    here = here;
+    after = λ before later e.
+        let leads = h .leads (masksIn (fixed .first)) first before later e in
+        record { goes = λ q. absurd (true≢false (sym q ∙ ap not (place .past))); ends = λ q. leads .ends last };
+    clean = λ q. place .masks;
+  }

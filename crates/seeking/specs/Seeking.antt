@@ -1,11 +1,11 @@
 -- Judging rows one after the other, in terms of the tables.
 --   judged     whether a row of masks is a solution row, by the test on the tables
 --   Judged     it is
---   Rowed      what one row's turn requires; Seekable, what a search from a row on requires
+--   Steppable  what a step from a row requires; Seekable, what a search from a row on requires
 --   maskReply  an answer in terms of rows of masks
 --   Seeks      the promise of one call (`Keeps`) over the rows of the tables from a row on
 use mathlib.Core.Path.{_≡_}
-use mathlib.Core.Bool.{Bool, true, false}
+use mathlib.Core.Bool.{Bool, not, true}
 use mathlib.Core.List.{List, _∷_, _++_, map}
 use Prim.Native.Nat.{ℕ, _≤_}
 use lib.ListN.{length, replicate}
@@ -18,6 +18,7 @@ use Rattle.meaning.specs.Search.{at, past, placeOf, Reply, found, end, paused, 
 use Rattle.meaning.specs.Search as meant
 use Rattle.numbers.specs.Tests.{told}
 use Rattle.masks.specs.Sets.{masksIn}
+use Rattle.masks.specs.declared.NodeSet.{NodeSet}
 use Rattle.choosing.specs.Rows.{MaskRow}
 use Rattle.rows.specs.Rows.{Faced, rowsOf, StepsFrom}
 use Rattle.places.specs.Places.{AtRow, AtPast}
@@ -25,7 +26,6 @@ use Rattle.places.specs.declared.Place.{Place}
 use Rattle.fit.specs.Judging.{judgedAt}
 use Rattle.fit.specs.Laid.{Laid}
 use Rattle.seeking.specs.declared.Fixed.{Fixed}
-use Rattle.seeking.specs.declared.Turn.{Turn}
 use Rattle.seeking.specs.declared.Answer.{Answer}
 use Rattle.seeking.specs.declared.Answer.the-variants as answers
 use Rattle.seeking.specs.declared.Searched.{Searched}
@@ -54,22 +54,27 @@ pub record Seekable (ps es ns fs : List ℕ) (fixed : Fixed) (row : MaskRow) (sc
   pub grounded : Grounded ps es ns fs fixed scratch
   pub isRow : row ∈ allRows es ns fixed
 
-pub record Turned (ps es ns fs : List ℕ) (fixed : Fixed) (row : MaskRow) (r : Turn) : Type 0 where
-  pub solves : r .solves ≡ judged ps es ns fs fixed row
-  pub steps : StepsFrom es ns (fixed .firsts) row (r .more) (masksIn (r .next))
+pub record Steppable (es ns : List ℕ) (fixed : Fixed) (row : MaskRow) : Type 0 where
+  pub faced : Faced es ns (fixed .firsts)
+  pub first : placeOf (allRows es ns fixed) ≡ at (masksIn (fixed .first))
+  pub isRow : row ∈ allRows es ns fixed
+
+-- Past the last no mask has a node
+abbrev pub Clean : Place → Type 0
+Clean v = v .past ≡ true → masksIn (v .sets) ≡ replicate maxFunctions 0
 
 -- The answers of a search from a row on
-pub record Passed (row : MaskRow) (t : Turn) (r : Searched) : Type 0 where
+pub record Passed (es ns : List ℕ) (fixed : Fixed) (row : MaskRow) (r : Searched) : Type 0 where
   pub answer : r .answer ≡ answers.Found
   pub here : masksIn (r .row) ≡ row
-  pub more : t .more ≡ true → AtRow (masksIn (t .next)) (r .place)
-  pub last : t .more ≡ false → AtPast (r .place)
+  pub after : StepsFrom es ns (fixed .firsts) row (not (r .place .past)) (masksIn (r .place .sets))
+  pub clean : Clean (r .place)
 
 pub record Ended (r : Searched) : Type 0 where
   pub answer : r .answer ≡ answers.End
   pub place : AtPast (r .place)
 
-pub record Paused (row : MaskRow) (r : Searched) : Type 0 where
+pub record Paused (row : List NodeSet) (r : Searched) : Type 0 where
   pub answer : r .answer ≡ answers.Paused
   pub place : AtRow row (r .place)
 
@@ -82,10 +87,6 @@ maskReply (answers.Refused n) row v = refusedCall n
 maskReply answers.Found row v = found row (maskPlace v)
 maskReply answers.End row v = end (maskPlace v)
 maskReply answers.Paused row v = paused (maskPlace v)
-
--- Past the last no mask has a node
-abbrev pub Clean : Place → Type 0
-Clean v = v .past ≡ true → masksIn (v .sets) ≡ replicate maxFunctions 0
 
 pub record Seeks (ps es ns fs : List ℕ) (fixed : Fixed) (row : MaskRow) (n : ℕ) (r : Searched) : Type 0 where
   pub keeps : (before later : List MaskRow) → allRows es ns fixed ≡ before ++ (row ∷ later)

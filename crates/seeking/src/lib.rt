@@ -3,23 +3,17 @@ use faces::first::Firsts;
 use fit::judge;
 use masks::NodeSet;
 use places::Place;
-use rows::next_row;
+use rows::begin_again;
+use rows::next_step;
 ghost use Prim.Native.Nat.{_<_};
 ghost use Rattle.masks.specs.Sets.{masksIn};
-ghost use Rattle.seeking.specs.Seeking.{Turned, Passed, Ended, Paused, Seekable, Seeks};
+ghost use Rattle.seeking.specs.Seeking.{Steppable, Passed, Ended, Paused, Seekable, Seeks};
 
-// What stays the same from row to row: the set of functions, the nodes of their faces, and the first row, which `next_row` is lent.
+// What stays the same from row to row: the set of functions, the nodes of their faces, and the first row, which `begin_again` is lent.
 pub struct Fixed {
     pub first: [NodeSet; Place::MAX_FUNCTIONS],
     pub firsts: Firsts,
     pub functions: u32,
-}
-
-// One row: whether it is a solution row, and the row after it, if there is one.
-pub struct Turn {
-    pub next: [NodeSet; Place::MAX_FUNCTIONS],
-    pub solves: bool,
-    pub more: bool,
 }
 
 pub enum Answer {
@@ -37,36 +31,19 @@ pub struct Searched {
     pub answer: Answer,
 }
 
-fn look_at(
-    ps: &[u64],
-    es: &[u64],
-    ns: &[u64],
-    fs: &[u64],
-    fixed: Fixed,
-    row: [NodeSet; Place::MAX_FUNCTIONS],
-    scratch: &mut [u64],
-) -> Turn
-    requires { ⌜ Seekable (now ps) (now es) (now ns) (now fs) fixed (masksIn row) (now scratch) ⌝ }
-    ensures { λ r. ⌜ Turned (now (ps .entry)) (now (es .entry)) (now (ns .entry)) (now (fs .entry)) fixed (masksIn row) r ⌝ }
+// A Found at the row, and the place after it.
+fn found_at(es: &[u64], ns: &[u64], fixed: Fixed, row: [NodeSet; Place::MAX_FUNCTIONS]) -> Searched
+    requires { ⌜ Steppable (now es) (now ns) fixed (masksIn row) ⌝ }
+    ensures { λ r. ⌜ Passed (now (es .entry)) (now (ns .entry)) fixed (masksIn row) r ⌝ }
 {
     let firsts = fixed.firsts;
     let first = fixed.first;
-    let judged = judge(ps, es, ns, fs, fixed.functions, firsts, row, scratch);
-    let stepped = next_row(es, ns, firsts, first, row);
-    let next = stepped.row;
-    Turn {
-        solves: judged.solves,
-        more: stepped.more,
-        next: next,
-    }
-}
-
-// A Found at the row, and the place after it.
-fn found_at(row: [NodeSet; Place::MAX_FUNCTIONS], turn: Turn) -> Searched
-    ensures { λ r. ⌜ Passed (masksIn row) turn r ⌝ }
-{
-    let next = turn.next;
-    let place = if turn.more {
+    let step = next_step(es, ns, firsts, row);
+    let k = step.function;
+    let set = step.set;
+    let place = if step.more {
+        let mut next = begin_again(firsts, first, k + 1, row);
+        next[k] = set;
         Place::at(next)
     } else {
         Place::past_last()
@@ -89,7 +66,7 @@ pub fn ended() -> Searched
 }
 
 fn pause_at(row: [NodeSet; Place::MAX_FUNCTIONS]) -> Searched
-    ensures { λ r. ⌜ Paused (masksIn row) r ⌝ }
+    ensures { λ r. ⌜ Paused row r ⌝ }
 {
     Searched {
         answer: Answer::Paused,
@@ -112,18 +89,28 @@ pub fn seek(
     requires { ⌜ Seekable (now ps) (now es) (now ns) (now fs) fixed (masksIn row) (now scratch) ⌝ }
     ensures { λ r. ⌜ Seeks (now (ps .entry)) (now (es .entry)) (now (ns .entry)) (now (fs .entry)) fixed (masksIn row) n r ⌝ }
 {
+    let functions = fixed.functions;
+    let firsts = fixed.firsts;
+    let first = fixed.first;
     let mut at = row;
     let mut left = n;
     while 0 < left {
-        let t = look_at(ps, es, ns, fs, fixed, at, scratch);
-        if t.solves {
-            return found_at(at, t);
+        let judged = judge(ps, es, ns, fs, functions, firsts, at, scratch);
+        if judged.solves {
+            return found_at(es, ns, fixed, at);
         }
-        if !t.more {
+        let step = next_step(es, ns, firsts, at);
+        if !step.more {
             return ended();
         }
-        let next = t.next;
-        at = next;
+        // Seldom: most steps are the last function's.
+        let k = step.function;
+        if k + 1 < firsts.count {
+            let begun = begin_again(firsts, first, k + 1, at);
+            at = begun;
+        }
+        let set = step.set;
+        at[k] = set;
         left -= 1;
     }
     pause_at(at)

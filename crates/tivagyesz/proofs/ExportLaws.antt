@@ -193,11 +193,11 @@ module _ (s : Bytes) (n : ℕ) (words row : List ℕ) (from : Place) (searched :
   pub row-long : 256 ≤ code → placeWords ≤ length row
   row-long big = leb-true placeWords (length row) (told big .isLong)
 
-  pub search-answered : 256 ≤ code → (here : Place) (words′ row′ : List ℕ) → AtRow (masksIn (searched .row)) here
+  pub search-answered : 256 ≤ code → (here : Place) (words′ row′ : List ℕ) → AtRow (searched .row) here
       → words′ ≡ placed words (valueOf (searched .place)) → row′ ≡ rowGiven code (valueOf here) row → SearchExport s n words row words′ row′ code
   search-answered big here words′ row′ at e f =
       let row-is : valueOf here ≡ rowValue (masksIn (searched .row)) =
-      ap₂ (λ (m : List ℕ) (b : Bool). record { masks = m; isPast = b }) (at .masks) (at .here) in
+      ap₂ (λ (m : List ℕ) (b : Bool). record { masks = m; isPast = b }) (ap masksIn (at .sets)) (at .here) in
       record {
         reply = hostReply searched;
         call = called;
