@@ -6,8 +6,8 @@ use mathlib.Core.List.{List, [], _∷_, _++_, map-append, append-assoc, append-n
 use mathlib.Core.List.{List·Memᴰ·append-cases, List·Memᴰ·head, List·Memᴰ·cases-cons, List·Memᴰ·not-nil}
 use Prim.Native.Nat.{ℕ, suc, _+_, _*_, _<_, _≤_}
 use native.Mathlib.Omega.{arith}
-use lib.ListN.{length, take, drop, getD, set, length-append, length-map, take-append-drop}
-use lib.Seq.{paste, paste-zero, paste-suc, take-suc, take-all, take-at, length-take-le, drop-append-add, drop-drop}
+use lib.ListN.{length, take, getD, length-append, length-map}
+use lib.Seq.{take-suc, take-all}
 use Rattle.meaning.specs.Limits.{maxFunctions}
 use Rattle.meaning.specs.Basics.{Bytes, All, _∈_, Byte}
 use Rattle.meaning.specs.Problem.{Problem}
@@ -19,9 +19,7 @@ use Rattle.meaning.specs.Entry.{HostReply, startCall, SearchCall}
 use Rattle.meaning.specs.Calls.{left, Run, HostCall, Carried, foundIn, founds, HasEnd}
 use Rattle.meaning.proofs.Lists.{never, each-append}
 use Rattle.meaning.proofs.CallLaws.{third-demand}
-use Rattle.masks.specs.Sets.{wordCount, wordsOf, masksIn}
-use Rattle.masks.proofs.Words.{length-words}
-use Rattle.choosing.specs.Rows.{MaskRow}
+use Rattle.masks.specs.Sets.{masksIn}
 use Rattle.places.specs.Places.{valueOf, Starts}
 use Rattle.places.specs.declared.Place.{Place}
 use Rattle.places.specs.declared.Started.{Started}
@@ -30,86 +28,11 @@ use Rattle.search.specs.Calling.{replyWith, hostReply, Answers}
 use Rattle.seeking.specs.declared.Answer as code
 use Rattle.seeking.specs.declared.Answer.the-variants as answers
 use Rattle.seeking.specs.declared.Searched.{Searched}
-use Rattle.calls.specs.Running.{rowLength, wordsOfRow, wordsOfRows, leftBy, PutMask, Put, IsEnd, Called, FromPlace, Runs}
+use Rattle.words.specs.Words.{PutRow, rowWords}
+use Rattle.words.proofs.WordLaws.{more-put, nothing-put}
+use Rattle.calls.specs.Running.{wordsOfRow, wordsOfRows, leftBy, IsEnd, Called, FromPlace, Runs}
 use Rattle.calls.specs.declared.Progress.{Progress}
 use Rattle.calls.specs.declared.Ran.{Ran}
-
--- The buffer
-pub put-words : (before : List ℕ) (start a b c d : ℕ) → start + wordCount ≤ length before
-    → set (set (set (set before start a) (start + 1) b) (start + 2) c) (start + 3) d
-    ≡ take start before ++ (a ∷ b ∷ c ∷ d ∷ []) ++ drop (start + wordCount) before
-put-words before start a b c d h =
-    let ws : List ℕ = a ∷ b ∷ c ∷ d ∷ [] in
-    let here : start ≡ start + 0 = omega arith in
-    let first : set before start a ≡ paste before start ws 1 =
-    ap (λ (l : List ℕ). set l start a) (paste-zero before start ws)
-    ∙ ap (λ (n : ℕ). set (paste before start ws 0) n a) here
-    ∙ paste-suc before start ws 0 0 (omega arith) (omega arith) in
-    ap (λ (l : List ℕ). set (set (set l (start + 1) b) (start + 2) c) (start + 3) d) first
-    ∙ ap (λ (l : List ℕ). set (set l (start + 2) c) (start + 3) d) (paste-suc before start ws 1 0 (omega arith) (omega arith))
-    ∙ ap (λ (l : List ℕ). set l (start + 3) d) (paste-suc before start ws 2 0 (omega arith) (omega arith))
-    ∙ paste-suc before start ws 3 0 (omega arith) (omega arith)
-
-length-row : (row : MaskRow) → length (wordsOfRow row) ≡ length row * wordCount
-length-row [] = refl
-length-row (m ∷ row) = length-append (wordsOf m) (wordsOfRow row) ∙ omega (arith, length-words m, length-row row)
-
--- The first j masks of a row are in their places
-abbrev pub Begun : ℕ → MaskRow → ℕ → List ℕ → List ℕ → Type 0
-Begun k row j before now =
-    now ≡ take (rowLength * k) before ++ wordsOfRow (take j row) ++ drop (rowLength * k + wordCount * j) before
-
-nothing-put : (n : ℕ) (l : List ℕ) → l ≡ take n l ++ [] ++ drop n l
-nothing-put n l = sym (ap (λ (r : List ℕ). r ++ drop n l) (append-nil (take n l)) ∙ take-append-drop n l)
-
--- More after a front of so many words
-more-put : (F M before mid now : List ℕ) (a m b : ℕ) → length F ≡ a → b ≡ a + m → mid ≡ F ++ drop a before
-    → now ≡ take a mid ++ M ++ drop b mid → now ≡ (F ++ M) ++ drop b before
-more-put F M before mid now a m b e f h g =
-    let far : b ≡ length F + m = omega (arith, e, f) in
-    let front : take a mid ≡ F = ap (take a) h ∙ take-at F (drop a before) a e in
-    let rest : drop b mid ≡ drop b before =
-    ap (drop b) h ∙ ap (λ (n : ℕ). drop n (F ++ drop a before)) far ∙ drop-append-add F (drop a before) m ∙ drop-drop m a before
-    ∙ ap (λ (n : ℕ). drop n before) (sym f) in
-    g ∙ ap (λ (l : List ℕ). l ++ M ++ drop b mid) front ∙ ap (λ (l : List ℕ). (F ++ M) ++ l) rest
-
-module _ (k : ℕ) (row : MaskRow) (before : List ℕ) (long : length row ≡ maxFunctions) where
-  pub begun-none : Begun k row 0 before before
-  begun-none =
-      let far : rowLength * k + wordCount * 0 ≡ rowLength * k = omega arith in
-      rw far (nothing-put (rowLength * k) before)
-
-  pub begun-more : (j : ℕ) (mid now : List ℕ) → j < maxFunctions → rowLength * k + rowLength ≤ length before → Begun k row j before mid
-      → PutMask (rowLength * k + wordCount * j) (getD row j 0) mid now → Begun k row (j + 1) before now
-  unfolding maxFunctions
-  begun-more j mid now l room h p =
-      let next : j + 1 ≡ suc j = omega arith in
-      let past : rowLength * k + wordCount * j + wordCount ≡ rowLength * k + wordCount * (j + 1) = omega arith in
-      let base = rowLength * k in
-      let F : List ℕ = take base before ++ wordsOfRow (take j row) in
-      let front : length F ≡ base + wordCount * j =
-      length-append (take base before) (wordsOfRow (take j row))
-      ∙ omega (arith, length-take-le base before (omega arith), length-row (take j row), length-take-le j row (omega arith)) in
-      let words : wordsOfRow (take (j + 1) row) ≡ wordsOfRow (take j row) ++ wordsOf (getD row j 0) =
-      ap (λ (n : ℕ). wordsOfRow (take n row)) next ∙ ap wordsOfRow (take-suc row j 0 (omega arith))
-      ∙ each-append wordsOf (take j row) (getD row j 0 ∷ [])
-      ∙ ap (λ (w : List ℕ). wordsOfRow (take j row) ++ w) (append-nil (wordsOf (getD row j 0))) in
-      more-put F (wordsOf (getD row j 0)) before mid now (base + wordCount * j) wordCount (base + wordCount * (j + 1)) front (omega arith) h
-      (p ∙ ap (λ (n : ℕ). take (base + wordCount * j) mid ++ wordsOf (getD row j 0) ++ drop n mid) past)
-      ∙ ap (λ (w : List ℕ). w ++ drop (base + wordCount * (j + 1)) before)
-      (append-assoc (take base before) (wordsOfRow (take j row)) (wordsOf (getD row j 0))
-      ∙ ap (λ (w : List ℕ). take base before ++ w) (sym words))
-
-  pub begun-all : (j : ℕ) (now : List ℕ) → j ≡ maxFunctions → Begun k row j before now → Put k row before now
-  unfolding maxFunctions
-  begun-all j now e h =
-      let last : wordCount * j ≡ rowLength = omega arith in
-      record {
-        long = length-row row ∙ omega arith;
-        whole = h ∙ ap (λ (r : MaskRow). take (rowLength * k) before ++ wordsOfRow r ++ drop (rowLength * k + wordCount * j) before)
-            (take-all j row (omega arith))
-            ∙ ap (λ (n : ℕ). take (rowLength * k) before ++ wordsOfRow row ++ drop (rowLength * k + n) before) last;
-      }
 
 -- The answers of `call`
 module _ (s : Bytes) (at : Progress) (n : ℕ) (before : List ℕ) (searched : Searched) (h : Answers s (at .place) n searched) (r : Progress)
@@ -117,21 +40,21 @@ module _ (s : Bytes) (at : Progress) (n : ℕ) (before : List ℕ) (searched : S
   reply-is : (a : code.Answer) → searched .answer ≡ a → hostReply searched ≡ replyWith a (masksIn (searched .row)) (valueOf (searched .place))
   reply-is a e = ap (λ (x : code.Answer). replyWith x (masksIn (searched .row)) (valueOf (searched .place))) e
 
-  pub call-found : (now : List ℕ) → searched .answer ≡ answers.Found → Put (at .found) (masksIn (searched .row)) before now → r .found ≡ at .found + 1
-      → r .ended ≡ at .ended → Called s at n before now r
+  pub call-found : (now : List ℕ) → searched .answer ≡ answers.Found → PutRow (rowWords * at .found) (masksIn (searched .row)) before now
+      → r .found ≡ at .found + 1 → r .ended ≡ at .ended → Called s at n before now r
   unfolding maxFunctions
-  call-found now e put count flag =
+  call-found now e row count flag =
       let q = reply-is answers.Found e in
       let one : foundIn (hostReply searched) ≡ record { masks = masksIn (searched .row); isPast = false } ∷ [] = ap foundIn q in
-      let far : rowLength * at .found + rowLength ≡ rowLength * r .found = omega (arith, count) in
+      let far : rowWords * at .found + rowWords ≡ rowWords * r .found = omega (arith, count) in
       record {
         reply = hostReply searched;
         call = h .call;
         leaves = ap valueOf place ∙ h .leaves;
         found = rw one count;
         ended = (λ t. inl (sym flag ∙ t), ⊎-elim (λ t. flag ∙ t) (λ t. never (let z = sym q ∙ t .1 in cc)));
-        long = rw (one, append-nil (wordsOfRow (masksIn (searched .row)))) (put .long ∙ omega arith);
-        rows = rw (one, append-nil (wordsOfRow (masksIn (searched .row))), sym far) (put .whole);
+        long = rw (one, append-nil (wordsOfRow (masksIn (searched .row)))) (omega (arith, row .long));
+        rows = rw (one, append-nil (wordsOfRow (masksIn (searched .row))), sym far) (row .put);
       }
 
   -- Nothing is found
@@ -145,7 +68,7 @@ module _ (s : Bytes) (at : Progress) (n : ℕ) (before : List ℕ) (searched : S
         found = rw none (omega (arith, count));
         ended = flag;
         long = rw none (omega arith);
-        rows = rw (none, count) (nothing-put (rowLength * at .found) before);
+        rows = rw (none, count) (nothing-put (rowWords * at .found) before);
       }
 
   pub call-end : searched .answer ≡ answers.End → r .found ≡ at .found → r .ended ≡ true → Called s at n before before r
@@ -252,7 +175,7 @@ module _ (s : Bytes) (place : Place) (ns before mid : List ℕ) (at : Progress) 
             (omega (arith, length-append F M, h .long, k .long, length-append (founds cs) (foundIn (k .reply))));
         rows =
             rw (more, each-append (λ (v : PlaceValue). wordsOfRow (v .masks)) (founds cs) (foundIn (k .reply)))
-            (more-put F M before mid now (rowLength * at .found) (rowLength * length (foundIn (k .reply))) (rowLength * r .found)
+            (more-put F M before mid now (rowWords * at .found) (rowWords * length (foundIn (k .reply))) (rowWords * r .found)
             (omega (arith, h .long, h .found)) (omega (arith, k .found)) (h .rows) (k .rows));
       }
 

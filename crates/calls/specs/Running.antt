@@ -1,5 +1,4 @@
 -- A list of calls, one for each allowance, from the start of a problem on.
---   rowLength   how many words a row has in the buffer
 --   wordsOfRows rows as the buffer holds them: the words of their masks, one row after the other
 --   leftBy      the place that a list of calls leaves
 --   Called      what one call more owes
@@ -11,7 +10,6 @@ use mathlib.Core.Bool.{true}
 use mathlib.Core.List.{List, [], _∷_, _++_, map}
 use Prim.Native.Nat.{ℕ, _+_, _*_}
 use lib.ListN.{length, take, drop}
-use Rattle.meaning.specs.Limits.{maxFunctions}
 use Rattle.meaning.specs.Basics.{Bytes, each}
 use Rattle.meaning.specs.Problem.{Problem}
 use Rattle.meaning.specs.Read.{Answer, refused, got}
@@ -19,31 +17,20 @@ use Rattle.meaning.specs.Search.{end}
 use Rattle.meaning.specs.PlaceValue.{PlaceValue}
 use Rattle.meaning.specs.Entry.{HostReply, SearchCall}
 use Rattle.meaning.specs.Calls.{left, Run, HostCall, Carried, foundIn, founds, HasEnd, ThirdDemandOf}
-use Rattle.masks.specs.Sets.{wordCount, wordsOf}
+use Rattle.masks.specs.Sets.{wordsOf}
 use Rattle.choosing.specs.Rows.{MaskRow}
 use Rattle.places.specs.Places.{valueOf}
 use Rattle.places.specs.declared.Place.{Place}
 use Rattle.places.specs.declared.Start.the-variants as starts
+use Rattle.words.specs.Words.{rowWords}
 use Rattle.calls.specs.declared.Progress.{Progress}
 use Rattle.calls.specs.declared.Ran.{Ran}
-
-abbrev pub rowLength : ℕ
-rowLength = maxFunctions * wordCount
 
 abbrev pub wordsOfRow : MaskRow → List ℕ
 wordsOfRow row = each wordsOf row
 
 abbrev pub wordsOfRows : List PlaceValue → List ℕ
 wordsOfRows vs = each (λ v. wordsOfRow (v .masks)) vs
-
--- The words of a mask from a word of the buffer on, and nothing else is changed
-abbrev pub PutMask : ℕ → ℕ → List ℕ → List ℕ → Type 0
-PutMask start m before after = after ≡ take start before ++ wordsOf m ++ drop (start + wordCount) before
-
--- A row as row k of the buffer, and nothing else is changed
-pub record Put (k : ℕ) (row : MaskRow) (before after : List ℕ) : Type 0 where
-  pub long : length (wordsOfRow row) ≡ rowLength
-  pub whole : after ≡ take (rowLength * k) before ++ wordsOfRow row ++ drop (rowLength * k + rowLength) before
 
 abbrev pub IsEnd : HostReply → Type 0
 IsEnd reply = (v : PlaceValue) × (reply ≡ end v)
@@ -55,8 +42,8 @@ pub record Called (s : Bytes) (at : Progress) (n : ℕ) (before after : List ℕ
   pub leaves : valueOf (r .place) ≡ left (valueOf (at .place)) reply
   pub found : r .found ≡ at .found + length (foundIn reply)
   pub ended : (r .ended ≡ true) ↔ ((at .ended ≡ true) ⊎ IsEnd reply)
-  pub long : length (wordsOfRows (foundIn reply)) ≡ rowLength * length (foundIn reply)
-  pub rows : after ≡ take (rowLength * at .found) before ++ wordsOfRows (foundIn reply) ++ drop (rowLength * r .found) before
+  pub long : length (wordsOfRows (foundIn reply)) ≡ rowWords * length (foundIn reply)
+  pub rows : after ≡ take (rowWords * at .found) before ++ wordsOfRows (foundIn reply) ++ drop (rowWords * r .found) before
 
 abbrev pub leftBy : PlaceValue → List HostCall → PlaceValue
 leftBy v [] = v
@@ -69,8 +56,8 @@ pub record FromPlace (s : Bytes) (place : Place) (ns before after : List ℕ) (r
   pub leaves : valueOf (r .place) ≡ leftBy (valueOf place) calls
   pub found : r .found ≡ length (founds calls)
   pub ended : (r .ended ≡ true) ↔ HasEnd calls
-  pub long : length (wordsOfRows (founds calls)) ≡ rowLength * length (founds calls)
-  pub rows : after ≡ wordsOfRows (founds calls) ++ drop (rowLength * r .found) before
+  pub long : length (wordsOfRows (founds calls)) ≡ rowWords * length (founds calls)
+  pub rows : after ≡ wordsOfRows (founds calls) ++ drop (rowWords * r .found) before
 
 -- "0 or more search calls on one accepted problem. The first gets the start": for any allowances the calls made meet the third demand, and
 -- the buffer, the count and the flag tell their Founds and whether they have an End
@@ -82,7 +69,7 @@ pub record Demanded (s : Bytes) (p : Problem) (ns before after : List ℕ) (r : 
   pub demand : ThirdDemandOf p calls
   pub found : r .found ≡ length (founds calls)
   pub ended : (r .ended ≡ true) ↔ HasEnd calls
-  pub rows : after ≡ wordsOfRows (founds calls) ++ drop (rowLength * r .found) before
+  pub rows : after ≡ wordsOfRows (founds calls) ++ drop (rowWords * r .found) before
 
 -- "A refusal returns its number only. The output buffer and open search stay"
 unfoldable pub Runs : Answer Problem → Bytes → List ℕ → List ℕ → List ℕ → Ran → Type 0

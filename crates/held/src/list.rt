@@ -1,6 +1,5 @@
 // A whole list of 32 calls, made by one function. What is asked for has 4 bytes for each call, its allowance; calls that are not asked for
 // are made with 0.
-use calls::ROW_WORDS;
 use calls::Ran;
 use calls::run;
 use lines::input::number_at;
@@ -9,6 +8,7 @@ use lines::output::end_line;
 use lines::output::print;
 use lines::output::print_number;
 use places::Start;
+use words::ROW_WORDS;
 ghost use Prim.Native.Nat.{_*_, _≤_};
 ghost use lib.ListN.{length};
 

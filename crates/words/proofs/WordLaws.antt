@@ -10,7 +10,7 @@ use native.Mathlib.Omega.{arith}
 use borrow.Author.Tests.{le-leb, leb-false, leb-true, lt-leb}
 use lib.ListN.{length, take, drop, getD, set, length-append, length-map, length-drop, replicate, take-append-drop}
 use lib.Pow.{pow-pos}
-use lib.Seq.{take-suc, take-suc-set, take-all, take-at, drop-at, drop-drop, drop-cons, getD-at, length-take-le}
+use lib.Seq.{take-suc, take-suc-set, take-all, take-at, drop-at, drop-append-add, drop-drop, drop-cons, getD-at, length-take-le}
 use lib.Seq.{set-split, sets, sets-eq}
 use Rattle.meaning.specs.Limits.{maxFaceNodes, maxFunctions}
 use Rattle.meaning.specs.Basics.{All, each}
@@ -25,7 +25,7 @@ use Rattle.masks.specs.Sets.{marksIn, mask, masksIn, width, wordCount, wordNode
 use Rattle.masks.specs.declared.NodeSet.{NodeSet}
 use Rattle.masks.proofs.Marks.{length-marks, marks-value, value-marks}
 use Rattle.masks.proofs.Words.{length-words, masks-set, mask-words}
-use Rattle.words.specs.Words.{hasPlace, lastWord, maskIn, masksFrom, nowhere, placeOfWords, placeWords, placed, setWords, valueWith}
+use Rattle.words.specs.Words.{PutRow, PutWords, hasPlace, lastWord, maskIn, masksFrom, nowhere, placeOfWords, placeWords, placed, rowWords, valueWith}
 
 -- ---- the words of one set
 
@@ -107,54 +107,75 @@ pub read-all : (sets : List NodeSet) (l : List ℕ) (k : ℕ) → length sets �
 read-all sets l k long e h =
     sym (take-all k (masksIn sets) (omega (arith, long, e, length-map sets mask))) ∙ h ∙ ap (λ (n : ℕ). masksFrom n l) e
 
--- ... and stores them: the words of the first k, and from there on the words as they were
+-- ... and stores them
+pub nothing-put : (n : ℕ) (l : List ℕ) → l ≡ take n l ++ [] ++ drop n l
+nothing-put n l = sym (ap (λ (r : List ℕ). r ++ drop n l) (append-nil (take n l)) ∙ take-append-drop n l)
+
+-- More after a front of so many words
+pub more-put : (F M before mid now : List ℕ) (a m b : ℕ) → length F ≡ a → b ≡ a + m → mid ≡ F ++ drop a before
+    → now ≡ take a mid ++ M ++ drop b mid → now ≡ (F ++ M) ++ drop b before
+more-put F M before mid now a m b e f h g =
+    let far : b ≡ length F + m = omega (arith, e, f) in
+    let front : take a mid ≡ F = ap (take a) h ∙ take-at F (drop a before) a e in
+    let rest : drop b mid ≡ drop b before =
+    ap (drop b) h ∙ ap (λ (n : ℕ). drop n (F ++ drop a before)) far ∙ drop-append-add F (drop a before) m ∙ drop-drop m a before
+    ∙ ap (λ (n : ℕ). drop n before) (sym f) in
+    g ∙ ap (λ (l : List ℕ). l ++ M ++ drop b mid) front ∙ ap (λ (l : List ℕ). (F ++ M) ++ l) rest
+
 length-each : (ms : List ℕ) → length (each wordsOf ms) ≡ length ms * wordCount
 length-each [] = refl
 length-each (m ∷ ms) = length-append (wordsOf m) (each wordsOf ms) ∙ omega (arith, length-words m, length-each ms)
 
-module _ (l l₀ ms : List ℕ) (k : ℕ) (few : k ≤ length ms) (stored : l ≡ each wordsOf (take k ms) ++ drop (k * wordCount) l₀) where
-  front-long : length (each wordsOf (take k ms)) ≡ k * wordCount
-  front-long = length-each (take k ms) ∙ ap (λ (n : ℕ). n * wordCount) (length-take-le k ms few)
+-- The words of the first k sets are stored
+abbrev pub Stored : ℕ → List ℕ → List ℕ → ℕ → List ℕ → Type 0
+Stored start ms before k now = PutWords start (k * wordCount) (each wordsOf (take k ms)) before now
 
-  front : take (k * wordCount) l ≡ each wordsOf (take k ms)
-  front = ap (take (k * wordCount)) stored ∙ take-at (each wordsOf (take k ms)) (drop (k * wordCount) l₀) (k * wordCount) front-long
+module _ (start : ℕ) (ms before : List ℕ) (long : length ms ≡ maxFunctions) where
+  pub stored-none : Stored start ms before 0 before
+  stored-none = let far : start + 0 * wordCount ≡ start = omega arith in rw far (nothing-put start before)
 
-  later : (n : ℕ) → drop (k * wordCount + n) l ≡ drop (k * wordCount + n) l₀
-  later n =
-      sym (drop-drop n (k * wordCount) l)
-      ∙ ap (drop n) (ap (drop (k * wordCount)) stored ∙ drop-at (each wordsOf (take k ms)) (drop (k * wordCount) l₀) (k * wordCount) front-long)
-      ∙ drop-drop n (k * wordCount) l₀
-
-  pub put-more : (m : ℕ) → k < length ms → m ≡ getD ms k 0
-      → take (k * wordCount) l ++ wordsOf m ++ drop (k * wordCount + wordCount) l
-      ≡ each wordsOf (take (k + 1) ms) ++ drop ((k + 1) * wordCount) l₀
-  put-more m h e =
-      let n : k * wordCount + wordCount ≡ (k + 1) * wordCount = omega arith in
-      let one : each wordsOf (take (k + 1) ms) ≡ each wordsOf (take k ms) ++ wordsOf m =
+  pub stored-more : (k : ℕ) (mid now : List ℕ) → k < maxFunctions → start + rowWords ≤ length before → Stored start ms before k mid
+      → PutWords (start + k * wordCount) wordCount (wordsOf (getD ms k 0)) mid now → Stored start ms before (k + 1) now
+  unfolding maxFunctions
+  stored-more k mid now l room h p =
+      let past : start + k * wordCount + wordCount ≡ start + (k + 1) * wordCount = omega arith in
+      let F : List ℕ = take start before ++ each wordsOf (take k ms) in
+      let front : length F ≡ start + k * wordCount =
+      length-append (take start before) (each wordsOf (take k ms))
+      ∙ omega (arith, length-take-le start before (omega arith), length-each (take k ms), length-take-le k ms (omega arith)) in
+      let words : each wordsOf (take (k + 1) ms) ≡ each wordsOf (take k ms) ++ wordsOf (getD ms k 0) =
       rw (add-one k)
-      (ap (each wordsOf) (take-suc ms k 0 h) ∙ each-append wordsOf (take k ms) (getD ms k 0 ∷ [])
-      ∙ ap (λ (r : List ℕ). each wordsOf (take k ms) ++ r) (append-nil (wordsOf (getD ms k 0)) ∙ ap wordsOf (sym e))) in
-      ap₂ (λ (x y : List ℕ). x ++ wordsOf m ++ y) front (later wordCount ∙ ap (λ (i : ℕ). drop i l₀) n)
-      ∙ ap (λ (r : List ℕ). r ++ drop ((k + 1) * wordCount) l₀) (sym one)
+      (ap (each wordsOf) (take-suc ms k 0 (omega arith)) ∙ each-append wordsOf (take k ms) (getD ms k 0 ∷ [])
+      ∙ ap (λ (w : List ℕ). each wordsOf (take k ms) ++ w) (append-nil (wordsOf (getD ms k 0)))) in
+      more-put F (wordsOf (getD ms k 0)) before mid now (start + k * wordCount) wordCount (start + (k + 1) * wordCount) front (omega arith) h
+      (p ∙ ap (λ (n : ℕ). take (start + k * wordCount) mid ++ wordsOf (getD ms k 0) ++ drop n mid) past)
+      ∙ ap (λ (w : List ℕ). w ++ drop (start + (k + 1) * wordCount) before)
+      (append-assoc (take start before) (each wordsOf (take k ms)) (wordsOf (getD ms k 0))
+      ∙ ap (λ (w : List ℕ). take start before ++ w) (sym words))
 
-  pub put-all : length ms ≡ maxFunctions → k ≡ maxFunctions → l ≡ each wordsOf ms ++ drop setWords l₀
-  put-all eight e =
-      stored
-      ∙ ap₂ (λ (x y : List ℕ). x ++ y) (ap (each wordsOf) (take-all k ms (omega (arith, eight, e)))) (ap (λ (n : ℕ). drop (n * wordCount) l₀) e)
+  pub stored-all : (k : ℕ) (now : List ℕ) → k ≡ maxFunctions → Stored start ms before k now → PutRow start ms before now
+  stored-all k now e h = record {
+    long = length-each ms ∙ ap (λ (n : ℕ). n * wordCount) long;
+    put =
+        h
+        ∙ ap₂ (λ (x y : List ℕ). take start before ++ x ++ y) (ap (each wordsOf) (take-all k ms (omega (arith, long, e))))
+        (ap (λ (n : ℕ). drop (start + n * wordCount) before) e);
+  }
 
 -- The last word, after those of the sets
 pub put-last : (l l₀ ms : List ℕ) (last : ℕ) (isPast : Bool) → placeWords ≤ length l₀ → length l ≡ length l₀
-    → l ≡ each wordsOf ms ++ drop setWords l₀ → last ≡ lastWord isPast
-    → set l setWords last ≡ placed l₀ (record { masks = ms; isPast = isPast })
-put-last l l₀ ms last isPast long same h e =
-    let n : length (each wordsOf ms) ≡ setWords =
-    omega (arith, long, same, ap length h, length-append (each wordsOf ms) (drop setWords l₀), length-drop setWords l₀) in
-    let front : take setWords l ≡ each wordsOf ms = ap (take setWords) h ∙ take-at (each wordsOf ms) (drop setWords l₀) setWords n in
+    → PutRow 0 ms l₀ l → last ≡ lastWord isPast
+    → set l rowWords last ≡ placed l₀ (record { masks = ms; isPast = isPast })
+put-last l l₀ ms last isPast long same row e =
+    let z : 0 + rowWords ≡ rowWords = omega arith in
+    let h : l ≡ each wordsOf ms ++ drop rowWords l₀ = row .put ∙ ap (λ (n : ℕ). each wordsOf ms ++ drop n l₀) z in
+    let n = row .long in
+    let front : take rowWords l ≡ each wordsOf ms = ap (take rowWords) h ∙ take-at (each wordsOf ms) (drop rowWords l₀) rowWords n in
     let rest : drop placeWords l ≡ drop placeWords l₀ =
-    sym (drop-drop 1 setWords l) ∙ ap (drop 1) (ap (drop setWords) h ∙ drop-at (each wordsOf ms) (drop setWords l₀) setWords n)
-    ∙ drop-drop 1 setWords l₀ in
-    set-split l setWords last (omega (arith, long, same))
-    ∙ ap (λ (i : ℕ). take setWords l ++ (last ∷ drop i l)) (sym (add-one setWords))
+    sym (drop-drop 1 rowWords l) ∙ ap (drop 1) (ap (drop rowWords) h ∙ drop-at (each wordsOf ms) (drop rowWords l₀) rowWords n)
+    ∙ drop-drop 1 rowWords l₀ in
+    set-split l rowWords last (omega (arith, long, same))
+    ∙ ap (λ (i : ℕ). take rowWords l ++ (last ∷ drop i l)) (sym (add-one rowWords))
     ∙ ap₂ (λ (x y : List ℕ). x ++ (last ∷ y)) front rest
     ∙ ap (λ (x : ℕ). each wordsOf ms ++ (x ∷ drop placeWords l₀)) e
 
@@ -165,25 +186,25 @@ unfolding placeOfWords
 too-few words h = choose-false _ _ (lt-leb placeWords (length words) h)
 
 module _ (words : List ℕ) (long : placeWords ≤ length words) where
-  with-last : (last : ℕ) → getD words setWords 0 ≡ last → placeOfWords words ≡ valueWith (masksFrom maxFunctions words) last
+  with-last : (last : ℕ) → getD words rowWords 0 ≡ last → placeOfWords words ≡ valueWith (masksFrom maxFunctions words) last
   unfolding placeOfWords
   with-last last e = choose-true _ _ (le-leb placeWords (length words) long) ∙ ap (valueWith (masksFrom maxFunctions words)) e
 
-  pub row-read : (masks : List ℕ) → masks ≡ masksFrom maxFunctions words → getD words setWords 0 ≡ 0
+  pub row-read : (masks : List ℕ) → masks ≡ masksFrom maxFunctions words → getD words rowWords 0 ≡ 0
       → record { masks = masks; isPast = false } ≡ placeOfWords words
   unfolding valueWith
   row-read masks m e = ap (λ (l : List ℕ). valueWith l 0) m ∙ sym (with-last 0 e)
 
-  pub past-read : (masks : List ℕ) → masks ≡ masksFrom maxFunctions words → getD words setWords 0 ≡ 1
+  pub past-read : (masks : List ℕ) → masks ≡ masksFrom maxFunctions words → getD words rowWords 0 ≡ 1
       → record { masks = masks; isPast = true } ≡ placeOfWords words
   unfolding valueWith
   past-read masks m e = ap (λ (l : List ℕ). valueWith l 1) m ∙ sym (with-last 1 e)
 
-  pub other-read : 1 < getD words setWords 0 → placeOfWords words ≡ nowhere
+  pub other-read : 1 < getD words rowWords 0 → placeOfWords words ≡ nowhere
   unfolding valueWith
-  other-read h = go (getD words setWords 0) refl h
+  other-read h = go (getD words rowWords 0) refl h
     where
-      go : (last : ℕ) → getD words setWords 0 ≡ last → 1 < last → placeOfWords words ≡ nowhere
+      go : (last : ℕ) → getD words rowWords 0 ≡ last → 1 < last → placeOfWords words ≡ nowhere
       go zero e h = absurd (omega arith)
       go (suc zero) e h = absurd (omega arith)
       go (suc (suc n)) e h = with-last (suc (suc n)) e
@@ -240,9 +261,9 @@ pub placed-back : (words : List ℕ) (v : PlaceValue) → length (v .masks) ≡ 
 placed-back words v h small =
     let last : List ℕ = lastWord (v .isPast) ∷ drop placeWords words in
     let sets : List ℕ = each wordsOf (v .masks) in
-    let n : length sets ≡ setWords = length-each (v .masks) ∙ ap (λ (i : ℕ). i * wordCount) h in
+    let n : length sets ≡ rowWords = length-each (v .masks) ∙ ap (λ (i : ℕ). i * wordCount) h in
     let long : placeWords ≤ length (sets ++ last) = omega (arith, length-append sets last, n) in
-    with-last (sets ++ last) long (lastWord (v .isPast)) (getD-at sets (lastWord (v .isPast)) (drop placeWords words) 0 setWords n)
+    with-last (sets ++ last) long (lastWord (v .isPast)) (getD-at sets (lastWord (v .isPast)) (drop placeWords words) 0 rowWords n)
     ∙ ap (λ (l : List ℕ). valueWith l (lastWord (v .isPast)))
     (ap (λ (i : ℕ). masksFrom i (sets ++ last)) (sym h) ∙ masks-back (v .masks) last small)
     ∙ back (v .masks) (v .isPast)

@@ -3,19 +3,17 @@
 use masks::NodeSet;
 use places::Place;
 ghost use mathlib.Core.Path.{_≡_};
-ghost use mathlib.Core.List.{_++_};
 ghost use Prim.Native.Nat.{_+_, _≤_};
 ghost use lib.ListN.{length, take, drop};
 ghost use Rattle.meaning.specs.Limits.{maxFunctions};
-ghost use Rattle.meaning.specs.Basics.{each};
 ghost use Rattle.masks.specs.Sets.{mask, masksIn, wordCount, wordsOf};
 ghost use Rattle.places.specs.Places.{valueOf};
-ghost use Rattle.words.specs.Words.{lastWord, maskIn, masksFrom, nowhere, placeOfWords, placeWords, placed, setWords};
+ghost use Rattle.words.specs.Words.{PutRow, PutWords, lastWord, maskIn, masksFrom, nowhere, placeOfWords, placeWords, placed, rowWords};
 
-// The words of all sets; the last word comes after them.
-const SET_WORDS: usize = Place::MAX_FUNCTIONS * NodeSet::WORDS;
+// How many words the sets of a row have: those of one for each function. In a place the last word comes after them.
+pub const ROW_WORDS: usize = Place::MAX_FUNCTIONS * NodeSet::WORDS;
 
-pub const PLACE_WORDS: usize = SET_WORDS + 1;
+pub const PLACE_WORDS: usize = ROW_WORDS + 1;
 
 // Past the last no set has a node, so that this names no place of any problem.
 fn nowhere() -> Place
@@ -68,7 +66,7 @@ pub fn place_of(words: &[u64]) -> Place
         return nowhere();
     }
     let sets = sets_in(words);
-    let last = words[SET_WORDS];
+    let last = words[ROW_WORDS];
     match last {
         0 => Place {
             sets: sets,
@@ -85,7 +83,7 @@ pub fn place_of(words: &[u64]) -> Place
 // The words of a set from word `at` on; the others stay as they are.
 fn put_set(words: &mut [u64], at: usize, s: NodeSet)
     requires { ⌜ at + wordCount ≤ length (now words) ⌝ }
-    ensures { λ _. ⌜ now (words .exit) ≡ take at (now (words .entry)) ++ wordsOf (mask s) ++ drop (at + wordCount) (now (words .entry)) ⌝ }
+    ensures { λ _. ⌜ PutWords at wordCount (wordsOf (mask s)) (now (words .entry)) (now (words .exit)) ⌝ }
 {
     words[at] = s.w0;
     words[at + 1] = s.w1;
@@ -93,14 +91,14 @@ fn put_set(words: &mut [u64], at: usize, s: NodeSet)
     words[at + 3] = s.w3;
 }
 
-// The words of the sets at the front.
-fn put_sets(words: &mut [u64], sets: [NodeSet; Place::MAX_FUNCTIONS])
-    requires { ⌜ placeWords ≤ length (now words) ⌝ }
-    ensures { λ _. ⌜ now (words .exit) ≡ each wordsOf (masksIn sets) ++ drop setWords (now (words .entry)) ⌝ }
+// The words of a row's sets from word `at` on; the others stay as they are.
+pub fn put_row(words: &mut [u64], at: usize, row: [NodeSet; Place::MAX_FUNCTIONS])
+    requires { ⌜ at + rowWords ≤ length (now words) ⌝ }
+    ensures { λ _. ⌜ PutRow at (masksIn row) (now (words .entry)) (now (words .exit)) ⌝ }
 {
     let mut k = 0;
     while k < Place::MAX_FUNCTIONS {
-        put_set(words, k * NodeSet::WORDS, sets[k]);
+        put_set(words, at + k * NodeSet::WORDS, row[k]);
         k += 1;
     }
 }
@@ -117,6 +115,6 @@ pub fn put_place(words: &mut [u64], place: Place)
     ensures { λ _. ⌜ now (words .exit) ≡ placed (now (words .entry)) (valueOf place) ⌝ }
 {
     let sets = place.sets;
-    put_sets(words, sets);
-    words[SET_WORDS] = last_word(place.past);
+    put_row(words, 0, sets);
+    words[ROW_WORDS] = last_word(place.past);
 }

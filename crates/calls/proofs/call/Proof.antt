@@ -12,7 +12,12 @@ search-requires c κs = search needs
 enum-told : tie.Need-enum-told
 enum-told c = search needs
 
+mul-put-row : tie.Need-mul-put-row
+unfolding maxFunctions
+mul-put-row c = search needs
+
 put-row-requires : tie.Need-put-row-requires
+unfolding maxFunctions
 put-row-requires c κs = c .before .before .before .before .before .before .before .before .before .pre
 
 add-t17 : tie.Need-add-t17
@@ -32,9 +37,10 @@ same-length : tie.Need-same-length
 same-length c = search needs
 
 returns : tie.Need-returns
+unfolding maxFunctions
 returns c =
     let told = c .before .before .before .before in
-    call-found _ _ _ _ _ (told .before .before .before .before .search .ensures) _ refl _ (told .enum-told .given .1)
+    call-found _ (told .before .before .before .before .before .before .before .before .args .at) _ _ _ (told .before .before .before .before .search .ensures) _ refl _ (told .enum-told .given .1)
     (c .before .before .put-row .ensures) refl refl
 
 returns-2 : tie.Need-returns-2
@@ -53,6 +59,7 @@ call-spec =
     (tie.spec
     search-requires
     enum-told
+    mul-put-row
     put-row-requires
     add-t17
     enum-told-2

@@ -8,8 +8,8 @@ use borrow.Author.Needs.{needs}
 use Rattle.words.proofs.put_place.Statement.{statement}
 use Rattle.words.proofs.put_place.Tie as tie
 
-put-sets-requires : tie.Need-put-sets-requires
-put-sets-requires c κs = search needs
+put-row-requires : tie.Need-put-row-requires
+put-row-requires c κs = search needs
 
 last-word-requires : tie.Need-last-word-requires
 last-word-requires c κs = search needs
@@ -24,7 +24,7 @@ same-length c = search needs
 returns : tie.Need-returns
 unfolding maxFunctions
 returns c =
-    let put = c .before .before .before .put-sets in
+    let put = c .before .before .before .put-row in
     let start = c .before .before .before .before .before .before .before in
     let kept : length (put .last .0) ≡ length (start .args .words .now) = search needs in
     put-last (put .last .0) (start .args .words .now) (masksIn (start .args .place .sets)) (c .last-word .result) (start .args .place .past)
@@ -32,4 +32,4 @@ returns c =
 
 pub put-place-spec : {M : Type 1} → statement M
 put-place-spec =
-    tie.close (tie.spec put-sets-requires last-word-requires slice-write-words same-length returns)
+    tie.close (tie.spec put-row-requires last-word-requires slice-write-words same-length returns)
