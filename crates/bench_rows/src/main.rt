@@ -10,7 +10,9 @@ use masks::NodeSet;
 use prepare::prepare;
 use rows::begin_again;
 use rows::first_row;
-use rows::next_step;
+use rows::last_function;
+use rows::next_of;
+use rows::stepping;
 use table::TABLE_ROOM;
 ghost use mathlib.Core.Path.{_≡_};
 ghost use mathlib.Core.Bool.{true};
@@ -28,19 +30,21 @@ fn count_from(es: &[u64], ns: &[u64], firsts: Firsts, first: [NodeSet; rows::MAX
     requires { ⌜ Faced (now es) (now ns) firsts ⌝ ∗ ⌜ placeOf (rowsOf (now es) (now ns) firsts) ≡ at (masksIn first) ⌝ }
 {
     let mut reached = first;
+    let last = last_function(firsts);
     let mut n = 1u64;
     while n < MOST {
-        let step = next_step(es, ns, firsts, reached);
-        if !step.more {
-            return n;
-        }
-        let k = step.function;
-        if k + 1 < firsts.count {
-            let begun = begin_again(firsts, first, k + 1, reached);
+        let mut k = firsts.count;
+        let set = reached[last];
+        if set.is_empty() {
+            k = stepping(firsts, reached);
+            if k == 0 {
+                return n;
+            }
+            let begun = begin_again(firsts, first, k, reached);
             reached = begun;
         }
-        let set = step.set;
-        reached[k] = set;
+        let set = reached[k - 1];
+        reached[k - 1] = next_of(es, ns, firsts, k - 1, set);
         n += 1;
     }
     n

@@ -151,6 +151,9 @@ module _ (ns es nodes : List ℕ) (count : ℕ) where
   pub row-mem : (row : MaskRow) → row ∈ maskRows ns es nodes count → (k : ℕ) → k < maxFunctions → getD row k 0 ∈ choicesAt ns es nodes count k
   row-mem row m k h = all-are cs 0 maxFunctions row .0 (rw all-rows at m) .choice k k (omega arith) h
 
+  pub row-length : (row : MaskRow) → row ∈ maskRows ns es nodes count → length row ≡ maxFunctions
+  row-length row m = all-are cs 0 maxFunctions row .0 (rw all-rows at m) .long
+
   pub mem-row : (row : MaskRow) → length row ≡ maxFunctions → ((k : ℕ) → k < maxFunctions → getD row k 0 ∈ choicesAt ns es nodes count k)
       → row ∈ maskRows ns es nodes count
   mem-row row l c =

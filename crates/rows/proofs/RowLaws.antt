@@ -1,9 +1,10 @@
 -- Rows of sets by the laws of rows of masks (crate `choosing`).
 --   Freshly    from function k on each set is its function's first choice
+--   Moving     what is known where a step is made
 --   Passing    the functions from k on have had their last choices, and begin again
 use mathlib.Core.Path.{_≡_, refl, ap, sym, _∙_, subst}
 use mathlib.Core.Logic.{_↔_, ⊎-elim}
-use mathlib.Core.Bool.{true, false, true≢false}
+use mathlib.Core.Bool.{true, false}
 use mathlib.Core.List.{List, [], List·Memᴰ·head, List·Memᴰ·cases-cons, List·Memᴰ·not-nil}
 use Prim.Native.Nat.{ℕ, zero, suc, _+_, _-_, _≤_, _<_}
 use native.Mathlib.Nat.{eq-or-lt-of-le}
@@ -19,14 +20,13 @@ use Rattle.tokens.specs.Key as table
 use Rattle.masks.specs.Sets.{mask, masksIn}
 use Rattle.masks.specs.declared.NodeSet.{NodeSet}
 use Rattle.masks.proofs.Cases.{lt-or-ge}
-use Rattle.masks.proofs.Words.{masks-set}
+use Rattle.masks.proofs.Words.{masks-at, masks-set}
 use Rattle.faces.specs.declared.first.Firsts.{Firsts}
-use Rattle.choosing.specs.Rows.{MaskRow, Next, behind, choicesAt, choicesFrom, firstAt, firstFrom}
+use Rattle.choosing.specs.Rows.{MaskRow, Next, Steps, behind, choicesAt, choicesFrom, firstAt, firstFrom}
 use Rattle.choosing.proofs.Stepping.{Carried, Fresh, carried-at, carried-more, carried-none, fresh-more, fresh-none}
 use Rattle.choosing.proofs.RowSteps.{choices-absent, choices-there, empty-last, first-absent, first-at, first-row, first-there, mem-row, row-mem}
-use Rattle.choosing.proofs.RowSteps.{steps-on, steps-past}
-use Rattle.rows.specs.Rows.{Faced, StepsBy, StepsFrom, begun, begunFrom, choicesOf, rowsOf}
-use Rattle.rows.specs.declared.Step.{Step}
+use Rattle.choosing.proofs.RowSteps.{row-length, steps-on, steps-past}
+use Rattle.rows.specs.Rows.{Faced, StepsAt, StepsFrom, begun, begunFrom, choicesOf, rowsOf}
 
 pub above-zero : (m : ℕ) → eqb m 0 ≡ false → 0 < m
 above-zero m e = let n = eqb-false m 0 e in ⊎-elim (λ (q : 0 ≡ m). absurd (n (sym q))) (λ (q : 0 < m). q) (eq-or-lt-of-le (omega arith))
@@ -52,6 +52,17 @@ module _ (count : ℕ) (first : List NodeSet) (row : List NodeSet) where
       masks-set next j s
       ∙ subst (λ (n : ℕ). set (masksIn next) j (mask s) ≡ begunFrom (masksIn first) (masksIn row) j n) d
       (ap (λ (r : MaskRow). set r j (mask s)) e ∙ ap (set (again (suc j)) j) q)
+
+-- A row is about to step: of the k functions up to the one that steps the last takes its next choice, and in `next` the later ones have
+-- begun again
+pub record Moving (count : ℕ) (first row next : List NodeSet) (k : ℕ) : Type 0 where
+  pub steps : StepsAt count (masksIn row) k
+  pub some : 0 < k
+  pub again : masksIn next ≡ begun count (masksIn first) k (masksIn row)
+
+-- What the code reads where there is no set
+abbrev nothing : NodeSet
+nothing = record { w0 = 0; w1 = 0; w2 = 0; w3 = 0 }
 
 module _ (es ns : List ℕ) (firsts : Firsts) where
   -- ---- one function
@@ -90,6 +101,10 @@ module _ (es ns : List ℕ) (firsts : Firsts) where
       → getD (masksIn row) k 0 ∈ choicesOf es ns firsts k
   unfolding rowsOf
   row-choice row m k h = row-mem ns es (firsts .nodes) (firsts .count) (masksIn row) m k h
+
+  row-long : (row : List NodeSet) → masksIn row ∈ rowsOf es ns firsts → length (masksIn row) ≡ maxFunctions
+  unfolding rowsOf
+  row-long row m = row-length ns es (firsts .nodes) (firsts .count) (masksIn row) m
 
   pub choice-row : (row : List NodeSet) → length row ≡ maxFunctions
       → ((k : ℕ) → k < maxFunctions → getD (masksIn row) k 0 ∈ choicesOf es ns firsts k)
@@ -133,7 +148,7 @@ module _ (es ns : List ℕ) (firsts : Firsts) where
     last-choice : (j x : ℕ) → x ≡ 0 → behind (choicesOf es ns firsts j) x ≡ []
     last-choice j x z = subst (λ (y : ℕ). behind (choicesOf es ns firsts j) y ≡ []) (sym z) (empty-last ns es (firsts .nodes) (firsts .count) (f .faces) j)
 
-    module _ (row : List NodeSet) (l : length row ≡ maxFunctions) (m : masksIn row ∈ rowsOf es ns firsts) where
+    module _ (row : List NodeSet) (m : masksIn row ∈ rowsOf es ns firsts) where
       abbrev old : MaskRow
       old = masksIn row
 
@@ -148,7 +163,7 @@ module _ (es ns : List ℕ) (firsts : Firsts) where
           go zero j e h =
               let z : maxFunctions ≡ j = omega arith in
               subst (Carrying old old) z
-              (carried-none (choicesAt ns es (firsts .nodes) (firsts .count)) first maxFunctions old (length-map row mask ∙ l))
+              (carried-none (choicesAt ns es (firsts .nodes) (firsts .count)) first maxFunctions old (row-long row m))
           go (suc d) j e h =
               let g : j < maxFunctions = omega arith in
               let z = only j h g in
@@ -158,7 +173,7 @@ module _ (es ns : List ℕ) (firsts : Firsts) where
               (carried-more (choicesAt ns es (firsts .nodes) (firsts .count)) first maxFunctions old old j g (go d (suc j) (omega arith) (omega arith))
               (last-choice j (getD old j 0) z))
 
-      pub passing-there : Passing row (firsts .count)
+      passing-there : Passing row (firsts .count)
       unfolding begunFrom
       passing-there g e =
           let z : 0 ≡ firsts .count - firsts .count = omega arith in
@@ -176,7 +191,7 @@ module _ (es ns : List ℕ) (firsts : Firsts) where
           (begun (firsts .count) g (suc j) (masksIn row)) j few (w g e)
 
       -- Its last choice: it begins again
-      pub passing-more : getD (masksIn row) j 0 ≡ 0 → Passing row j
+      passing-more : getD (masksIn row) j 0 ≡ 0 → Passing row j
       unfolding begunFrom
       passing-more z g e =
           let d : suc (firsts .count - suc j) ≡ firsts .count - j = omega arith in
@@ -186,38 +201,78 @@ module _ (es ns : List ℕ) (firsts : Firsts) where
           (carried-more (choicesAt ns es (firsts .nodes) (firsts .count)) first maxFunctions (masksIn row) next j few (w g e)
           (last-choice j (getD next j 0) (sym (still g e) ∙ z))))
 
-      -- Another choice: that is the next row
-      pub steps-by : (r : Step) → r .more ≡ true → r .function ≡ j → Next (choicesOf es ns firsts j) (getD (masksIn row) j 0) (mask (r .set))
-          → StepsBy es ns firsts (masksIn row) r
+      -- Another choice: that is the next row, as it is written into an array in which the later functions have begun again
+      steps-set : (first again : List NodeSet) (s : NodeSet) → placeOf (rowsOf es ns firsts) ≡ at (masksIn first)
+          → masksIn again ≡ begun (firsts .count) (masksIn first) (suc j) (masksIn row)
+          → Next (choicesOf es ns firsts j) (getD (masksIn row) j 0) (mask s) → StepsFrom es ns firsts (masksIn row) true (masksIn (set again j s))
       unfolding StepsFrom
-      steps-by r more at-j n = record {
-        there = λ q. omega (arith, at-j);
-        leads = λ g e.
-            let next = begun (firsts .count) g (suc j) (masksIn row) in
-            let on = steps-on ns es (firsts .nodes) (firsts .count) (f .faces) (masksIn row) next j (mask (r .set)) few (w g e)
-            (subst (λ (x : ℕ). Next (choicesOf es ns firsts j) x (mask (r .set))) (still g e) n) in
-            rw (more, at-j) on;
-      }
+      steps-set first again s e a n =
+          let next = begun (firsts .count) (masksIn first) (suc j) (masksIn row) in
+          subst (Steps ns es (firsts .nodes) (firsts .count) (masksIn row) true)
+          (sym (masks-set again j s ∙ ap (λ (r : MaskRow). set r j (mask s)) a))
+          (steps-on ns es (firsts .nodes) (firsts .count) (f .faces) (masksIn row) next j (mask s) few (w (masksIn first) e)
+          (subst (λ (x : ℕ). Next (choicesOf es ns firsts j) x (mask s)) (still (masksIn first) e) n))
 
-    pub steps-none : (row : List NodeSet) (r : Step) → r .more ≡ false → Passing row 0 → StepsBy es ns firsts (masksIn row) r
-    unfolding StepsFrom
-    steps-none row r more w = record {
-      there = λ q. absurd (true≢false (sym q ∙ more));
-      leads = λ g e.
-          let past = steps-past ns es (firsts .nodes) (firsts .count) (f .faces) (masksIn row) (begun (firsts .count) g 0 (masksIn row))
-          (set (begun (firsts .count) g (suc (r .function)) (masksIn row)) (r .function) (mask (r .set))) (w g e) in
-          rw more past;
-    }
+    -- The functions from the one after that steps on have had their last choices
+    passing-here : (row : List NodeSet) → masksIn row ∈ rowsOf es ns firsts → (k : ℕ) → StepsAt (firsts .count) (masksIn row) k → Passing row k
+    passing-here row m k h = go (firsts .count - k) k (omega (arith, h .few)) (omega arith)
+      where
+        go : (d j : ℕ) → j + d ≡ firsts .count → k ≤ j → Passing row j
+        go zero j e l = let z : firsts .count ≡ j = omega arith in subst (Passing row) z (passing-there row m)
+        go (suc d) j e l = passing-more row j (omega arith) (go d (suc j) (omega arith) (omega arith)) (h .passed j l (omega arith))
 
--- The row that a step leads to, as it is written into an array that has begun again
-pub step-taken : (es ns : List ℕ) (firsts : Firsts) (first row again : List NodeSet) (step : Step) → StepsBy es ns firsts (masksIn row) step
-    → placeOf (rowsOf es ns firsts) ≡ at (masksIn first)
-    → masksIn again ≡ begun (firsts .count) (masksIn first) (step .function + 1) (masksIn row)
-    → StepsFrom es ns firsts (masksIn row) (step .more) (masksIn (set again (step .function) (step .set)))
-step-taken es ns firsts first row again step h f e =
-    let k : ℕ = step .function in
-    let z : k + 1 ≡ suc k = omega arith in
-    let begun-next = subst (λ (j : ℕ). masksIn again ≡ begun (firsts .count) (masksIn first) j (masksIn row)) z e in
-    subst (StepsFrom es ns firsts (masksIn row) (step .more))
-    (sym (masks-set again k (step .set) ∙ ap (λ (r : MaskRow). set r k (mask (step .set))) begun-next))
-    (h .leads (masksIn first) f)
+    module _ (first row : List NodeSet) (e : placeOf (rowsOf es ns firsts) ≡ at (masksIn first)) (m : masksIn row ∈ rowsOf es ns firsts) where
+      -- From the last row there is none
+      pub steps-none : (k : ℕ) (next : MaskRow) → StepsAt (firsts .count) (masksIn row) k → k ≡ 0 → StepsFrom es ns firsts (masksIn row) false next
+      unfolding StepsFrom
+      steps-none k next h z =
+          steps-past ns es (firsts .nodes) (firsts .count) (f .faces) (masksIn row) (begun (firsts .count) (masksIn first) 0 (masksIn row)) next
+          (subst (Passing row) z (passing-here row m k h) (masksIn first) e)
+
+      -- The last function has a node, and so it is there and steps
+      pub last-moves : 0 < mask (getD row (firsts .count - 1) nothing) → Moving (firsts .count) first row row (firsts .count)
+      unfolding maxFunctions
+      last-moves h =
+          let j : ℕ = firsts .count - 1 in
+          let here : 0 < getD (masksIn row) j 0 = subst (λ (x : ℕ). 0 < x) (masks-at row j) h in
+          let some = there j (getD (masksIn row) j 0) (row-choice row m j (omega (arith, f .faces .few))) here in
+          record {
+            steps = record { few = omega arith; moves = λ q. here; passed = λ i l q. absurd (omega arith) };
+            some = omega arith;
+            again = again-none (firsts .count) first row (firsts .count) (omega arith);
+          }
+
+      module _ (next : List NodeSet) (k : ℕ) (w : Moving (firsts .count) first row next k) where
+        module _ (j : ℕ) (z : k ≡ suc j) where
+          few-here : j < firsts .count
+          few-here = omega (arith, w .steps .few)
+
+          passing-after : Passing row (suc j)
+          passing-after = subst (Passing row) z (passing-here row m k (w .steps))
+
+          again-after : masksIn next ≡ begun (firsts .count) (masksIn first) (suc j) (masksIn row)
+          again-after = subst (λ (i : ℕ). masksIn next ≡ begun (firsts .count) (masksIn first) i (masksIn row)) z (w .again)
+
+          -- The set of the function that steps is still the given one
+          same-set : mask (getD next j nothing) ≡ getD (masksIn row) j 0
+          same-set =
+              masks-at next j ∙ ap (λ (r : MaskRow). getD r j 0) again-after ∙ sym (still row j few-here passing-after (masksIn first) e)
+
+        pred : k ≡ suc (k - 1)
+        pred = omega (arith, w .some)
+
+        -- What `next_of` requires
+        pub moving-choice : (mask (getD next (k - 1) nothing) ∈ choicesOf es ns firsts (k - 1)) × (0 < mask (getD next (k - 1) nothing))
+        moving-choice =
+            let same = sym (same-set (k - 1) pred) in (
+              subst (λ (x : ℕ). x ∈ choicesOf es ns firsts (k - 1)) same
+                  (row-choice row m (k - 1) (omega (arith, w .steps .few, w .some, f .faces .few))),
+              subst (λ (x : ℕ). 0 < x) same (w .steps .moves (w .some)),
+            )
+
+        -- THE NEXT ROW
+        pub moved : (s : NodeSet) → Next (choicesOf es ns firsts (k - 1)) (mask (getD next (k - 1) nothing)) (mask s)
+            → StepsFrom es ns firsts (masksIn row) true (masksIn (set next (k - 1) s))
+        moved s n =
+            steps-set row (k - 1) (few-here (k - 1) pred) (passing-after (k - 1) pred) first next s e (again-after (k - 1) pred)
+            (subst (λ (x : ℕ). Next (choicesOf es ns firsts (k - 1)) x (mask s)) (same-set (k - 1) pred) n)

@@ -3,18 +3,15 @@
 --   rowsOf     the masks of all rows, in order
 --   StepsFrom  what a step from a row leads to
 --   begun      a row in which the functions from one on are at their first choices again
---   StepsBy    the answer of a step from a row
+--   StepsAt    the function that steps is the last with a node, and so many functions there are up to it
 use mathlib.Core.Path.{_≡_}
-use mathlib.Core.Bool.{Bool, true}
+use mathlib.Core.Bool.{Bool}
 use mathlib.Core.List.{List}
-use Prim.Native.Nat.{ℕ, zero, suc, _-_, _<_}
+use Prim.Native.Nat.{ℕ, zero, suc, _-_, _<_, _≤_}
 use lib.ListN.{length, getD, set}
-use Rattle.meaning.specs.Search.{at, placeOf}
-use Rattle.masks.specs.Sets.{mask}
 use Rattle.faces.specs.declared.first.Firsts.{Firsts}
 use Rattle.choosing.specs.FaceNodes.{Faces}
 use Rattle.choosing.specs.Rows.{MaskRow, Steps, choicesAt, maskRows}
-use Rattle.rows.specs.declared.Step.{Step}
 
 pub record Faced (es ns : List ℕ) (firsts : Firsts) : Type 0 where
   pub faces : Faces es (firsts .nodes) (firsts .count)
@@ -37,8 +34,7 @@ begunFrom first row k (suc d) = set (begunFrom first row (suc k) d) k (getD firs
 abbrev pub begun : ℕ → MaskRow → ℕ → MaskRow → MaskRow
 begun count first k row = begunFrom first row k (count - k)
 
--- Whatever the first row is written as
-pub record StepsBy (es ns : List ℕ) (firsts : Firsts) (row : MaskRow) (r : Step) : Type 0 where
-  pub there : r .more ≡ true → r .function < firsts .count
-  pub leads : (first : MaskRow) → placeOf (rowsOf es ns firsts) ≡ at first
-      → StepsFrom es ns firsts row (r .more) (set (begun (firsts .count) first (suc (r .function)) row) (r .function) (mask (r .set)))
+pub record StepsAt (count : ℕ) (row : MaskRow) (r : ℕ) : Type 0 where
+  pub few : r ≤ count
+  pub moves : 0 < r → 0 < getD row (r - 1) 0
+  pub passed : (j : ℕ) → r ≤ j → j < count → getD row j 0 ≡ 0

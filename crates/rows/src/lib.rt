@@ -8,24 +8,16 @@ use masks::NodeSet;
 ghost use mathlib.Core.Path.{_≡_};
 ghost use mathlib.Core.Logic.{_↔_};
 ghost use mathlib.Core.Bool.{true};
-ghost use Prim.Native.Nat.{_<_, _≤_};
+ghost use Prim.Native.Nat.{_-_, _<_, _≤_};
 ghost use Rattle.meaning.specs.Limits.{maxFunctions};
 ghost use Rattle.meaning.specs.Basics.{_∈_};
 ghost use Rattle.meaning.specs.Search.{at, placeOf};
 ghost use Rattle.masks.specs.Sets.{mask, masksIn};
 ghost use Rattle.choosing.specs.Rows.{Next, firstAt};
-ghost use Rattle.rows.specs.Rows.{Faced, choicesOf, rowsOf, StepsBy, begun};
+ghost use Rattle.rows.specs.Rows.{Faced, choicesOf, rowsOf, StepsAt, begun};
 
 // How many functions a row has sets for.
 pub const MAX_FUNCTIONS: usize = metavariables::MAX_FUNCTIONS;
-
-// A step from a row: whether there is a row after it, and if so the function that takes its next choice, and that choice. The later functions
-// begin again. A row is 256 bytes and a step is few, so that who goes from row to row keeps one array and writes steps into it.
-pub struct Step {
-    pub set: NodeSet,
-    pub function: usize,
-    pub more: bool,
-}
 
 // Whether the set, whatever it is, is a choice of function k. One that is not there has the empty choice.
 fn is_choice_of(es: &[u64], ns: &[u64], firsts: Firsts, k: usize, set: NodeSet) -> bool
@@ -52,7 +44,7 @@ fn first_of(es: &[u64], ns: &[u64], firsts: Firsts, k: usize) -> NodeSet
 }
 
 // The choice of function k after another that has a node, so that the function is there.
-fn next_of(es: &[u64], ns: &[u64], firsts: Firsts, k: usize, set: NodeSet) -> NodeSet
+pub fn next_of(es: &[u64], ns: &[u64], firsts: Firsts, k: usize, set: NodeSet) -> NodeSet
     requires { ⌜ Faced (now es) (now ns) firsts ⌝ ∗ ⌜ k < maxFunctions ⌝
         ∗ ⌜ mask set ∈ choicesOf (now es) (now ns) firsts k ⌝ ∗ ⌜ 0 < mask set ⌝ }
     ensures { λ r. ⌜ Next (choicesOf (now (es .entry)) (now (ns .entry)) firsts k) (mask set) (mask r) ⌝ }
@@ -90,28 +82,32 @@ pub fn first_row(es: &[u64], ns: &[u64], firsts: Firsts) -> [NodeSet; MAX_FUNCTI
     row
 }
 
-// The step from a row, if it is not the last: the last function with a choice left takes its next one. Functions that are not there have one
-// choice, and are passed over.
-pub fn next_step(es: &[u64], ns: &[u64], firsts: Firsts, row: [NodeSet; MAX_FUNCTIONS]) -> Step
-    requires { ⌜ Faced (now es) (now ns) firsts ⌝ ∗ ⌜ masksIn row ∈ rowsOf (now es) (now ns) firsts ⌝ }
-    ensures { λ r. ⌜ StepsBy (now (es .entry)) (now (ns .entry)) firsts (masksIn row) r ⌝ }
+// How many functions there are up to the one that steps, which is the last with a choice left; 0 from the last row. The steps that follow are
+// `begin_again` for the later functions and `next_of` for that one: who goes from row to row keeps one array and writes them into it, since a
+// row is 256 bytes and a step changes few of them.
+pub fn stepping(firsts: Firsts, row: [NodeSet; MAX_FUNCTIONS]) -> usize
+    requires { ⌜ firsts .count ≤ maxFunctions ⌝ }
+    ensures { λ r. ⌜ StepsAt (firsts .count) (masksIn row) r ⌝ }
 {
     let mut k = firsts.count;
     while 0 < k {
-        k -= 1;
-        let set = row[k];
+        let set = row[k - 1];
         if !set.is_empty() {
-            return Step {
-                set: next_of(es, ns, firsts, k, set),
-                function: k,
-                more: true,
-            };
+            return k;
         }
+        k -= 1;
     }
-    Step {
-        set: NodeSet::none(),
-        function: 0,
-        more: false,
+    0
+}
+
+// The function that steps most often: the last, or where there is none number 0, which has an empty set.
+pub fn last_function(firsts: Firsts) -> usize
+    ensures { λ r. ⌜ r ≡ firsts .count - 1 ⌝ }
+{
+    if firsts.count == 0 {
+        0
+    } else {
+        firsts.count - 1
     }
 }
 

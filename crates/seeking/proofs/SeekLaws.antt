@@ -2,9 +2,9 @@
 use mathlib.Core.Path.{_≡_, refl, ap, sym, _∙_, subst, subst₂}
 use mathlib.Core.Bool.{Bool, true, false, not, true≢false}
 use mathlib.Core.List.{List, [], _∷_, _++_, append-assoc, List·Memᴰ·head, List·Memᴰ·tail, Memᴰ·append-right}
-use Prim.Native.Nat.{ℕ, suc, _+_, _<_}
+use Prim.Native.Nat.{ℕ, suc, _<_}
 use native.Mathlib.Omega.{arith}
-use lib.ListN.{length, set}
+use lib.ListN.{length}
 use Rattle.meaning.specs.Basics.{choose, _∈_}
 use Rattle.meaning.specs.Search.{Place, at, past, placeOf, found, end, paused, Keeps, finds, ends, pauses}
 use Rattle.meaning.proofs.Lists.{never}
@@ -15,9 +15,7 @@ use Rattle.masks.specs.declared.NodeSet.{NodeSet}
 use Rattle.faces.specs.declared.first.Firsts.{Firsts}
 use Rattle.choosing.specs.Rows.{MaskRow, Leads, Steps}
 use Rattle.choosing.proofs.Problem.{row-masks}
-use Rattle.rows.specs.Rows.{StepsBy, StepsFrom, begun, rowsOf}
-use Rattle.rows.specs.declared.Step.{Step}
-use Rattle.rows.proofs.RowLaws.{step-taken}
+use Rattle.rows.specs.Rows.{StepsFrom, rowsOf}
 use Rattle.places.specs.Places.{AtRow, AtPast}
 use Rattle.places.specs.declared.Place as code
 use Rattle.fit.specs.Ready as fit
@@ -160,29 +158,21 @@ module _ (ps es ns fs : List ℕ) (fixed : Fixed) (row : MaskRow) where
           isRow = next-member g (h .isRow);
         }
 
--- The answers of `found_at`
-module _ (es ns : List ℕ) (fixed : Fixed) (row : List NodeSet) (step : Step) (h : StepsBy es ns (fixed .firsts) (masksIn row) step)
-    (first : placeOf (allRows es ns fixed) ≡ at (masksIn (fixed .first))) where
-  pub passed-more : (again : List NodeSet) (r : Searched) → step .more ≡ true
-      → masksIn again ≡ begun (fixed .firsts .count) (masksIn (fixed .first)) (step .function + 1) (masksIn row)
-      → r .answer ≡ answers.Found → masksIn (r .row) ≡ masksIn row → AtRow (set again (step .function) (step .set)) (r .place)
-      → Passed es ns fixed (masksIn row) r
-  passed-more again r more e a here place = record {
-    answer = a;
+-- The answers of `found_at`, by where the step from the row leads
+module _ (es ns : List ℕ) (fixed : Fixed) (row : MaskRow) (r : Searched) (answer : r .answer ≡ answers.Found) (here : masksIn (r .row) ≡ row) where
+  pub passed-more : (next : List NodeSet) → StepsFrom es ns (fixed .firsts) row true (masksIn next) → AtRow next (r .place)
+      → Passed es ns fixed row r
+  passed-more next steps place = record {
+    answer = answer;
     here = here;
-    after = subst₂ (StepsFrom es ns (fixed .firsts) (masksIn row)) (more ∙ sym (ap not (place .here))) (sym (ap masksIn (place .sets)))
-        (step-taken es ns (fixed .firsts) (fixed .first) row again step h first e);
+    after = subst₂ (StepsFrom es ns (fixed .firsts) row) (sym (ap not (place .here))) (sym (ap masksIn (place .sets))) steps;
     clean = λ q. absurd (true≢false (sym q ∙ place .here));
   }
 
-  pub passed-last : (r : Searched) → step .more ≡ false → r .answer ≡ answers.Found → masksIn (r .row) ≡ masksIn row → AtPast (r .place)
-      → Passed es ns fixed (masksIn row) r
-  unfolding StepsFrom Steps
-  passed-last r last a here place = record {
-    answer = a;
+  pub passed-last : StepsFrom es ns (fixed .firsts) row false (masksIn (r .place .sets)) → AtPast (r .place) → Passed es ns fixed row r
+  passed-last steps place = record {
+    answer = answer;
     here = here;
-    after = λ before later e.
-        let leads = h .leads (masksIn (fixed .first)) first before later e in
-        record { goes = λ q. absurd (true≢false (sym q ∙ ap not (place .past))); ends = λ q. leads .ends last };
+    after = subst (λ (more : Bool). StepsFrom es ns (fixed .firsts) row more (masksIn (r .place .sets))) (sym (ap not (place .past))) steps;
     clean = λ q. place .masks;
   }

@@ -4,7 +4,9 @@ use fit::judge;
 use masks::NodeSet;
 use places::Place;
 use rows::begin_again;
-use rows::next_step;
+use rows::last_function;
+use rows::next_of;
+use rows::stepping;
 ghost use Prim.Native.Nat.{_<_};
 ghost use Rattle.masks.specs.Sets.{masksIn};
 ghost use Rattle.seeking.specs.Seeking.{Steppable, Passed, Ended, Paused, Seekable, Seeks};
@@ -38,12 +40,11 @@ fn found_at(es: &[u64], ns: &[u64], fixed: Fixed, row: [NodeSet; Place::MAX_FUNC
 {
     let firsts = fixed.firsts;
     let first = fixed.first;
-    let step = next_step(es, ns, firsts, row);
-    let k = step.function;
-    let set = step.set;
-    let place = if step.more {
-        let mut next = begin_again(firsts, first, k + 1, row);
-        next[k] = set;
+    let k = stepping(firsts, row);
+    let place = if 0 < k {
+        let mut next = begin_again(firsts, first, k, row);
+        let set = next[k - 1];
+        next[k - 1] = next_of(es, ns, firsts, k - 1, set);
         Place::at(next)
     } else {
         Place::past_last()
@@ -92,6 +93,7 @@ pub fn seek(
     let functions = fixed.functions;
     let firsts = fixed.firsts;
     let first = fixed.first;
+    let last = last_function(firsts);
     let mut at = row;
     let mut left = n;
     while 0 < left {
@@ -99,18 +101,19 @@ pub fn seek(
         if judged.solves {
             return found_at(es, ns, fixed, at);
         }
-        let step = next_step(es, ns, firsts, at);
-        if !step.more {
-            return ended();
-        }
-        // Seldom: most steps are the last function's.
-        let k = step.function;
-        if k + 1 < firsts.count {
-            let begun = begin_again(firsts, first, k + 1, at);
+        let mut k = firsts.count;
+        // Most steps are the last function's, and need no look at the others.
+        let set = at[last];
+        if set.is_empty() {
+            k = stepping(firsts, at);
+            if k == 0 {
+                return ended();
+            }
+            let begun = begin_again(firsts, first, k, at);
             at = begun;
         }
-        let set = step.set;
-        at[k] = set;
+        let set = at[k - 1];
+        at[k - 1] = next_of(es, ns, firsts, k - 1, set);
         left -= 1;
     }
     pause_at(at)

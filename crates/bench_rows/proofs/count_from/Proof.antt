@@ -1,57 +1,102 @@
 -- `bench_rows::count_from`. The loop's invariant: the row that is reached is one of the rows.
-use mathlib.Core.Path.{_≡_, ap, _∙_}
-use mathlib.Core.Bool.{true}
+use mathlib.Core.Path.{_≡_, refl, sym, _∙_, subst, subst₂}
 use mathlib.Core.Logic.{⊎-elim}
 use native.Mathlib.Omega.{arith}
-use Prim.Native.Nat.{ℕ, _+_, _-_, _≤_}
-use borrow.Author.Tests.{not-false}
+use Prim.Native.Nat.{ℕ, _-_, _≤_, _<_}
+use lib.ListN.{getD}
+use borrow.Author.Needs.{needs}
 use Rattle.meaning.specs.Limits.{maxFunctions}
 use Rattle.meaning.specs.Basics.{_∈_}
-use Rattle.masks.specs.Sets.{masksIn}
-use Rattle.rows.specs.Rows.{begun, rowsOf}
-use Rattle.rows.proofs.RowLaws.{again-none, step-taken}
+use Rattle.masks.specs.Sets.{mask, masksIn}
+use Rattle.rows.specs.Rows.{rowsOf}
+use Rattle.rows.proofs.RowLaws.{Moving, above-zero, last-moves, moved, moving-choice}
 use Rattle.bench_rows.proofs.Laws.{place-mem, step-in}
-use borrow.Author.Needs.{needs}
 use Rattle.bench_rows.proofs.count_from.Statement.{statement}
 use Rattle.bench_rows.proofs.count_from.Tie as tie
 
 abbrev Inv-loop : tie.InvT-loop
-Inv-loop es ns firsts first reached₀ n₀ reached n = (n ≤ 1000000) × (masksIn reached ∈ rowsOf es ns firsts)
+Inv-loop es ns firsts first reached₀ last n₀ reached n = (n ≤ 1000000) × (masksIn reached ∈ rowsOf es ns firsts)
 
 abbrev μ-loop : tie.MeasureT-loop
-μ-loop es ns firsts first reached₀ n₀ reached n = 1000000 - n
+μ-loop es ns firsts first reached₀ last n₀ reached n = 1000000 - n
+
+-- Whichever way the function that steps is found, the row is about to step
+moving : (j : tie.Joined1 Inv-loop μ-loop)
+    → Moving (j .before .before .before .before .before .before .before .before .args .firsts .count) (j .before .before .before .before .before .before .before .before .args .first) (j .before .before .before .before .loop .reached) (j .if1 .reached) (j .if1 .k)
+moving j =
+    let s = j .before .before .before .before .before .before .before .before in
+    let row = j .before .before .before .before .loop .reached in
+    let last : j .before .before .before .before .before .last-function .result ≡ s .args .firsts .count - 1 = j .before .before .before .before .before .last-function .ensures in
+    ⊎-elim
+    (λ w. subst₂ (Moving (s .args .firsts .count) (s .args .first) row) (sym (w .4)) (sym (w .5))
+    (record { steps = w .1 .ensures; some = omega (arith, w .2 .left); again = w .3 .ensures }))
+    (λ w. subst₂ (Moving (s .args .firsts .count) (s .args .first) row) (sym (w .1)) (sym (w .2))
+    (last-moves _ _ _ (s .pre .0) (s .args .first) row (s .pre .1) (j .before .before .before .before .loop .inv .1)
+    (subst (λ (i : ℕ). 0 < mask (getD row i (record { w0 = 0; w1 = 0; w2 = 0; w3 = 0 }))) last
+    (above-zero _ (sym (j .before .is-empty .ensures) ∙ w .0 .left)))))
+    (j .if1 .came)
+
+last-function-requires : tie.Need-last-function-requires Inv-loop μ-loop
+last-function-requires c κs = search needs
 
 loop-holds : tie.Need-loop-holds Inv-loop μ-loop
-loop-holds c = (omega arith, place-mem _ _ (c .before .before .pre .1))
+loop-holds c = (omega arith, place-mem _ _ (c .before .before .before .pre .1))
 
-next-step-requires : tie.Need-next-step-requires Inv-loop μ-loop
-next-step-requires c κs = search needs
+mul-set : tie.Need-mul-set Inv-loop μ-loop
+unfolding maxFunctions
+mul-set c = omega (arith, c .before .before .last-function .ensures, c .before .before .before .before .before .pre .0 .faces .few)
+
+array-copy-out-set : tie.Need-array-copy-out-set Inv-loop μ-loop
+unfolding maxFunctions
+array-copy-out-set c = omega (arith, c .before .before .last-function .ensures, c .before .before .before .before .before .pre .0 .faces .few)
+
+is-empty-requires : tie.Need-is-empty-requires Inv-loop μ-loop
+is-empty-requires c κs = search needs
+
+stepping-requires : tie.Need-stepping-requires Inv-loop μ-loop
+stepping-requires c κs = c .before .before .before .before .before .before .before .before .pre .0 .faces .few
 
 returns : tie.Need-returns Inv-loop μ-loop
 returns c = search needs
 
-add-if2 : tie.Need-add-if2 Inv-loop μ-loop
-unfolding maxFunctions
-add-if2 c = omega (arith, c .before .before .next-step .ensures .there (not-false _ (c .if1 .left)), c .before .before .before .before .before .before .before .pre .0 .faces .few)
-
-add-begin-again : tie.Need-add-begin-again Inv-loop μ-loop
-unfolding maxFunctions
-add-begin-again c =
-    omega (arith, c .before .before .before .before .next-step .ensures .there (not-false _ (c .before .before .if1 .left)), c .before .before .before .before .before .before .before .before .before .pre .0 .faces .few)
-
 begin-again-requires : tie.Need-begin-again-requires Inv-loop μ-loop
-begin-again-requires c κs =
-    (omega (arith, c .before .before .before .before .next-step .ensures .there (not-false _ (c .before .before .if1 .left))), c .before .before .before .before .before .before .before .before .before .pre .0 .faces .few)
+begin-again-requires c κs = (c .before .stepping .ensures .few, c .before .before .before .before .before .before .before .before .before .before .pre .0 .faces .few)
+
+sub-set : tie.Need-sub-set Inv-loop μ-loop
+sub-set c = moving (c .before) .some
+
+mul-set-2 : tie.Need-mul-set-2 Inv-loop μ-loop
+unfolding maxFunctions
+mul-set-2 c = omega (arith, moving (c .before) .steps .few, c .before .before .before .before .before .before .before .before .before .pre .0 .faces .few)
+
+array-copy-out-set-2 : tie.Need-array-copy-out-set-2 Inv-loop μ-loop
+unfolding maxFunctions
+array-copy-out-set-2 c = omega (arith, moving (c .before) .steps .few, c .before .before .before .before .before .before .before .before .before .pre .0 .faces .few)
+
+sub-next-of : tie.Need-sub-next-of Inv-loop μ-loop
+sub-next-of c = moving (c .before .before) .some
+
+next-of-requires : tie.Need-next-of-requires Inv-loop μ-loop
+unfolding maxFunctions
+next-of-requires c κs =
+    let j = c .before .before in
+    let s = c .before .before .before .before .before .before .before .before .before .before in
+    let choice = moving-choice _ _ _ (s .pre .0) (s .args .first) (c .before .before .before .before .before .before .loop .reached) (s .pre .1) (c .before .before .before .before .before .before .loop .inv .1) (j .if1 .reached) (j .if1 .k)
+    (moving j) in
+    (s .pre .0, (omega (arith, moving j .steps .few, s .pre .0 .faces .few), choice))
+
+sub-reached : tie.Need-sub-reached Inv-loop μ-loop
+sub-reached c = moving (c .before .before .before) .some
 
 mul-reached : tie.Need-mul-reached Inv-loop μ-loop
 unfolding maxFunctions
 mul-reached c =
-    omega (arith, c .before .before .before .before .before .next-step .ensures .there (not-false _ (c .before .before .before .if1 .left)), c .before .before .before .before .before .before .before .before .before .before .pre .0 .faces .few)
+    omega (arith, moving (c .before .before .before) .steps .few, c .before .before .before .before .before .before .before .before .before .before .before .pre .0 .faces .few)
 
 array-set-from-reached : tie.Need-array-set-from-reached Inv-loop μ-loop
 unfolding maxFunctions
 array-set-from-reached c =
-    omega (arith, c .before .before .before .before .before .next-step .ensures .there (not-false _ (c .before .before .before .if1 .left)), c .before .before .before .before .before .before .before .before .before .before .pre .0 .faces .few)
+    omega (arith, moving (c .before .before .before) .steps .few, c .before .before .before .before .before .before .before .before .before .before .before .pre .0 .faces .few)
 
 add-n : tie.Need-add-n Inv-loop μ-loop
 add-n c = search needs
@@ -61,18 +106,12 @@ loop-less c = search needs
 
 loop-again : tie.Need-loop-again Inv-loop μ-loop
 loop-again c =
-    let s = c .before .before .before .before .before .before .before .before .before .before in
-    let at = c .before .before .before .before .before .before .before .loop in
-    let step = c .before .before .before .before .before .next-step in
-    let more : step .result .more ≡ true = not-false _ (c .before .before .before .if1 .left) in
-    let k : ℕ = step .result .function in
-    let count : ℕ = s .args .firsts .count in
-    let again : masksIn (c .before .if2 .reached) ≡ begun count (masksIn (s .args .first)) (k + 1) (masksIn (at .reached)) =
-    ⊎-elim (λ w. ap masksIn (w .2) ∙ w .1 .ensures)
-    (λ w. ap masksIn (w .1) ∙ again-none count (s .args .first) (at .reached) (k + 1) (omega (arith, w .0 .left)))
-    (c .before .if2 .came) in
-    let on = step-taken _ _ _ (s .args .first) (at .reached) (c .before .if2 .reached) (step .result) (step .ensures) (s .pre .1) again in
-    (omega arith, step-in _ _ _ _ _ _ more on (at .inv .1))
+    let j = c .before .before .before in
+    let s = c .before .before .before .before .before .before .before .before .before .before .before in
+    let loop = c .before .before .before .before .before .before .before .loop in
+    let on = moved _ _ _ (s .pre .0) (s .args .first) (loop .reached) (s .pre .1) (loop .inv .1) (j .if1 .reached) (j .if1 .k) (moving j) _
+    (c .next-of .ensures) in
+    (omega (arith, c .before .before .before .before .before .before .loop-test .taken), step-in _ _ _ _ _ _ refl on (loop .inv .1))
 
 returns-2 : tie.Need-returns-2 Inv-loop μ-loop
 returns-2 c = search needs
@@ -83,12 +122,20 @@ count-from-spec =
     (tie.spec
     Inv-loop
     μ-loop
+    last-function-requires
     loop-holds
-    next-step-requires
+    mul-set
+    array-copy-out-set
+    is-empty-requires
+    stepping-requires
     returns
-    add-if2
-    add-begin-again
     begin-again-requires
+    sub-set
+    mul-set-2
+    array-copy-out-set-2
+    sub-next-of
+    next-of-requires
+    sub-reached
     mul-reached
     array-set-from-reached
     add-n

@@ -1,37 +1,56 @@
 -- `found_at` meets its contract.
 use mathlib.Core.Path.{refl}
 use native.Mathlib.Omega.{arith}
+use Prim.Native.Nat.{_-_}
 use borrow.Author.Needs.{needs}
 use Rattle.meaning.specs.Limits.{maxFunctions}
+use Rattle.rows.proofs.RowLaws.{moved, moving-choice, steps-none}
 use Rattle.seeking.proofs.SeekLaws.{passed-more, passed-last}
 use Rattle.seeking.proofs.found_at.Statement.{statement}
 use Rattle.seeking.proofs.found_at.Tie as tie
 
-next-step-requires : tie.Need-next-step-requires
-next-step-requires c κs = let h = c .before .before .before .before .pre in (h .faced, h .isRow)
-
-add-begin-again : tie.Need-add-begin-again
-unfolding maxFunctions
-add-begin-again c =
-    let s = c .before .before .before .before .before .before .before in
-    omega (arith, c .before .before .next-step .ensures .there (c .if1 .taken), s .pre .faced .faces .few)
+stepping-requires : tie.Need-stepping-requires
+stepping-requires c κs = c .before .before .before .before .pre .faced .faces .few
 
 begin-again-requires : tie.Need-begin-again-requires
-begin-again-requires c κs =
-    let s = c .before .before .before .before .before .before .before in
-    (omega (arith, c .before .before .next-step .ensures .there (c .if1 .taken)), s .pre .faced .faces .few)
+begin-again-requires c κs = (c .before .stepping .ensures .few, c .before .before .before .before .before .before .pre .faced .faces .few)
+
+sub-set : tie.Need-sub-set
+sub-set c = c .before .if1 .taken
+
+mul-set : tie.Need-mul-set
+unfolding maxFunctions
+mul-set c = omega (arith, c .before .before .stepping .ensures .few, c .before .before .before .before .before .before .before .pre .faced .faces .few)
+
+array-copy-out-set : tie.Need-array-copy-out-set
+unfolding maxFunctions
+array-copy-out-set c =
+    omega (arith, c .before .before .stepping .ensures .few, c .before .before .before .before .before .before .before .pre .faced .faces .few)
+
+sub-next-of : tie.Need-sub-next-of
+sub-next-of c = c .before .before .if1 .taken
+
+next-of-requires : tie.Need-next-of-requires
+unfolding maxFunctions
+next-of-requires c κs =
+    let s = c .before .before .before .before .before .before .before .before in
+    let step = c .before .before .before .stepping in
+    let choice = moving-choice _ _ _ (s .pre .faced) (s .args .fixed .first) (s .args .row) (s .pre .first) (s .pre .isRow) (c .before .begin-again .result) (step .result)
+    (record { steps = step .ensures; some = c .before .before .if1 .taken; again = c .before .begin-again .ensures }) in
+    (s .pre .faced, (omega (arith, step .ensures .few, s .pre .faced .faces .few), choice))
+
+sub-next : tie.Need-sub-next
+sub-next c = c .before .before .before .if1 .taken
 
 mul-next : tie.Need-mul-next
 unfolding maxFunctions
 mul-next c =
-    let s = c .before .before .before .before .before .before .before .before in
-    omega (arith, c .before .before .before .next-step .ensures .there (c .before .if1 .taken), s .pre .faced .faces .few)
+    omega (arith, c .before .before .before .before .stepping .ensures .few, c .before .before .before .before .before .before .before .before .before .pre .faced .faces .few)
 
 array-set-from-next : tie.Need-array-set-from-next
 unfolding maxFunctions
 array-set-from-next c =
-    let s = c .before .before .before .before .before .before .before .before in
-    omega (arith, c .before .before .before .next-step .ensures .there (c .before .if1 .taken), s .pre .faced .faces .few)
+    omega (arith, c .before .before .before .before .stepping .ensures .few, c .before .before .before .before .before .before .before .before .before .pre .faced .faces .few)
 
 at-requires : tie.Need-at-requires
 at-requires c κs = search needs
@@ -41,25 +60,34 @@ past-last-requires c κs = search needs
 
 returns : tie.Need-returns
 returns c =
-    let s = c .before .before .before .before .before .before .before .before .before in
-    let step = c .before .before .before .before .next-step in
-    passed-more (s .args .es .now) (s .args .ns .now) (s .args .fixed) (s .args .row) (step .result) (step .ensures) (s .pre .first)
-    (c .before .begin-again .result) _ (c .before .before .if1 .taken) (c .before .begin-again .ensures) refl refl (c .at .ensures)
+    let s = c .before .before .before .before .before .before .before .before .before .before in
+    let step = c .before .before .before .before .before .stepping in
+    let again = c .before .before .before .begin-again in
+    passed-more _ _ (s .args .fixed) _ _ refl refl _
+    (moved _ _ _ (s .pre .faced) (s .args .fixed .first) (s .args .row) (s .pre .first) (s .pre .isRow) (again .result) (step .result)
+    (record { steps = step .ensures; some = c .before .before .before .before .if1 .taken; again = again .ensures })
+    _ (c .before .next-of .ensures)) (c .at .ensures)
 
 returns-2 : tie.Need-returns-2
 returns-2 c =
-    let s = c .before .before .before .before .before .before .before .before in
-    let step = c .before .before .before .next-step in
-    passed-last (s .args .es .now) (s .args .ns .now) (s .args .fixed) (s .args .row) (step .result) (step .ensures) (s .pre .first) _
-    (c .before .if1 .left) refl refl (c .past-last .ensures)
+    let s = c .before .before .before .before .before .before .before in
+    let step = c .before .before .stepping in
+    passed-last _ _ (s .args .fixed) _ _ refl refl
+    (steps-none _ _ _ (s .pre .faced) (s .args .fixed .first) (s .args .row) (s .pre .first) (s .pre .isRow) (step .result) _ (step .ensures) (omega (arith, c .before .if1 .left)))
+    (c .past-last .ensures)
 
 pub found-at-spec : {M : Type 1} → statement M
 found-at-spec =
     tie.close
     (tie.spec
-    next-step-requires
-    add-begin-again
+    stepping-requires
     begin-again-requires
+    sub-set
+    mul-set
+    array-copy-out-set
+    sub-next-of
+    next-of-requires
+    sub-next
     mul-next
     array-set-from-next
     at-requires

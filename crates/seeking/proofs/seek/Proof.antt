@@ -1,34 +1,58 @@
 -- `seek` meets its contract. The loop's invariant: what is promised from the row at hand on, with the allowance left, is what is promised
 -- of the whole.
-use mathlib.Core.Path.{_≡_, refl, ap, sym, _∙_}
-use mathlib.Core.Bool.{true}
+use mathlib.Core.Path.{_≡_, refl, sym, _∙_, subst, subst₂}
 use mathlib.Core.Logic.{⊎-elim}
-use Prim.Native.Nat.{ℕ, _+_}
-use lib.ListN.{length}
+use mathlib.Core.List.{List, []}
+use Prim.Native.Nat.{ℕ, _-_, _<_}
+use lib.ListN.{length, getD}
 use native.Mathlib.Omega.{arith}
-use borrow.Author.Tests.{not-true, not-false}
 use borrow.Author.Needs.{needs}
 use Rattle.meaning.specs.Limits.{maxFunctions}
-use Rattle.masks.specs.Sets.{masksIn}
-use Rattle.rows.specs.Rows.{begun}
-use Rattle.rows.proofs.RowLaws.{again-none, step-taken}
+use Rattle.masks.specs.Sets.{mask, masksIn}
+use Rattle.masks.specs.declared.NodeSet.{NodeSet}
+use Rattle.rows.proofs.RowLaws.{Moving, above-zero, last-moves, moved, moving-choice, steps-none}
 use Rattle.seeking.specs.Seeking.{Seekable, Seeks}
+use Rattle.seeking.specs.declared.Fixed.{Fixed}
 use Rattle.seeking.specs.declared.Searched.{Searched}
 use Rattle.seeking.proofs.SeekLaws.{seeks-found, seeks-ended, seeks-paused, seeks-on, seekable-next, seekable-ready, seekable-steppable}
 use Rattle.seeking.proofs.seek.Statement.{statement}
 use Rattle.seeking.proofs.seek.Tie as tie
 
 abbrev Inv-loop : tie.InvT-loop
-Inv-loop ps es ns fs fixed n scratch₀ functions firsts first at₀ left₀ scratch at left =
+Inv-loop ps es ns fs fixed n scratch₀ functions firsts first last at₀ left₀ scratch at left =
     Seekable ps es ns fs fixed (masksIn at) scratch
     × (length scratch ≡ length scratch₀)
     × ((r : Searched) → Seeks ps es ns fs fixed (masksIn at) left r → Seeks ps es ns fs fixed (masksIn at₀) left₀ r)
 
 abbrev μ-loop : tie.MeasureT-loop
-μ-loop ps es ns fs fixed n scratch₀ functions firsts first at₀ left₀ scratch at left = left
+μ-loop ps es ns fs fixed n scratch₀ functions firsts first last at₀ left₀ scratch at left = left
+
+-- Whichever way the function that steps is found, the row is about to step
+module _ (j : tie.Joined2 Inv-loop μ-loop) where
+  abbrev fixed : Fixed
+  fixed = j .before .before .before .before .before .before .before .before .before .before .before .before .before .before .before .before .before .before .args .fixed
+
+  abbrev row : List NodeSet
+  row = j .before .before .before .before .before .before .before .before .before .loop .at
+
+  moving : Moving (fixed .firsts .count) (fixed .first) row (j .if2 .at) (j .if2 .k)
+  moving =
+      let ground = j .before .before .before .before .before .before .before .before .before .loop .inv .0 .grounded in
+      let last : j .before .before .before .before .before .before .before .before .before .before .last-function .result ≡ fixed .firsts .count - 1 = j .before .before .before .before .before .before .before .before .before .before .last-function .ensures in
+      ⊎-elim
+      (λ w. subst₂ (Moving (fixed .firsts .count) (fixed .first) row) (sym (w .4)) (sym (w .5))
+      (record { steps = w .1 .ensures; some = omega (arith, w .2 .left); again = w .3 .ensures }))
+      (λ w. subst₂ (Moving (fixed .firsts .count) (fixed .first) row) (sym (w .1)) (sym (w .2))
+      (last-moves _ _ _ (ground .faced) (fixed .first) row (ground .first) (j .before .before .before .before .before .before .before .before .before .loop .inv .0 .isRow)
+      (subst (λ (i : ℕ). 0 < mask (getD row i (record { w0 = 0; w1 = 0; w2 = 0; w3 = 0 }))) last
+      (above-zero _ (sym (j .before .is-empty .ensures) ∙ w .0 .left)))))
+      (j .if2 .came)
+
+last-function-requires : tie.Need-last-function-requires Inv-loop μ-loop
+last-function-requires c κs = search needs
 
 loop-holds : tie.Need-loop-holds Inv-loop μ-loop
-loop-holds c = (c .before .before .before .before .before .before .before .pre, refl, λ r h. h)
+loop-holds c = (c .before .before .before .before .before .before .before .before .pre, refl, λ r h. h)
 
 judge-requires : tie.Need-judge-requires Inv-loop μ-loop
 judge-requires c κs = seekable-ready _ _ _ _ _ _ _ (c .before .before .loop .inv .0)
@@ -45,10 +69,21 @@ returns c =
     let loop = c .before .before .before .before .before .before .before .loop in
     loop .inv .2 _ (seeks-found _ _ _ _ _ _ _ _ (omega arith) (sym (judge .ensures .solves) ∙ c .before .if1 .taken) (c .found-at .ensures))
 
-next-step-requires : tie.Need-next-step-requires Inv-loop μ-loop
-next-step-requires c κs =
-    let h = seekable-steppable _ _ _ _ _ _ _ (c .before .before .before .before .before .before .loop .inv .0) in
-    (h .faced, h .isRow)
+mul-set : tie.Need-mul-set Inv-loop μ-loop
+unfolding maxFunctions
+mul-set c =
+    omega (arith, c .before .before .before .before .before .before .before .last-function .ensures, c .before .before .before .before .before .before .loop .inv .0 .grounded .faced .faces .few)
+
+array-copy-out-set : tie.Need-array-copy-out-set Inv-loop μ-loop
+unfolding maxFunctions
+array-copy-out-set c =
+    omega (arith, c .before .before .before .before .before .before .before .last-function .ensures, c .before .before .before .before .before .before .loop .inv .0 .grounded .faced .faces .few)
+
+is-empty-requires : tie.Need-is-empty-requires Inv-loop μ-loop
+is-empty-requires c κs = search needs
+
+stepping-requires : tie.Need-stepping-requires Inv-loop μ-loop
+stepping-requires c κs = c .before .before .before .before .before .before .before .before .before .loop .inv .0 .grounded .faced .faces .few
 
 ended-requires : tie.Need-ended-requires Inv-loop μ-loop
 ended-requires c κs = search needs
@@ -58,41 +93,58 @@ same-length-2 c = search needs
 
 returns-2 : tie.Need-returns-2 Inv-loop μ-loop
 returns-2 c =
-    let step = c .before .before .before .next-step in
-    let judge = c .before .before .before .before .before .before .before .judge in
-    let loop = c .before .before .before .before .before .before .before .before .before .before .loop in
+    let step = c .before .before .stepping in
+    let judge = c .before .before .before .before .before .before .before .before .before .judge in
+    let loop = c .before .before .before .before .before .before .before .before .before .before .before .before .loop in
+    let start = c .before .before .before .before .before .before .before .before .before .before .before .before .before .before .before .before .before .before .before .before .before in
+    let ground = loop .inv .0 .grounded in
     loop .inv .2 _
-    (seeks-ended _ _ _ _ _ _ (sym (judge .ensures .solves) ∙ c .before .before .before .before .if1 .left) _ _
-    (step .ensures .leads _ (loop .inv .0 .grounded .first)) _ _ (omega (arith, c .before .before .before .before .before .before .before .before .before .loop-test .taken)) (not-true _ (c .before .if2 .taken)) (c .ended .ensures))
-
-add-if3 : tie.Need-add-if3 Inv-loop μ-loop
-unfolding maxFunctions
-add-if3 c =
-    let few = c .before .before .before .before .before .before .before .before .before .loop .inv .0 .grounded .faced .faces .few in
-    omega (arith, c .before .before .next-step .ensures .there (not-false _ (c .if2 .left)), few)
-
-add-begin-again : tie.Need-add-begin-again Inv-loop μ-loop
-unfolding maxFunctions
-add-begin-again c =
-    let few = c .before .before .before .before .before .before .before .before .before .before .before .loop .inv .0 .grounded .faced .faces .few in
-    omega (arith, c .before .before .before .before .next-step .ensures .there (not-false _ (c .before .before .if2 .left)), few)
+    (seeks-ended _ _ _ _ _ _ (sym (judge .ensures .solves) ∙ c .before .before .before .before .before .before .if1 .left) _ []
+    (steps-none _ _ _ (ground .faced) (start .args .fixed .first) (loop .at) (ground .first) (loop .inv .0 .isRow) _ _ (step .ensures)
+    (c .before .if3 .taken)) _ _ (omega (arith, c .before .before .before .before .before .before .before .before .before .before .before .loop-test .taken)) refl (c .ended .ensures))
 
 begin-again-requires : tie.Need-begin-again-requires Inv-loop μ-loop
-begin-again-requires c κs =
-    let few = c .before .before .before .before .before .before .before .before .before .before .before .loop .inv .0 .grounded .faced .faces .few in
-    (omega (arith, c .before .before .before .before .next-step .ensures .there (not-false _ (c .before .before .if2 .left))), few)
+begin-again-requires c κs = (c .before .stepping .ensures .few, c .before .before .before .before .before .before .before .before .before .before .before .loop .inv .0 .grounded .faced .faces .few)
+
+sub-set : tie.Need-sub-set Inv-loop μ-loop
+sub-set c = moving (c .before) .some
+
+mul-set-2 : tie.Need-mul-set-2 Inv-loop μ-loop
+unfolding maxFunctions
+mul-set-2 c =
+    omega (arith, moving (c .before) .steps .few, c .before .before .before .before .before .before .before .before .before .before .loop .inv .0 .grounded .faced .faces .few)
+
+array-copy-out-set-2 : tie.Need-array-copy-out-set-2 Inv-loop μ-loop
+unfolding maxFunctions
+array-copy-out-set-2 c =
+    omega (arith, moving (c .before) .steps .few, c .before .before .before .before .before .before .before .before .before .before .loop .inv .0 .grounded .faced .faces .few)
+
+sub-next-of : tie.Need-sub-next-of Inv-loop μ-loop
+sub-next-of c = moving (c .before .before) .some
+
+next-of-requires : tie.Need-next-of-requires Inv-loop μ-loop
+unfolding maxFunctions
+next-of-requires c κs =
+    let j = c .before .before in
+    let loop = c .before .before .before .before .before .before .before .before .before .before .before .loop in
+    let start = c .before .before .before .before .before .before .before .before .before .before .before .before .before .before .before .before .before .before .before .before in
+    let ground = loop .inv .0 .grounded in
+    let choice = moving-choice _ _ _ (ground .faced) (start .args .fixed .first) (loop .at) (ground .first) (loop .inv .0 .isRow)
+    (j .if2 .at) (j .if2 .k) (moving j) in
+    (ground .faced, (omega (arith, moving j .steps .few, ground .faced .faces .few), choice))
+
+sub-at : tie.Need-sub-at Inv-loop μ-loop
+sub-at c = moving (c .before .before .before) .some
 
 mul-at : tie.Need-mul-at Inv-loop μ-loop
 unfolding maxFunctions
 mul-at c =
-    let few = c .before .before .before .before .before .before .before .before .before .before .before .before .loop .inv .0 .grounded .faced .faces .few in
-    omega (arith, c .before .before .before .before .before .next-step .ensures .there (not-false _ (c .before .before .before .if2 .left)), few)
+    omega (arith, moving (c .before .before .before) .steps .few, c .before .before .before .before .before .before .before .before .before .before .before .before .loop .inv .0 .grounded .faced .faces .few)
 
 array-set-from-at : tie.Need-array-set-from-at Inv-loop μ-loop
 unfolding maxFunctions
 array-set-from-at c =
-    let few = c .before .before .before .before .before .before .before .before .before .before .before .before .loop .inv .0 .grounded .faced .faces .few in
-    omega (arith, c .before .before .before .before .before .next-step .ensures .there (not-false _ (c .before .before .before .if2 .left)), few)
+    omega (arith, moving (c .before .before .before) .steps .few, c .before .before .before .before .before .before .before .before .before .before .before .before .loop .inv .0 .grounded .faced .faces .few)
 
 sub-left : tie.Need-sub-left Inv-loop μ-loop
 sub-left c = search needs
@@ -100,26 +152,23 @@ sub-left c = search needs
 loop-less : tie.Need-loop-less Inv-loop μ-loop
 loop-less c = search needs
 
+still-long : (c : tie.After-judge Inv-loop μ-loop) → length (c .judge .last .1 .1 .1 .1 .1 .1 .1 .0) ≡ length (c .before .before .before .loop .scratch)
+still-long c = search needs
+
 loop-again : tie.Need-loop-again Inv-loop μ-loop
 loop-again c =
-    let step = c .before .before .before .before .before .next-step in
+    let j = c .before .before .before in
     let judge = c .before .before .before .before .before .before .before .before .before .judge in
     let loop = c .before .before .before .before .before .before .before .before .before .before .before .before .loop in
-    let fixed = c .before .before .before .before .before .before .before .before .before .before .before .before .before .before .before .before .before .before .before .before .args .fixed in
-    let first = loop .inv .0 .grounded .first in
-    let long : length (judge .last .1 .1 .1 .1 .1 .1 .1 .0) ≡ length (loop .scratch) = search needs in
-    let more : step .result .more ≡ true = not-false _ (c .before .before .before .if2 .left) in
+    let start = c .before .before .before .before .before .before .before .before .before .before .before .before .before .before .before .before .before .before .before .before .before in
+    let ground = loop .inv .0 .grounded in
+    let long = still-long (c .before .before .before .before .before .before .before .before .before) in
     let none = sym (judge .ensures .solves) ∙ c .before .before .before .before .before .before .if1 .left in
-    let k : ℕ = step .result .function in
-    let count : ℕ = fixed .firsts .count in
-    let again : masksIn (c .before .if3 .at) ≡ begun count (masksIn (fixed .first)) (k + 1) (masksIn (loop .at)) =
-    ⊎-elim (λ w. ap masksIn (w .2) ∙ w .1 .ensures)
-    (λ w. ap masksIn (w .1) ∙ again-none count (fixed .first) (loop .at) (k + 1) (omega (arith, w .0 .left)))
-    (c .before .if3 .came) in
-    let on = step-taken _ _ _ (fixed .first) (loop .at) (c .before .if3 .at) (step .result) (step .ensures) first again in (
-      seekable-next _ _ _ _ _ _ none _ _ on _ _ (loop .inv .0) more long,
+    let on = moved _ _ _ (ground .faced) (start .args .fixed .first) (loop .at) (ground .first) (loop .inv .0 .isRow) (j .if2 .at) (j .if2 .k)
+    (moving j) _ (c .next-of .ensures) in (
+      seekable-next _ _ _ _ _ _ none _ _ on _ _ (loop .inv .0) refl long,
       long ∙ loop .inv .1,
-      λ r h. loop .inv .2 r (seeks-on _ _ _ _ _ _ none _ _ on _ _ r (omega (arith, c .before .before .before .before .before .before .before .before .before .before .before .loop-test .taken)) more h),
+      λ r h. loop .inv .2 r (seeks-on _ _ _ _ _ _ none _ _ on _ _ r (omega (arith, c .before .before .before .before .before .before .before .before .before .before .before .loop-test .taken)) refl h),
     )
 
 pause-at-requires : tie.Need-pause-at-requires Inv-loop μ-loop
@@ -139,18 +188,26 @@ seek-spec =
     (tie.spec
     Inv-loop
     μ-loop
+    last-function-requires
     loop-holds
     judge-requires
     found-at-requires
     same-length
     returns
-    next-step-requires
+    mul-set
+    array-copy-out-set
+    is-empty-requires
+    stepping-requires
     ended-requires
     same-length-2
     returns-2
-    add-if3
-    add-begin-again
     begin-again-requires
+    sub-set
+    mul-set-2
+    array-copy-out-set-2
+    sub-next-of
+    next-of-requires
+    sub-at
     mul-at
     array-set-from-at
     sub-left
