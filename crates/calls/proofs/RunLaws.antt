@@ -28,7 +28,8 @@ use Rattle.search.specs.Calling.{replyWith, hostReply, Answers}
 use Rattle.seeking.specs.declared.Answer as code
 use Rattle.seeking.specs.declared.Answer.the-variants as answers
 use Rattle.seeking.specs.declared.Searched.{Searched}
-use Rattle.words.specs.Words.{PutRow, rowWords}
+use Rattle.words.specs.Storing.{PutRow}
+use Rattle.words.specs.Words.{rowWords}
 use Rattle.words.proofs.WordLaws.{more-put, nothing-put}
 use Rattle.calls.specs.Running.{wordsOfRow, wordsOfRows, leftBy, IsEnd, Called, FromPlace, Runs}
 use Rattle.calls.specs.declared.Progress.{Progress}

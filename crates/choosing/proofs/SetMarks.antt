@@ -11,9 +11,9 @@ use Rattle.meaning.specs.Limits.{maxFaceNodes}
 use Rattle.meaning.specs.Basics.{isSome}
 use Rattle.meaning.specs.Choice.{Mark, Marks}
 use Rattle.meaning.specs.PlaceValue.{maskOf}
-use Rattle.meaning.proofs.OldLimit.{oldLimit}
+use Rattle.meaning.proofs.OldLimit.{addedNodes, oldLimit}
 use Rattle.masks.specs.Mask.{marks, value, empty, join}
-use Rattle.masks.specs.Sets.{mask, nodes, width, wordsIn, wordsOf}
+use Rattle.masks.specs.Sets.{mask, nodes, width, wordCount, wordNodes, wordsIn, wordsOf}
 use Rattle.masks.specs.declared.NodeSet.{NodeSet}
 use Rattle.masks.proofs.Marks.{marks-value}
 use Rattle.masks.proofs.Nodes.{value-empty}
@@ -68,21 +68,21 @@ module _ (s : NodeSet) (ms : Marks) (h : length ms ≤ maxFaceNodes) where
 
 -- Within the old limit the first word is the old mask, and the others are empty
 pub old-words : (ms : Marks) → length ms ≤ oldLimit → wordsOf (maskOf maxFaceNodes ms) ≡ maskOf oldLimit ms ∷ 0 ∷ 0 ∷ 0 ∷ []
-unfolding wordsOf wordsIn value oldLimit width maxFaceNodes
+unfolding wordsOf wordsIn value oldLimit addedNodes width maxFaceNodes
 old-words ms h =
-    let e : 256 - length ms ≡ (64 - length ms) + 192 = omega arith in
-    let room : padded 256 ms ≡ padded 64 ms ++ empty 192 =
+    let e : maxFaceNodes - length ms ≡ (oldLimit - length ms) + addedNodes = omega arith in
+    let room : padded maxFaceNodes ms ≡ padded oldLimit ms ++ empty addedNodes =
     ap (λ (k : ℕ). map isSome ms ++ empty k) e
-    ∙ ap (λ (l : List Bool). map isSome ms ++ l) (sym (replicate-append-replicate (64 - length ms) 192 false))
-    ∙ sym (append-assoc (map isSome ms) (empty (64 - length ms)) (empty 192)) in
-    let digits : marks 256 (maskOf 256 ms) ≡ padded 64 ms ++ empty 192 =
-    ap (marks 256) (mask-value 256 ms (omega arith))
-    ∙ ap (λ (n : ℕ). marks n (value (padded 256 ms))) (sym (length-padded 256 ms (omega arith)))
-    ∙ marks-value (padded 256 ms) ∙ room in
-    ap (wordsIn 4) digits
-    ∙ ap₂ (λ (l r : List Bool). value l ∷ wordsIn 3 r) (take-at (padded 64 ms) (empty 192) 64 (length-padded 64 ms h))
-    (drop-at (padded 64 ms) (empty 192) 64 (length-padded 64 ms h))
-    ∙ ap (λ (m : ℕ). m ∷ 0 ∷ 0 ∷ 0 ∷ []) (sym (mask-value 64 ms h))
+    ∙ ap (λ (l : List Bool). map isSome ms ++ l) (sym (replicate-append-replicate (oldLimit - length ms) addedNodes false))
+    ∙ sym (append-assoc (map isSome ms) (empty (oldLimit - length ms)) (empty addedNodes)) in
+    let digits : marks maxFaceNodes (maskOf maxFaceNodes ms) ≡ padded oldLimit ms ++ empty addedNodes =
+    ap (marks maxFaceNodes) (mask-value maxFaceNodes ms (omega arith))
+    ∙ ap (λ (n : ℕ). marks n (value (padded maxFaceNodes ms))) (sym (length-padded maxFaceNodes ms (omega arith)))
+    ∙ marks-value (padded maxFaceNodes ms) ∙ room in
+    ap (wordsIn wordCount) digits
+    ∙ ap₂ (λ (l r : List Bool). value l ∷ wordsIn 3 r) (take-at (padded oldLimit ms) (empty addedNodes) wordNodes (length-padded oldLimit ms h))
+    (drop-at (padded oldLimit ms) (empty addedNodes) wordNodes (length-padded oldLimit ms h))
+    ∙ ap (λ (m : ℕ). m ∷ 0 ∷ 0 ∷ 0 ∷ []) (sym (mask-value oldLimit ms h))
 
 -- One mark more
 next-room : (w n : ℕ) → n < w → empty (w - n) ≡ false ∷ empty (w - suc n)

@@ -10,7 +10,7 @@
 --   wordsOf     the words of a mask, as a host holds them: the inverse of `mask`
 use mathlib.Core.Bool.{Bool}
 use mathlib.Core.List.{List, [], _∷_, _++_, map}
-use Prim.Native.Nat.{ℕ, zero, suc}
+use Prim.Native.Nat.{ℕ, zero, suc, _*_}
 use lib.ListN.{take, drop}
 use Rattle.masks.specs.Mask.{marks, value}
 use Rattle.masks.specs.declared.NodeSet.{NodeSet}
@@ -23,7 +23,7 @@ wordCount = 4
 
 -- No abbreviation: a number of that many digits is too long to compute with
 unfoldable pub width : ℕ
-width = 256
+width = wordCount * wordNodes
 
 abbrev pub words : NodeSet → List ℕ
 words s = s .w0 ∷ s .w1 ∷ s .w2 ∷ s .w3 ∷ []

@@ -7,7 +7,7 @@ ghost use Prim.Native.Nat.{_<_};
 ghost use lib.Dec.{eqb};
 ghost use lib.ListN.{getD, set};
 ghost use Rattle.masks.specs.Mask.{marks, value, trues, first, join, leave, only};
-ghost use Rattle.masks.specs.Sets.{wordNodes, words, mask, nodes};
+ghost use Rattle.masks.specs.Sets.{wordCount, wordNodes, words, mask, nodes};
 
 // How many nodes a word has.
 const WORD: usize = 64;
@@ -90,7 +90,7 @@ impl NodeSet {
     }
 
     fn word(self, i: usize) -> u64
-        requires { ⌜ i < 4 ⌝ }
+        requires { ⌜ i < wordCount ⌝ }
         ensures { λ r. ⌜ r ≡ getD (words self) i 0 ⌝ }
     {
         match i {
@@ -103,7 +103,7 @@ impl NodeSet {
 
     // The set with w as its word i.
     fn put(self, i: usize, w: u64) -> NodeSet
-        requires { ⌜ i < 4 ⌝ }
+        requires { ⌜ i < wordCount ⌝ }
         ensures { λ r. ⌜ words r ≡ set (words self) i w ⌝ }
     {
         let mut r = self;

@@ -1,12 +1,13 @@
 -- T-10: "On problems within the old limit the rows, their order and the solutions equal the old ones."
 --   oldLimit       the nodes that a face might have before T-10
+--   addedNodes     how many it may have more
 --   oldAccept      `accept` as it was
 --   OldAccepted    `Accepted` as it was: a problem within the old limit
 --   oldMasks       `masksOf` as it was
 --   SameAsBefore   what stays of such a problem, and its new masks by the old ones
 -- What rows, their order and solutions are (`AreRows`, `EarlierRow`, `Solution`) does not mention the limit, so of every problem they are
 -- the old ones. The limit stands in two definitions only: which problems are accepted (here every answer but 14 stays, `answers-stay`),
--- and which numbers name a row to a host (each mask gets 192 zeros at its end, `same-as-before`).
+-- and which numbers name a row to a host (each mask gets a zero at its end for each node added, `same-as-before`).
 use mathlib.Core.Path.{_≡_, refl, ap, ap₂, sym, _∙_, subst}
 use mathlib.Core.Logic.{_↔_, _⊎_, inl, inr}
 use mathlib.Core.Bool.{Bool, true, false, _&&_, not}
@@ -41,6 +42,9 @@ use Rattle.meaning.proofs.PlaceLaws.{checked-few, checked-small}
 unfoldable pub oldLimit : ℕ
 oldLimit = 64
 
+unfoldable pub addedNodes : ℕ
+addedNodes = maxFaceNodes - oldLimit
+
 abbrev pub oldAccept : Bytes → Answer Problem
 oldAccept s = after (readProblem s) (checkProblem oldLimit)
 
@@ -57,8 +61,8 @@ pub record SameAsBefore (p : Problem) : Type 0 where
   -- the same rows in the same order, and the same full list: neither definition mentions the limit
   pub theRows : AreRows p (rows p)
   pub theList : IsFullList p (fullList p)
-  -- a row's masks are the old ones with 192 zeros after them (`first-word`, `other-words`)
-  pub masks : (r : Row) → r ∈ rows p → masksOf r ≡ map (λ (m : ℕ). m * 2 ^ 192) (oldMasks r)
+  -- a row's masks are the old ones with a zero after them for each node added (`first-word`, `other-words`)
+  pub masks : (r : Row) → r ∈ rows p → masksOf r ≡ map (λ (m : ℕ). m * 2 ^ addedNodes) (oldMasks r)
   -- and the masks of two rows compare as they did
   pub order : (r s : Row) → r ∈ rows p → s ∈ rows p → (k : ℕ)
       → (getD (masksOf r) k 0 < getD (masksOf s) k 0) ↔ (getD (oldMasks r) k 0 < getD (oldMasks s) k 0)
@@ -95,9 +99,12 @@ answers-of a b p h =
     (λ small. let e : checkProblem a p ≡ got p = choose-false _ _ few ∙ choose-false _ _ small in
     inl (e ∙ sym (limit-raised a b p h e))))
 
+raised-by : maxFaceNodes ≡ oldLimit + addedNodes
+unfolding oldLimit addedNodes maxFaceNodes
+raised-by = refl
+
 raised : oldLimit ≤ maxFaceNodes
-unfolding oldLimit maxFaceNodes
-raised = omega arith
+raised = omega (arith, raised-by)
 
 pub answers-stay : (s : Bytes) → (oldAccept s ≡ accept s) ⊎ (oldAccept s ≡ refused 14)
 unfolding accept
@@ -118,17 +125,16 @@ mask-wider (suc w) k (m ∷ ms) h =
     ∙ ap₂ _+_ (ap (λ (n : ℕ). bit m * n) (pow-add 2 w k) ∙ sym (mul-assoc (bit m) (2 ^ w) (2 ^ k))) (mask-wider w k ms (omega arith))
     ∙ sym (add-mul (bit m * 2 ^ w) (maskOf w ms) (2 ^ k))
 
--- Of the four words of 64 bits the first is the old mask, and the other three are 0
+-- Of the words the first is the old mask, and the others are 0
 module _ (ms : Marks) (h : length ms ≤ oldLimit) where
-  new-mask : maskOf maxFaceNodes ms ≡ maskOf oldLimit ms * 2 ^ 192
-  unfolding oldLimit maxFaceNodes
-  new-mask = mask-wider 64 192 ms h
+  new-mask : maskOf maxFaceNodes ms ≡ maskOf oldLimit ms * 2 ^ addedNodes
+  new-mask = ap (λ (w : ℕ). maskOf w ms) raised-by ∙ mask-wider oldLimit addedNodes ms h
 
-  pub first-word : maskOf maxFaceNodes ms / 2 ^ 192 ≡ maskOf oldLimit ms
-  first-word = ap (λ (m : ℕ). m / 2 ^ 192) new-mask ∙ shl-shr (maskOf oldLimit ms) 192
+  pub first-word : maskOf maxFaceNodes ms / 2 ^ addedNodes ≡ maskOf oldLimit ms
+  first-word = ap (λ (m : ℕ). m / 2 ^ addedNodes) new-mask ∙ shl-shr (maskOf oldLimit ms) addedNodes
 
-  pub other-words : maskOf maxFaceNodes ms % 2 ^ 192 ≡ 0
-  other-words = ap (λ (m : ℕ). m % 2 ^ 192) new-mask ∙ mul-mod-left (maskOf oldLimit ms) (2 ^ 192)
+  pub other-words : maskOf maxFaceNodes ms % 2 ^ addedNodes ≡ 0
+  other-words = ap (λ (m : ℕ). m % 2 ^ addedNodes) new-mask ∙ mul-mod-left (maskOf oldLimit ms) (2 ^ addedNodes)
 
 -- The masks of a row, and how two compare
 module _ (k : ℕ) where
@@ -164,21 +170,23 @@ module _ (k : ℕ) where
   )
 
 module _ (p : Problem) (a : OldAccepted p) where
-  masks-are : (r : Row) → r ∈ rows p → masksOf r ≡ map (λ (m : ℕ). m * 2 ^ 192) (oldMasks r)
-  unfolding masksOf oldLimit maxFaceNodes wider
+  masks-are : (r : Row) → r ∈ rows p → masksOf r ≡ map (λ (m : ℕ). m * 2 ^ addedNodes) (oldMasks r)
+  unfolding masksOf wider
   masks-are r m =
       let row = rows-are p r .0 m in
-      ap₂ _++_ (row-wider 192 64 p (functions p) r (row .choice) (checked-small oldLimit p (a .checked) (row .hasRows)))
-      (zeros-wider 192 (maxFunctions - length r))
-      ∙ sym (map-append (wider 192) (map (maskOf 64) r) (replicate (maxFunctions - length r) 0))
+      ap₂ _++_
+      (ap (λ (w : ℕ). map (maskOf w) r) raised-by
+      ∙ row-wider addedNodes oldLimit p (functions p) r (row .choice) (checked-small oldLimit p (a .checked) (row .hasRows)))
+      (zeros-wider addedNodes (maxFunctions - length r))
+      ∙ sym (map-append (wider addedNodes) (map (maskOf oldLimit) r) (replicate (maxFunctions - length r) 0))
 
   order-stays : (r s : Row) → r ∈ rows p → s ∈ rows p → (k : ℕ)
       → (getD (masksOf r) k 0 < getD (masksOf s) k 0) ↔ (getD (oldMasks r) k 0 < getD (oldMasks s) k 0)
   unfolding wider
   order-stays r s m n k =
       subst (λ (l : List ℕ). (getD l k 0 < getD (masksOf s) k 0) ↔ (getD (oldMasks r) k 0 < getD (oldMasks s) k 0)) (sym (masks-are r m))
-      (subst (λ (l : List ℕ). (getD (map (wider 192) (oldMasks r)) k 0 < getD l k 0) ↔ (getD (oldMasks r) k 0 < getD (oldMasks s) k 0))
-      (sym (masks-are s n)) (wider-order 192 (oldMasks r) (oldMasks s) k))
+      (subst (λ (l : List ℕ). (getD (map (wider addedNodes) (oldMasks r)) k 0 < getD l k 0) ↔ (getD (oldMasks r) k 0 < getD (oldMasks s) k 0))
+      (sym (masks-are s n)) (wider-order addedNodes (oldMasks r) (oldMasks s) k))
 
   -- THE THEOREM
   pub same-as-before : SameAsBefore p

@@ -12,7 +12,6 @@ use Rattle.meaning.proofs.PlaceLaws.{mem-split}
 use Rattle.meaning.proofs.OneCall.{one-before}
 use Rattle.masks.specs.Sets.{masksIn}
 use Rattle.masks.specs.declared.NodeSet.{NodeSet}
-use Rattle.faces.specs.declared.first.Firsts.{Firsts}
 use Rattle.choosing.specs.Rows.{MaskRow, Leads, Steps}
 use Rattle.choosing.proofs.Problem.{row-masks}
 use Rattle.rows.specs.Rows.{StepsFrom, rowsOf}

@@ -15,6 +15,15 @@ ghost use mathlib.Core.Path.{_≡_};
 ghost use Prim.Native.Nat.{_+_, _≤_};
 ghost use lib.ListN.{length};
 
+const WORD_BYTES: usize = 8;
+
+const SET_BYTES: usize = NodeSet::WORDS * WORD_BYTES;
+
+// The byte that says whether the place is past the last, after those of the sets.
+const PAST: usize = Place::MAX_FUNCTIONS * SET_BYTES;
+
+const ASKED: usize = PAST + 3;
+
 const ROOM: usize = 8192;
 
 const FILL: u8 = 170;
@@ -24,10 +33,10 @@ fn set_at(asked: &[u8], from: usize) -> NodeSet
     requires { ⌜ from + 32 ≤ length (now asked) ⌝ }
 {
     NodeSet {
-        w0: number_at(asked, from, from + 8),
-        w1: number_at(asked, from + 8, from + 16),
-        w2: number_at(asked, from + 16, from + 24),
-        w3: number_at(asked, from + 24, from + 32),
+        w0: number_at(asked, from, from + WORD_BYTES),
+        w1: number_at(asked, from + WORD_BYTES, from + 2 * WORD_BYTES),
+        w2: number_at(asked, from + 2 * WORD_BYTES, from + 3 * WORD_BYTES),
+        w3: number_at(asked, from + 3 * WORD_BYTES, from + SET_BYTES),
     }
 }
 
@@ -37,12 +46,12 @@ fn place_of(asked: &[u8]) -> Place
     let mut sets = [NodeSet::none(); Place::MAX_FUNCTIONS];
     let mut k = 0;
     while k < Place::MAX_FUNCTIONS {
-        sets[k] = set_at(asked, 32 * k);
+        sets[k] = set_at(asked, SET_BYTES * k);
         k += 1;
     }
     Place {
         sets: sets,
-        past: asked[256] == 1,
+        past: asked[PAST] == 1,
     }
 }
 
@@ -93,15 +102,15 @@ fn show_row(problem: &[u8], row: Place, room: usize)
 }
 
 pub fn show_written(label: &[u8], problem: &[u8], asked: &[u8]) {
-    if asked.len() != 259 {
+    if asked.len() != ASKED {
         bad(label);
         return;
     }
-    if 1 < asked[256] {
+    if 1 < asked[PAST] {
         bad(label);
         return;
     }
-    let room = number_at(asked, 257, 259) as usize;
+    let room = number_at(asked, PAST + 1, ASKED) as usize;
     if ROOM < room {
         bad(label);
         return;

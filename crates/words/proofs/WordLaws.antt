@@ -25,7 +25,8 @@ use Rattle.masks.specs.Sets.{marksIn, mask, masksIn, width, wordCount, wordNode
 use Rattle.masks.specs.declared.NodeSet.{NodeSet}
 use Rattle.masks.proofs.Marks.{length-marks, marks-value, value-marks}
 use Rattle.masks.proofs.Words.{length-words, masks-set, mask-words}
-use Rattle.words.specs.Words.{PutRow, PutWords, hasPlace, lastWord, maskIn, masksFrom, nowhere, placeOfWords, placeWords, placed, rowWords, valueWith}
+use Rattle.words.specs.Storing.{PutRow, PutWords}
+use Rattle.words.specs.Words.{hasPlace, lastWord, maskIn, masksFrom, nowhere, placeOfWords, placeWords, placed, rowWords, valueWith}
 
 -- ---- the words of one set
 

@@ -1,2 +1,3 @@
--- Places in words.
+-- Places and rows in words.
 pub mod Words
+pub mod Storing

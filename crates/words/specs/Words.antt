@@ -5,14 +5,11 @@
 --   rowWords       how many words the node sets of a row have
 --   placeWords     how many words a place has
 --   hasPlace       whether so many words have room for one
---   PutWords       so many words from one on are others, and the rest is as it was
---   PutRow         ... and they are those of a row's sets
 --   placed         a buffer with a place at its front, and its later words as they were
 --   maskIn         the mask of a node set by its words: the other way round than `wordsOf`
 --   masksFrom      the masks at the front of words, so many of them
 --   nowhere        a value that names no place of any problem (`nowhere-named`, WordLaws)
 --   placeOfWords   the value at the front of a buffer: with too few words, or another last word, it is "no such place" (16)
-use mathlib.Core.Path.{_≡_}
 use Prim.Native.Nat.{ℕ, zero, suc, _+_, _*_}
 use mathlib.Core.Bool.{Bool, true, false}
 use mathlib.Core.List.{List, [], _∷_, _++_}
@@ -37,13 +34,6 @@ hasPlace n = leb placeWords n
 abbrev pub lastWord : Bool → ℕ
 lastWord false = 0
 lastWord true = 1
-
-abbrev pub PutWords : ℕ → ℕ → List ℕ → List ℕ → List ℕ → Type 0
-PutWords start n words before after = after ≡ take start before ++ words ++ drop (start + n) before
-
-pub record PutRow (start : ℕ) (masks before after : List ℕ) : Type 0 where
-  pub long : length (each wordsOf masks) ≡ rowWords
-  pub put : PutWords start rowWords (each wordsOf masks) before after
 
 abbrev pub placed : List ℕ → PlaceValue → List ℕ
 placed words v = each wordsOf (v .masks) ++ (lastWord (v .isPast) ∷ drop placeWords words)

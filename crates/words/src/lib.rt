@@ -8,7 +8,8 @@ ghost use lib.ListN.{length, take, drop};
 ghost use Rattle.meaning.specs.Limits.{maxFunctions};
 ghost use Rattle.masks.specs.Sets.{mask, masksIn, wordCount, wordsOf};
 ghost use Rattle.places.specs.Places.{valueOf};
-ghost use Rattle.words.specs.Words.{PutRow, PutWords, lastWord, maskIn, masksFrom, nowhere, placeOfWords, placeWords, placed, rowWords};
+ghost use Rattle.words.specs.Storing.{PutRow, PutWords};
+ghost use Rattle.words.specs.Words.{lastWord, maskIn, masksFrom, nowhere, placeOfWords, placeWords, placed, rowWords};
 
 // How many words the sets of a row have: those of one for each function. In a place the last word comes after them.
 pub const ROW_WORDS: usize = Place::MAX_FUNCTIONS * NodeSet::WORDS;

@@ -6,7 +6,7 @@
 
 use crate::random::Random;
 use crate::report::{each_seed, Tally};
-use crate::subject::Subject;
+use crate::subject::{Subject, WORD_NODES};
 use crate::tree::{self, Tree};
 use crate::{calls, damage, lists, places};
 use matcher::raw::{MAX_FACE_NODES, SET_WORDS};
@@ -70,7 +70,7 @@ impl Large {
     /// What it is like.
     fn count(&self, tally: &mut Tally) {
         tally.count(format!("{} nodes", self.nodes));
-        let words: BTreeSet<usize> = self.copies.iter().map(|node| node / 64).collect();
+        let words: BTreeSet<usize> = self.copies.iter().map(|node| node / WORD_NODES).collect();
         for word in &words {
             tally.count(format!("copies in word {word}"));
         }
@@ -113,13 +113,14 @@ impl<'r> Maker<'r> {
     fn new(random: &'r mut Random, copy: Copy, nodes: usize) -> Maker<'r> {
         let mut wanted = BTreeSet::new();
         let last = nodes - copy(0).nodes();
-        for word in 0..nodes.div_ceil(64).min(SET_WORDS) {
-            let near = [64 * word, 64 * word + 1, 64 * word + 62, 64 * word + 63, last];
+        for word in 0..nodes.div_ceil(WORD_NODES).min(SET_WORDS) {
+            let (first, next) = (WORD_NODES * word, WORD_NODES * (word + 1));
+            let near = [first, first + 1, next - 2, next - 1, last];
             if !random.once_in(6) {
                 wanted.insert(last.min(*random.pick(&near)));
             }
             if random.once_in(4) {
-                wanted.insert(64 * word + random.below(64));
+                wanted.insert(first + random.below(WORD_NODES));
             }
         }
         Maker {

@@ -6,7 +6,7 @@ use crate::hex::hex;
 use crate::lists::MOST_ROWS;
 use crate::random::Random;
 use crate::report::{each_seed, same, Tally};
-use crate::subject::{named, place, with_front, words, Subject, Words, PAST, UNTOUCHED};
+use crate::subject::{named, place, with_front, words, Subject, Words, PAST, UNTOUCHED, WORD_NODES};
 use crate::tree;
 use matcher::raw::{END, FOUND, LARGEST_TEXT, OK, PLACE_WORDS, SET_WORDS};
 use second::{Problem, Row, Solution};
@@ -45,7 +45,7 @@ pub(crate) fn some_places(
 /// Changes some of the places: any bit, one of the first nodes of a function, a word, or two words of a set for each other.
 fn bend(random: &mut Random, place: &mut Words) {
     match random.below(8) {
-        0 => place[random.below(PLACE_WORDS)] ^= 1 << random.below(64),
+        0 => place[random.below(PLACE_WORDS)] ^= 1 << random.below(WORD_NODES),
         1 => place[SET_WORDS * random.below(4)] ^= 1 << random.between(52, 63),
         2 => place[random.below(PLACE_WORDS)] = random.word(),
         3 => {

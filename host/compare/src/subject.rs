@@ -49,12 +49,15 @@ pub const PAST: Words = {
 /// Words that no call should leave in a buffer that it fills.
 pub const UNTOUCHED: Words = [0xA5A5_A5A5_A5A5_A5A5; PLACE_WORDS];
 
+/// How many nodes a word has.
+pub const WORD_NODES: usize = u64::BITS as usize;
+
 /// The words of a row: node 64 i + j of a face is bit 63 - j of word i of its function's set.
 pub fn words(row: &Row) -> Words {
     let mut words = [0; PLACE_WORDS];
     for (set, choice) in words.chunks_exact_mut(SET_WORDS).zip(row) {
         for node in choice {
-            set[node / 64] |= 1 << (63 - node % 64);
+            set[node / WORD_NODES] |= 1 << (WORD_NODES - 1 - node % WORD_NODES);
         }
     }
     words
@@ -62,8 +65,8 @@ pub fn words(row: &Row) -> Words {
 
 /// The choice that the words of a set are.
 fn choice(set: &[u64]) -> Choice {
-    let has = |node: &usize| set[node / 64] >> (63 - node % 64) & 1 == 1;
-    (0..64 * set.len()).filter(has).collect()
+    let has = |node: &usize| set[node / WORD_NODES] >> (WORD_NODES - 1 - node % WORD_NODES) & 1 == 1;
+    (0..WORD_NODES * set.len()).filter(has).collect()
 }
 
 /// The words of a buffer with a place put at its front.

@@ -1,7 +1,6 @@
 -- `found_at` meets its contract.
 use mathlib.Core.Path.{refl}
 use native.Mathlib.Omega.{arith}
-use Prim.Native.Nat.{_-_}
 use borrow.Author.Needs.{needs}
 use Rattle.meaning.specs.Limits.{maxFunctions}
 use Rattle.rows.proofs.RowLaws.{moved, moving-choice, steps-none}

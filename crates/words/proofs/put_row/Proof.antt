@@ -6,7 +6,7 @@ use lib.ListN.{length, length-map}
 use Rattle.meaning.specs.Limits.{maxFunctions}
 use Rattle.masks.specs.Sets.{mask, masksIn, wordCount, wordsOf}
 use Rattle.masks.proofs.Words.{masks-at}
-use Rattle.words.specs.Words.{PutWords}
+use Rattle.words.specs.Storing.{PutWords}
 use Rattle.words.proofs.WordLaws.{Stored, stored-none, stored-more, stored-all}
 use borrow.Author.Needs.{needs}
 use Rattle.words.proofs.put_row.Statement.{statement}

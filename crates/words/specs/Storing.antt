@@ -1,0 +1,17 @@
+-- Rows stored in a buffer of words, wherever in it they stand.
+--   PutWords   so many words from one on are others, and the rest is as it was
+--   PutRow     ... and they are those of a row's sets
+use mathlib.Core.Path.{_≡_}
+use mathlib.Core.List.{List, _++_}
+use Prim.Native.Nat.{ℕ, _+_}
+use lib.ListN.{length, take, drop}
+use Rattle.meaning.specs.Basics.{each}
+use Rattle.masks.specs.Sets.{wordsOf}
+use Rattle.words.specs.Words.{rowWords}
+
+abbrev pub PutWords : ℕ → ℕ → List ℕ → List ℕ → List ℕ → Type 0
+PutWords start n words before after = after ≡ take start before ++ words ++ drop (start + n) before
+
+pub record PutRow (start : ℕ) (masks before after : List ℕ) : Type 0 where
+  pub long : length (each wordsOf masks) ≡ rowWords
+  pub put : PutWords start rowWords (each wordsOf masks) before after
