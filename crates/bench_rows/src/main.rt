@@ -34,8 +34,8 @@ fn count_from(es: &[u64], ns: &[u64], firsts: Firsts, first: [NodeSet; rows::MAX
     let mut n = 1u64;
     while n < MOST {
         let mut k = firsts.count;
-        let set = reached[last];
-        if set.is_empty() {
+        // As in `seeking::seek`.
+        if reached[last].is_empty() {
             k = stepping(firsts, reached);
             if k == 0 {
                 return n;

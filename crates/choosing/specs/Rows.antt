@@ -3,7 +3,7 @@
 --   mask row   a list of masks, one for each function; a function that is not there has one choice, the empty one
 --   firstAt    the first choice of a function
 --   maskRows   all of them in order: the first function slowest, each function's choices in the order of their paths
---   step       from one mask row to the next, or past the last
+--   Steps      what a step from one mask row leads to: the next, or none
 use mathlib.Core.Path.{_≡_}
 use mathlib.Core.Bool.{Bool, true, false}
 use mathlib.Core.List.{List, [], _∷_, _++_, map}
@@ -47,7 +47,7 @@ Next cs m x = behind cs m ≡ x ∷ behind cs x
 unfoldable pub maskRows : List ℕ → List ℕ → List ℕ → ℕ → List MaskRow
 maskRows ns es nodes count = product (map (choicesAt ns es nodes count) (upTo maxFunctions))
 
--- The answer of a step that leads to a place: whether there is a row, and the row; past the last it may be any.
+-- The answer of a step that leads to a place: whether there is a row, and the row; where there is none it may be any.
 pub record Leads (place : Place MaskRow) (more : Bool) (row : MaskRow) : Type 0 where
   pub goes : more ≡ true → place ≡ at row
   pub ends : more ≡ false → place ≡ past

@@ -61,7 +61,7 @@ pub record Moving (count : ℕ) (first row next : List NodeSet) (k : ℕ) : Type
   pub again : masksIn next ≡ begun count (masksIn first) k (masksIn row)
 
 -- What the code reads where there is no set
-abbrev nothing : NodeSet
+abbrev pub nothing : NodeSet
 nothing = record { w0 = 0; w1 = 0; w2 = 0; w3 = 0 }
 
 module _ (es ns : List ℕ) (firsts : Firsts) where
@@ -146,7 +146,8 @@ module _ (es ns : List ℕ) (firsts : Firsts) where
 
     -- The empty choice is a function's last
     last-choice : (j x : ℕ) → x ≡ 0 → behind (choicesOf es ns firsts j) x ≡ []
-    last-choice j x z = subst (λ (y : ℕ). behind (choicesOf es ns firsts j) y ≡ []) (sym z) (empty-last ns es (firsts .nodes) (firsts .count) (f .faces) j)
+    last-choice j x z =
+        subst (λ (y : ℕ). behind (choicesOf es ns firsts j) y ≡ []) (sym z) (empty-last ns es (firsts .nodes) (firsts .count) (f .faces) j)
 
     module _ (row : List NodeSet) (m : masksIn row ∈ rowsOf es ns firsts) where
       abbrev old : MaskRow
@@ -170,8 +171,8 @@ module _ (es ns : List ℕ) (firsts : Firsts) where
               let same : set old j (first j) ≡ old =
               ap (set old j) (first-absent ns es (firsts .nodes) (firsts .count) j h ∙ sym z) ∙ set-getD old j 0 in
               subst (λ (r : MaskRow). Carrying old r j) same
-              (carried-more (choicesAt ns es (firsts .nodes) (firsts .count)) first maxFunctions old old j g (go d (suc j) (omega arith) (omega arith))
-              (last-choice j (getD old j 0) z))
+              (carried-more (choicesAt ns es (firsts .nodes) (firsts .count)) first maxFunctions old old j g
+              (go d (suc j) (omega arith) (omega arith)) (last-choice j (getD old j 0) z))
 
       passing-there : Passing row (firsts .count)
       unfolding begunFrom
@@ -213,7 +214,7 @@ module _ (es ns : List ℕ) (firsts : Firsts) where
           (steps-on ns es (firsts .nodes) (firsts .count) (f .faces) (masksIn row) next j (mask s) few (w (masksIn first) e)
           (subst (λ (x : ℕ). Next (choicesOf es ns firsts j) x (mask s)) (still (masksIn first) e) n))
 
-    -- The functions from the one after that steps on have had their last choices
+    -- The functions after the one that steps have had their last choices
     passing-here : (row : List NodeSet) → masksIn row ∈ rowsOf es ns firsts → (k : ℕ) → StepsAt (firsts .count) (masksIn row) k → Passing row k
     passing-here row m k h = go (firsts .count - k) k (omega (arith, h .few)) (omega arith)
       where

@@ -82,8 +82,8 @@ pub fn first_row(es: &[u64], ns: &[u64], firsts: Firsts) -> [NodeSet; MAX_FUNCTI
     row
 }
 
-// How many functions there are up to the one that steps, which is the last with a choice left; 0 from the last row. The steps that follow are
-// `begin_again` for the later functions and `next_of` for that one: who goes from row to row keeps one array and writes them into it, since a
+// How many functions there are up to the one that steps, which is the last with a choice left; 0 at the last row. What is then to do is
+// `begin_again` for the later functions and `next_of` for that one: who goes from row to row keeps one array and writes that into it, since a
 // row is 256 bytes and a step changes few of them.
 pub fn stepping(firsts: Firsts, row: [NodeSet; MAX_FUNCTIONS]) -> usize
     requires { ⌜ firsts .count ≤ maxFunctions ⌝ }
@@ -100,7 +100,7 @@ pub fn stepping(firsts: Firsts, row: [NodeSet; MAX_FUNCTIONS]) -> usize
     0
 }
 
-// The function that steps most often: the last, or where there is none number 0, which has an empty set.
+// The last function, which steps most often; where there is none, number 0, whose set is empty.
 pub fn last_function(firsts: Firsts) -> usize
     ensures { λ r. ⌜ r ≡ firsts .count - 1 ⌝ }
 {

@@ -90,21 +90,19 @@ pub fn seek(
     requires { ⌜ Seekable (now ps) (now es) (now ns) (now fs) fixed (masksIn row) (now scratch) ⌝ }
     ensures { λ r. ⌜ Seeks (now (ps .entry)) (now (es .entry)) (now (ns .entry)) (now (fs .entry)) fixed (masksIn row) n r ⌝ }
 {
-    let functions = fixed.functions;
     let firsts = fixed.firsts;
     let first = fixed.first;
     let last = last_function(firsts);
     let mut at = row;
     let mut left = n;
     while 0 < left {
-        let judged = judge(ps, es, ns, fs, functions, firsts, at, scratch);
+        let judged = judge(ps, es, ns, fs, fixed.functions, firsts, at, scratch);
         if judged.solves {
             return found_at(es, ns, fixed, at);
         }
         let mut k = firsts.count;
-        // Most steps are the last function's, and need no look at the others.
-        let set = at[last];
-        if set.is_empty() {
+        // Most steps are the last function's: then no row is handed over, which would copy it.
+        if at[last].is_empty() {
             k = stepping(firsts, at);
             if k == 0 {
                 return ended();

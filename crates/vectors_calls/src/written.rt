@@ -22,7 +22,8 @@ const SET_BYTES: usize = NodeSet::WORDS * WORD_BYTES;
 // The byte that says whether the place is past the last, after those of the sets.
 const PAST: usize = Place::MAX_FUNCTIONS * SET_BYTES;
 
-const ASKED: usize = PAST + 3;
+// With that byte, and 2 of the buffer's length.
+const ASKED: usize = PAST + 1 + 2;
 
 const ROOM: usize = 8192;
 

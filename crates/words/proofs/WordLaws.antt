@@ -1,4 +1,4 @@
--- The laws of places in words.
+-- The laws of rows and places in words.
 --   nowhere-named   the value that stands for words which are no place names no place of any problem
 --   placed-back     the place that was put at the front of words is read back
 use mathlib.Core.Path.{_≡_, refl, ap, ap₂, sym, _∙_, subst}

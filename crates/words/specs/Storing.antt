@@ -1,6 +1,6 @@
 -- Rows stored in a buffer of words, wherever in it they stand.
---   PutWords   so many words from one on are others, and the rest is as it was
---   PutRow     ... and they are those of a row's sets
+--   PutWords   n words from word `start` on are these, and all others are as they were
+--   PutRow     these are the words of a row's sets
 use mathlib.Core.Path.{_≡_}
 use mathlib.Core.List.{List, _++_}
 use Prim.Native.Nat.{ℕ, _+_}

@@ -1,5 +1,5 @@
-// A place in words: those of each function's node set, then 0 for a row or 1 for past the last. Any words may be handed in: a place stands at
-// their front.
+// Rows and places in words. A row's are those of each function's node set; a place's are these, then 0 for a row or 1 for past the last. Any
+// words may be handed in: a place stands at their front.
 use masks::NodeSet;
 use places::Place;
 ghost use mathlib.Core.Path.{_≡_};

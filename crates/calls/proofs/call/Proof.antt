@@ -40,7 +40,9 @@ returns : tie.Need-returns
 unfolding maxFunctions
 returns c =
     let told = c .before .before .before .before in
-    call-found _ (told .before .before .before .before .before .before .before .before .args .at) _ _ _ (told .before .before .before .before .search .ensures) _ refl _ (told .enum-told .given .1)
+    let searched = told .before .before .before .before in
+    let at = searched .before .before .before .before .args .at in
+    call-found _ at _ _ _ (searched .search .ensures) _ refl _ (told .enum-told .given .1)
     (c .before .before .put-row .ensures) refl refl
 
 returns-2 : tie.Need-returns-2
