@@ -14,10 +14,16 @@ ghost use Rattle.meaning.specs.Basics.{_∈_};
 ghost use Rattle.meaning.specs.Search.{at, placeOf};
 ghost use Rattle.masks.specs.Sets.{mask, masksIn};
 ghost use Rattle.choosing.specs.Rows.{Next, firstAt};
-ghost use Rattle.rows.specs.Rows.{Faced, choicesOf, rowsOf, StepsAt, begun};
+ghost use Rattle.rows.specs.Rows.{Faced, choicesOf, rowsOf, StepsAt, StepsFrom, begun};
 
 // How many functions a row has sets for.
 pub const MAX_FUNCTIONS: usize = metavariables::MAX_FUNCTIONS;
+
+// Whether there is a row after another, and that row; where there is none it means nothing.
+pub struct Stepped {
+    pub row: [NodeSet; MAX_FUNCTIONS],
+    pub more: bool,
+}
 
 // Whether the set, whatever it is, is a choice of function k. One that is not there has the empty choice.
 fn is_choice_of(es: &[u64], ns: &[u64], firsts: Firsts, k: usize, set: NodeSet) -> bool
@@ -83,8 +89,8 @@ pub fn first_row(es: &[u64], ns: &[u64], firsts: Firsts) -> [NodeSet; MAX_FUNCTI
 }
 
 // How many functions there are up to the one that steps, which is the last with a choice left; 0 at the last row. What is then to do is
-// `begin_again` for the later functions and `next_of` for that one: who goes from row to row keeps one array and writes that into it, since a
-// row is 256 bytes and a step changes few of them.
+// `begin_again` for the later functions and `next_of` for that one (`next_row`): who goes through many rows keeps one array and writes that
+// into it, since a row is 256 bytes and a step changes few of them.
 pub fn stepping(firsts: Firsts, row: [NodeSet; MAX_FUNCTIONS]) -> usize
     requires { ⌜ firsts .count ≤ maxFunctions ⌝ }
     ensures { λ r. ⌜ StepsAt (firsts .count) (masksIn row) r ⌝ }
@@ -129,4 +135,32 @@ pub fn begin_again(
         next[j] = first[j];
     }
     next
+}
+
+// The row after `row`, if there is one.
+pub fn next_row(
+    es: &[u64],
+    ns: &[u64],
+    firsts: Firsts,
+    first: [NodeSet; MAX_FUNCTIONS],
+    row: [NodeSet; MAX_FUNCTIONS],
+) -> Stepped
+    requires { ⌜ Faced (now es) (now ns) firsts ⌝ ∗ ⌜ masksIn row ∈ rowsOf (now es) (now ns) firsts ⌝
+        ∗ ⌜ placeOf (rowsOf (now es) (now ns) firsts) ≡ at (masksIn first) ⌝ }
+    ensures { λ r. ⌜ StepsFrom (now (es .entry)) (now (ns .entry)) firsts (masksIn row) (r .more) (masksIn (r .row)) ⌝ }
+{
+    let k = stepping(firsts, row);
+    if k == 0 {
+        return Stepped {
+            row: row,
+            more: false,
+        };
+    }
+    let mut next = begin_again(firsts, first, k, row);
+    let set = next[k - 1];
+    next[k - 1] = next_of(es, ns, firsts, k - 1, set);
+    Stepped {
+        row: next,
+        more: true,
+    }
 }

@@ -158,20 +158,25 @@ module _ (ps es ns fs : List ℕ) (fixed : Fixed) (row : MaskRow) where
         }
 
 -- The answers of `found_at`, by where the step from the row leads
-module _ (es ns : List ℕ) (fixed : Fixed) (row : MaskRow) (r : Searched) (answer : r .answer ≡ answers.Found) (here : masksIn (r .row) ≡ row) where
-  pub passed-more : (next : List NodeSet) → StepsFrom es ns (fixed .firsts) row true (masksIn next) → AtRow next (r .place)
-      → Passed es ns fixed row r
-  passed-more next steps place = record {
+module _ (es ns : List ℕ) (fixed : Fixed) (row : MaskRow) (more : Bool) (next : List NodeSet)
+    (steps : StepsFrom es ns (fixed .firsts) row more (masksIn next)) (r : Searched) (answer : r .answer ≡ answers.Found)
+    (here : masksIn (r .row) ≡ row) where
+  pub passed-more : more ≡ true → AtRow next (r .place) → Passed es ns fixed row r
+  passed-more m place = record {
     answer = answer;
     here = here;
-    after = subst₂ (StepsFrom es ns (fixed .firsts) row) (sym (ap not (place .here))) (sym (ap masksIn (place .sets))) steps;
+    after = subst₂ (StepsFrom es ns (fixed .firsts) row) (m ∙ sym (ap not (place .here))) (sym (ap masksIn (place .sets))) steps;
     clean = λ q. absurd (true≢false (sym q ∙ place .here));
   }
 
-  pub passed-last : StepsFrom es ns (fixed .firsts) row false (masksIn (r .place .sets)) → AtPast (r .place) → Passed es ns fixed row r
-  passed-last steps place = record {
+  pub passed-last : more ≡ false → AtPast (r .place) → Passed es ns fixed row r
+  unfolding StepsFrom Steps
+  passed-last m place = record {
     answer = answer;
     here = here;
-    after = subst (λ (more : Bool). StepsFrom es ns (fixed .firsts) row more (masksIn (r .place .sets))) (sym (ap not (place .past))) steps;
+    after = λ before later e. record {
+      goes = λ q. absurd (true≢false (sym q ∙ ap not (place .past)));
+      ends = λ q. steps before later e .ends m;
+    };
     clean = λ q. place .masks;
   }

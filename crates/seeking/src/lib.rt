@@ -6,6 +6,7 @@ use places::Place;
 use rows::begin_again;
 use rows::last_function;
 use rows::next_of;
+use rows::next_row;
 use rows::stepping;
 ghost use Prim.Native.Nat.{_<_};
 ghost use Rattle.masks.specs.Sets.{masksIn};
@@ -40,11 +41,9 @@ fn found_at(es: &[u64], ns: &[u64], fixed: Fixed, row: [NodeSet; Place::MAX_FUNC
 {
     let firsts = fixed.firsts;
     let first = fixed.first;
-    let k = stepping(firsts, row);
-    let place = if 0 < k {
-        let mut next = begin_again(firsts, first, k, row);
-        let set = next[k - 1];
-        next[k - 1] = next_of(es, ns, firsts, k - 1, set);
+    let stepped = next_row(es, ns, firsts, first, row);
+    let next = stepped.row;
+    let place = if stepped.more {
         Place::at(next)
     } else {
         Place::past_last()
