@@ -2,3 +2,4 @@
 pub mod Fixed
 pub mod Copied
 pub mod Measure
+pub mod Answered

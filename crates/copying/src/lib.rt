@@ -20,6 +20,12 @@ ghost use Rattle.copying.specs.Measure.{Measurable, TermMeasured, BodyMe
 // "hole, length 0"
 const HOLE: u8 = 10;
 
+// What the writer of a text or a problem answers: how many bytes it wrote, or the refusal by its number.
+pub enum Written {
+    Wrote(usize),
+    Refused(u8),
+}
+
 // A field's head, before the content that stands there already.
 pub fn write_head(tag: u8, length: usize, out: &mut [u8])
     requires { ⌜ HeadRoom length (now out) ⌝ }

@@ -24,6 +24,7 @@ use Rattle.meaning.specs.Textbook.{CompleteByTotals, EitherOf, ElementOf, Expre
 use Rattle.meaning.specs.Textbook.{Robust, Textbook, TypeConsistent, leftOut}
 use Rattle.meaning.specs.Case.{Case, oneSymbol}
 use Rattle.meaning.specs.Starred.{Starred, hex, textbookExamples}
+use Rattle.meaning.proofs.Proper.{accepted-proper}
 use Rattle.meaning.proofs.Lists.{all-mem, every-all, keep-mem, map-same, mem-all, never, true-T}
 use Rattle.meaning.proofs.ProblemReading.{accept-accepted}
 use Rattle.meaning.proofs.FullListLaws.{full-list-is}
@@ -50,7 +51,7 @@ case-textbook : (c : Case) → Accepted (c .problem) → Holds c → Textbook (c
 unfolding fullList solutionRows
 case-textbook c a (count, written) =
     subst (Textbook (c .problem)) (same ∙ ap (map (λ (is : List Item). leftOut (said is))) written)
-    (textbook (c .problem) a (fullList (c .problem)) (full-list-is (c .problem) a))
+    (textbook (c .problem) a (fullList (c .problem)) (full-list-is (c .problem) (accepted-proper (c .problem) a)))
   where
     p : Problem
     p = c .problem

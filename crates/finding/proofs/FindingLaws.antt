@@ -27,9 +27,10 @@ use Rattle.seeking.specs.declared.Answer.the-variants as answers
 use Rattle.seeking.proofs.Answer.{the-type}
 use Rattle.seeking.specs.declared.Searched.{Searched}
 use Rattle.search.specs.Calling.{Answers, hostReply, replyWith, rowValue}
-use Rattle.writing.specs.Writing.{Writes, answerOf}
-use Rattle.writing.specs.declared.write.Written.{Written}
-use Rattle.writing.specs.declared.write.Written.the-variants as written
+use Rattle.copying.specs.Answered.{answerOf}
+use Rattle.copying.specs.declared.Written.{Written}
+use Rattle.copying.specs.declared.Written.the-variants as written
+use Rattle.writing.specs.Writing.{Writes}
 use Rattle.finding.specs.Finding.{Finds}
 
 -- Of any calls

@@ -1,9 +1,9 @@
 // A search call that hands over the text of what it finds: the row of a Found, written at once into a buffer that is always enough.
+use copying::Written;
 use places::Place;
 use search::call::search;
 use seeking::Answer;
 use seeking::Searched;
-use writing::write::Written;
 use writing::write::write;
 ghost use Prim.Native.Nat.{_≤_};
 ghost use lib.ListN.{length};

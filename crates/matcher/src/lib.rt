@@ -3,6 +3,8 @@
 // handed in.
 pub use checking::Checked;
 pub use checking::check;
+pub use copying::Written;
+pub use longest::write_longest;
 pub use masks::NodeSet;
 pub use places::Place;
 pub use places::Start;
@@ -10,7 +12,6 @@ pub use places::Started;
 pub use search::call::search;
 pub use seeking::Answer;
 pub use seeking::Searched;
-pub use writing::write::Written;
 pub use writing::write::write;
 ghost use Rattle.matcher.specs.Opened.{OpenAt, OpenAnswers};
 

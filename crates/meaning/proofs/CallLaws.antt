@@ -23,6 +23,7 @@ use Rattle.meaning.specs.PlaceValue.{PlaceValue, placeValue, Names}
 use Rattle.meaning.specs.Entry.{HostReply, replyValue, SearchOn, SearchCall, onAccepted}
 use Rattle.meaning.specs.Calls.{Call, left, Run, KeptCall, Kept, callsOf, HostCall, Carried, Held, foundIn, founds, HasEnd, allowed}
 use Rattle.meaning.specs.Calls.{positive, givenRow, ThirdDemandOf}
+use Rattle.meaning.proofs.Proper.{accepted-proper}
 use Rattle.meaning.proofs.Lists.{never, T-true, not-T, choose-true, choose-false}
 use Rattle.meaning.proofs.PlaceLaws.{from-place}
 use Rattle.meaning.proofs.ProblemReading.{accept-accepted}
@@ -165,7 +166,7 @@ module _ (p : Problem) (accepted : Accepted p) where
       → Keeps (SolutionRow p) n from reply → Keeps (λ r. solves p r ≡ true) n from reply
   tested before from w k =
       keeps-same
-      (λ r m. let right = solves-is-right p r accepted (subst (λ (rs : List Row). r ∈ rs) (sym w) (Memᴰ·append-right before m)) in
+      (λ r m. let right = solves-is-right p r (accepted-proper p accepted) (subst (λ (rs : List Row). r ∈ rs) (sym w) (Memᴰ·append-right before m)) in
       (right .1, right .0))
       k
 
@@ -212,7 +213,7 @@ accepted-third-demand p cs a r =
       rows = rows p;
       areRows = all-rows p;
       full = fullList p;
-      isFull = full-list-is p a;
+      isFull = full-list-is p (accepted-proper p a);
       prefix =
           o .prefix ∙ ap (take (length (founds cs))) (sym (full-rows p)) ∙ sym (map-take givenRow (length (founds cs)) (fullList p));
       whole = λ h. o .whole h ∙ sym (full-rows p);

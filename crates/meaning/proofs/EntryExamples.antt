@@ -29,6 +29,7 @@ use Rattle.meaning.specs.Program.{Lines, Output, allowance, ascii, decim
 use Rattle.meaning.specs.Program.{solution}
 use Rattle.meaning.specs.Case.{oneSymbol, onlyBound}
 use Rattle.meaning.specs.Starred.{hex}
+use Rattle.meaning.proofs.Proper.{accepted-proper}
 use Rattle.meaning.proofs.Lists.{all-mem, every-all, mem-all, true-T}
 use Rattle.meaning.proofs.ChoiceLaws.{rows-are}
 use Rattle.meaning.proofs.ProblemReading.{accept-accepted}
@@ -80,7 +81,7 @@ by-bytes s t =
 
 module _ (s : Bytes) (p : Problem) (isBytes : every (λ b. ltb b 256) s ≡ true) (e : accept s ≡ got p) (r : Row) (m : r ∈ rows p) where
   right : (solves p r ≡ true) ↔ SolutionRow p r
-  right = solves-is-right p r (accept-accepted s p (by-bytes s isBytes) e .0) m
+  right = solves-is-right p r (accepted-proper p (accept-accepted s p (by-bytes s isBytes) e .0)) m
 
   is-solution : solves p r ≡ true → SolutionRow p r
   is-solution = right .0

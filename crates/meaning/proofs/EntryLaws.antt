@@ -24,6 +24,7 @@ use Rattle.meaning.specs.PlaceValue.{PlaceValue, Names}
 use Rattle.meaning.specs.Entry.{rowText, WriteOn, WriteCall, onAccepted, noSuchRow, noSolutionRow, tooShort, writes}
 use Rattle.meaning.specs.Entry.{checkOn, checkCall}
 use Rattle.meaning.specs.Given.{namedBy}
+use Rattle.meaning.proofs.Proper.{accepted-proper}
 use Rattle.meaning.proofs.ByteLaws.{by-got, got-is, refused-not}
 use Rattle.meaning.proofs.ChoiceLaws.{rows-are}
 use Rattle.meaning.proofs.ProblemReading.{accept-accepted}
@@ -59,7 +60,7 @@ row-text-passes : (s : Bytes) (p : Problem) (r : Row) → All Byte s → accept 
 row-text-passes s p r b e i x =
     let a : Accepted p = accept-accepted s p b e .0 in
     let m : r ∈ rows p = rows-are p r .1 i in
-    let h : solves p r ≡ true = solves-is-right p r a m .1 x in
+    let h : solves p r ≡ true = solves-is-right p r (accepted-proper p a) m .1 x in
     check-is-right s (rowText p r) p (textOf p r) e (text-read-back p r a m h) .1 (text-passes p r a m h)
 
 pub written-passes : (s : Bytes) (v : PlaceValue) (buffer after : Bytes) (n : ℕ)
@@ -110,7 +111,7 @@ passing-written s text b y =
       row = w .row;
       accepted = e;
       isRow = rows-are p (w .row) .0 (w .isRow);
-      isSolutionRow = solves-is-right p (w .row) a (w .isRow) .0 (w .isSolutionRow);
+      isSolutionRow = solves-is-right p (w .row) (accepted-proper p a) (w .isRow) .0 (w .isSolutionRow);
       names = text-names (rowText p (w .row)) back ∙ ap got (w .says) ∙ sym (text-names text f);
     }
 

@@ -10,11 +10,11 @@ use Rattle.meaning.specs.Row.{AreRows, EarlierRow, Row}
 use Rattle.meaning.specs.Rows.{rows}
 use Rattle.meaning.specs.FullList.{EarlierListed, IsFullList, Listed}
 use Rattle.meaning.specs.Candidate.{candidate, fullList, solutionRows, solves}
-use Rattle.meaning.specs.Readable.{Accepted}
 use Rattle.meaning.proofs.Lists.{map-mem, mem-map}
 use Rattle.meaning.proofs.OrderLaws.{row-asymmetric}
 use Rattle.meaning.proofs.Ordered.{earlierRow-strict, keep-ordered, ordered-unique}
 use Rattle.meaning.proofs.ChoiceLaws.{rows-are, rows-ordered}
+use Rattle.meaning.proofs.Proper.{Proper}
 use Rattle.meaning.proofs.Solutions.{listed-once, listed-solution, row-listed, solution-listed}
 
 map-ordered : {A B : Type 0} (R : A → A → Type 0) (S : B → B → Type 0) (f : A → B) → ((x y : A) → R x y → S (f x) (f y)) → (xs : List A)
@@ -34,13 +34,13 @@ listed-ordered p =
     map-ordered EarlierRow EarlierListed (λ (r : Row). (r, candidate p r)) (λ x y h. h) _
     (keep-ordered EarlierRow (solves p) (rows p) (rows-ordered p))
 
-module _ (p : Problem) (a : Accepted p) where
+module _ (p : Problem) (c : Proper p) where
   pub full-list-is : IsFullList p (fullList p)
   full-list-is = record {
     ordered = listed-ordered p;
     members = λ r σ. (
-      λ m. let x = listed-solution p r σ a m in (rows-are p r .0 (x .0), x .1, x .2),
-      λ x. row-listed p r σ a (rows-are p r .1 (x .0)) (x .1) (x .2),
+      λ m. let x = listed-solution p r σ c m in (rows-are p r .0 (x .0), x .1, x .2),
+      λ x. row-listed p r σ c (rows-are p r .1 (x .0)) (x .1) (x .2),
     );
   }
 
@@ -53,12 +53,12 @@ module _ (p : Problem) (a : Accepted p) where
     -- every solution
     pub full-list-every : (σ : Filling) → Solution p σ → σ ∈ map (λ (x : Listed). x .1) full
     full-list-every σ s =
-        let (r, m) = solution-listed p σ a s in
+        let (r, m) = solution-listed p σ c s in
         mem-map (λ (x : Listed). x .1) (subst (λ (l : List Listed). (r, σ) ∈ l) (sym full-list-only) m)
 
     -- each once: fillings are equal where they differ only in bound names
     pub full-list-once : Distinct (map (λ (x : Listed). x .1) full)
-    full-list-once = once full (isFull .ordered) (λ r r′ σ i j. listed-once p r r′ σ a (there i) (there j))
+    full-list-once = once full (isFull .ordered) (λ r r′ σ i j. listed-once p r r′ σ c (there i) (there j))
       where
         there : {x : Listed} → x ∈ full → x ∈ fullList p
         there {x} m = subst (λ (l : List Listed). x ∈ l) full-list-only m

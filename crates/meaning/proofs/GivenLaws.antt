@@ -21,6 +21,7 @@ use Rattle.meaning.specs.PlaceValue.{Names, PlaceValue}
 use Rattle.meaning.specs.Entry.{WriteOn, rowText}
 use Rattle.meaning.specs.Calls.{givenRow}
 use Rattle.meaning.specs.Given.{TextOf, TextsGiven, namedBy}
+use Rattle.meaning.proofs.Proper.{accepted-proper}
 use Rattle.meaning.proofs.Lists.{map-mem}
 use Rattle.meaning.proofs.ChoiceLaws.{rows-are}
 use Rattle.meaning.proofs.Solutions.{row-solution-unique, solves-is-right}
@@ -41,7 +42,7 @@ module _ (p : Problem) (accepted : Accepted p) (r : Row) (σ : Filling) (isRow :
   solved = (σ, solution, bodies)
 
   tested : solves p r ≡ true
-  tested = solves-is-right p r accepted in-rows .1 solved
+  tested = solves-is-right p r (accepted-proper p accepted) in-rows .1 solved
 
   named : Names p (givenRow (r, σ)) (at r)
   named = record { isPlace = isRow; isValue = refl }
@@ -50,7 +51,7 @@ module _ (p : Problem) (accepted : Accepted p) (r : Row) (σ : Filling) (isRow :
   pub text-named : namedBy (rowText p r) ≡ got σ
   text-named =
       text-names (rowText p r) (text-read-back p r accepted in-rows tested)
-      ∙ ap got (text-says p r accepted tested ∙ sym (fun-ext (row-solution-unique p r σ accepted solution bodies)))
+      ∙ ap got (text-says p r accepted tested ∙ sym (fun-ext (row-solution-unique p r σ (accepted-proper p accepted) solution bodies)))
 
   row-written : (before after : Bytes) (a : Answer ℕ) → largestWritten ≤ length before → WriteOn p (givenRow (r, σ)) before a after
       → (n : ℕ) × (a ≡ got n)

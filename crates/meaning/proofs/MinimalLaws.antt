@@ -244,7 +244,7 @@ module _ (E : Language) (robust : Robust E) (p : Problem) (a : Accepted p) where
 
 -- NO TWO SOLUTIONS BECOME ONE
 pub left-out-once : (p : Problem) (σ τ : Filling) → Accepted p → Solution p σ → Solution p τ → leftOut σ ≡ leftOut τ → σ ≡ τ
-left-out-once p σ τ a s t e = fun-ext (solutions-unique p σ τ a s t (λ f q. same f (functions-applied p f q)))
+left-out-once p σ τ a s t e = fun-ext (solutions-unique p σ τ (accepted-proper p a) s t (λ f q. same f (functions-applied p f q)))
   where
     same : (f : ℕ) → f ∈ applied (patterns p) → σ f ≡ τ f
     same f q =

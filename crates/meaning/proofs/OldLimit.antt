@@ -33,6 +33,7 @@ use Rattle.meaning.specs.Read.{Answer, after, got, readProblem, refused}
 use Rattle.meaning.specs.Accept.{accept, checkProblem, overlarge}
 use Rattle.meaning.specs.Readable.{Accepted, WithinLimits}
 use Rattle.meaning.specs.PlaceValue.{bit, maskOf, masksOf}
+use Rattle.meaning.proofs.Proper.{accepted-proper}
 use Rattle.meaning.proofs.Lists.{T-true, all-every, by-test, choose-false, choose-true, mem-all}
 use Rattle.meaning.proofs.ChoiceLaws.{rows-are}
 use Rattle.meaning.proofs.FullListLaws.{all-rows, full-list-is}
@@ -192,4 +193,4 @@ module _ (p : Problem) (a : OldAccepted p) where
   pub same-as-before : SameAsBefore p
   same-as-before =
       let now : Accepted p = record { within = a .within; checked = limit-raised oldLimit maxFaceNodes p raised (a .checked) } in
-      record { accepted = now; theRows = all-rows p; theList = full-list-is p now; masks = masks-are; order = order-stays }
+      record { accepted = now; theRows = all-rows p; theList = full-list-is p (accepted-proper p now); masks = masks-are; order = order-stays }

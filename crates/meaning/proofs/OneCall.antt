@@ -18,6 +18,7 @@ use Rattle.meaning.specs.Accept.{accept}
 use Rattle.meaning.specs.Search.{Place, at, past, placeOf, Reply, found, end, paused, refusedCall, Keeps, finds, ends, pauses, From}
 use Rattle.meaning.specs.PlaceValue.{PlaceValue, Names, placeValue}
 use Rattle.meaning.specs.Entry.{HostReply, replyValue, SearchOn, SearchCall, notAccepted, onAccepted, noAllowance, noSuchPlace, searches}
+use Rattle.meaning.proofs.Proper.{accepted-proper}
 use Rattle.meaning.proofs.Lists.{never, all-mem, mem-all}
 use Rattle.meaning.proofs.ByteLaws.{got-is, refused-not}
 use Rattle.meaning.proofs.ProblemReading.{accept-accepted}
@@ -132,7 +133,7 @@ some-kept : (p : Problem) → Accepted p → (before from : List Row) → rows p
 some-kept p a before from e n =
     some-keeps (SolutionRow p) n from
     (mem-all (λ r. Dec (SolutionRow p r)) from
-    (λ r m. solution-row-told p r a (subst (λ (rs : List Row). r ∈ rs) (sym e) (Memᴰ·append-right before m))))
+    (λ r m. solution-row-told p r (accepted-proper p a) (subst (λ (rs : List Row). r ∈ rs) (sym e) (Memᴰ·append-right before m))))
 
 -- A call on an accepted problem: what it answers, by what it is given
 module _ (p : Problem) (v : PlaceValue) (n : ℕ) where

@@ -22,7 +22,7 @@ use Rattle.meaning.specs.Readable.{Accepted}
 use Rattle.meaning.specs.Given.{namedBy}
 use Rattle.meaning.proofs.Lists.{keep-length}
 use Rattle.meaning.proofs.ChoiceLaws.{rows-are}
-use Rattle.meaning.proofs.Proper.{accepted-proper}
+use Rattle.meaning.proofs.Proper.{Proper, accepted-proper}
 use Rattle.meaning.proofs.Solutions.{row-solution-unique, solution-complete, solves-is-right, candidate-solution, OnlyRow}
 use Rattle.meaning.proofs.TextReading.{read-text}
 use Rattle.meaning.proofs.TextLaws.{text-says, text-ascends, text-readable}
@@ -71,7 +71,8 @@ pub record Written (p : Problem) (σ : Filling) : Type 0 where
 
 pub solution-written : (p : Problem) (σ : Filling) → Accepted p → Solution p σ → Written p σ
 solution-written p σ a s =
-    let o : OnlyRow p σ = solution-complete p σ a s in
-    let e : solves p (o .row) ≡ true = solves-is-right p (o .row) a (o .isRow) .1 (σ, s, o .hasBodies) in
-    let unique : σ ≡ candidate p (o .row) = fun-ext (row-solution-unique p (o .row) σ a s (o .hasBodies)) in
+    let c : Proper p = accepted-proper p a in
+    let o : OnlyRow p σ = solution-complete p σ c s in
+    let e : solves p (o .row) ≡ true = solves-is-right p (o .row) c (o .isRow) .1 (σ, s, o .hasBodies) in
+    let unique : σ ≡ candidate p (o .row) = fun-ext (row-solution-unique p (o .row) σ c s (o .hasBodies)) in
     record { row = o .row; isRow = o .isRow; isSolutionRow = e; says = text-says p (o .row) a e ∙ sym unique }

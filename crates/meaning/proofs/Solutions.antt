@@ -23,14 +23,13 @@ use Rattle.meaning.specs.Row.{Row, faceOf, IsRow, choiceIn, rowBody, Has
 use Rattle.meaning.specs.Rows.{rows}
 use Rattle.meaning.specs.Value.{Source, sources, lookup}
 use Rattle.meaning.specs.Candidate.{given, candidate, isClosedEntry, solves, solutionRows, fullList}
-use Rattle.meaning.specs.Readable.{Accepted}
 use Rattle.meaning.proofs.Lists.{never, T-true, true-T, and-T, T-and, by-test, mem-map, map-mem, mem-keep, keep-mem}
 use Rattle.meaning.proofs.Lists.{all-mem, mem-all, every-all, all-every}
 use Rattle.meaning.proofs.OneWay.{one-way-means, walk-faces}
 use Rattle.meaning.proofs.ShiftLaws.{test-closed, closed-test}
 use Rattle.meaning.proofs.Alike.{sameTerms-eq, sameTerms-refl}
 use Rattle.meaning.proofs.ChoiceLaws.{rows-are}
-use Rattle.meaning.proofs.Proper.{Proper, accepted-proper, by-role, applied-functions, functions-applied, applied-occurs, plain-occurs}
+use Rattle.meaning.proofs.Proper.{Proper, by-role, applied-functions, functions-applied, applied-occurs, plain-occurs}
 use Rattle.meaning.proofs.Sources.{Walked, walked}
 use Rattle.meaning.proofs.Candidate.{Fitting, candidate-function, candidate-plain, candidate-other, fitting-source, fitting-idle}
 use Rattle.meaning.proofs.Candidate.{lookup-cases, solution-candidate}
@@ -167,16 +166,16 @@ candidate-solution p r c i e = record {
 -- THE MAIN THEOREMS
 
 -- UNIQUE: "that solution is then the only one, up to bound names"
-pub row-solution-unique : (p : Problem) (r : Row) (σ : Filling) → Accepted p → Solution p σ → HasBodies p r σ → (m : ℕ)
+pub row-solution-unique : (p : Problem) (r : Row) (σ : Filling) → Proper p → Solution p σ → HasBodies p r σ → (m : ℕ)
     → σ m ≡ candidate p r m
-row-solution-unique p r σ a s h = solution-candidate p r σ (accepted-proper p a) s h
+row-solution-unique p r σ c s h = solution-candidate p r σ c s h
 
 -- Two solutions with the same bodies are equal
-pub solutions-unique : (p : Problem) (σ τ : Filling) → Accepted p → Solution p σ → Solution p τ → ((f : ℕ) → f ∈ functions p → σ f ≡ τ f)
+pub solutions-unique : (p : Problem) (σ τ : Filling) → Proper p → Solution p σ → Solution p τ → ((f : ℕ) → f ∈ functions p → σ f ≡ τ f)
     → (m : ℕ) → σ m ≡ τ m
-solutions-unique p σ τ a s t h m =
-    let r = row-exists p σ (accepted-proper p a) s in
-    row-solution-unique p (r .0) σ a s (r .2) m ∙ sym (row-solution-unique p (r .0) τ a t (λ f q. sym (h f q) ∙ r .2 f q) m)
+solutions-unique p σ τ c s t h m =
+    let r = row-exists p σ c s in
+    row-solution-unique p (r .0) σ c s (r .2) m ∙ sym (row-solution-unique p (r .0) τ c t (λ f q. sym (h f q) ∙ r .2 f q) m)
 
 -- COMPLETE: every solution's bodies are those of exactly one row
 pub record OnlyRow (p : Problem) (σ : Filling) : Type 0 where
@@ -185,9 +184,8 @@ pub record OnlyRow (p : Problem) (σ : Filling) : Type 0 where
   pub hasBodies : HasBodies p row σ
   pub only : (r : Row) → r ∈ rows p → HasBodies p r σ → r ≡ row
 
-pub solution-complete : (p : Problem) (σ : Filling) → Accepted p → Solution p σ → OnlyRow p σ
-solution-complete p σ a s =
-    let c : Proper p = accepted-proper p a in
+pub solution-complete : (p : Problem) (σ : Filling) → Proper p → Solution p σ → OnlyRow p σ
+solution-complete p σ c s =
     let r = row-exists p σ c s in
     record { row = r .0; isRow = r .1; hasBodies = r .2; only = λ q i h. row-only p σ c s q (r .0) i (r .1) h (r .2) }
 
@@ -203,36 +201,33 @@ solution-closed p σ s m = by-role p m as-function (λ q. as-other (s .values m 
     as-other (inr t) = ap isClosedEntry (t .1) ∙ T-true (closed-test 0 (one (t .0)) (t .3))
 
 -- The test of a row is right: it passes exactly the solution rows
-pub solves-is-right : (p : Problem) (r : Row) → Accepted p → r ∈ rows p → (solves p r ≡ true) ↔ SolutionRow p r
-solves-is-right p r a i = (forth, back)
+pub solves-is-right : (p : Problem) (r : Row) → Proper p → r ∈ rows p → (solves p r ≡ true) ↔ SolutionRow p r
+solves-is-right p r c i = (forth, back)
   where
-    c : Proper p
-    c = accepted-proper p a
-
     forth : solves p r ≡ true → SolutionRow p r
     forth e = (candidate p r, candidate-solution p r c (rows-are p r .0 i) e, λ f q. candidate-function p r f (functions-applied p f q))
 
     back : SolutionRow p r → solves p r ≡ true
     back x =
-        let s : Solution p (candidate p r) = subst (Solution p) (fun-ext (row-solution-unique p r (x .0) a (x .1) (x .2))) (x .1) in
+        let s : Solution p (candidate p r) = subst (Solution p) (fun-ext (row-solution-unique p r (x .0) c (x .1) (x .2))) (x .1) in
         passes-from p r (s .oneWay) (s .meets) (λ m q. solution-closed p (candidate p r) s m)
 
 -- ... so that it can be told whether a row is one
-pub solution-row-told : (p : Problem) (r : Row) → Accepted p → r ∈ rows p → Dec (SolutionRow p r)
-solution-row-told p r a i =
-    let right = solves-is-right p r a i in
+pub solution-row-told : (p : Problem) (r : Row) → Proper p → r ∈ rows p → Dec (SolutionRow p r)
+solution-row-told p r c i =
+    let right = solves-is-right p r c i in
     by-test (solves p r) (λ e. yes (right .0 e)) (λ e. no (λ x. true≢false (sym (right .1 x) ∙ e)))
 
 -- THE FULL LIST holds solutions only, with their rows
-pub listed-solution : (p : Problem) (r : Row) (σ : Filling) → Accepted p → (r, σ) ∈ fullList p
+pub listed-solution : (p : Problem) (r : Row) (σ : Filling) → Proper p → (r, σ) ∈ fullList p
     → (r ∈ rows p) × Solution p σ × HasBodies p r σ
 unfolding fullList solutionRows
-listed-solution p r σ a q =
+listed-solution p r σ c q =
     let x = map-mem (λ (y : Row). (y, candidate p y)) (r, σ) (keep (solves p) (rows p)) q in
     let k = keep-mem (solves p) (x .0) (rows p) (x .1) in
     let er : r ≡ x .0 = ap (λ (y : Row × Filling). y .0) (x .2) in
     let eσ : σ ≡ candidate p (x .0) = ap (λ (y : Row × Filling). y .1) (x .2) in
-    let c : Proper p = accepted-proper p a in (
+    (
       subst (λ (y : Row). y ∈ rows p) (sym er) (k .0),
       subst (Solution p) (sym eσ) (candidate-solution p (x .0) c (rows-are p (x .0) .0 (k .0)) (k .1)),
       λ f m. ap (λ (τ : Filling). τ f) eσ ∙ candidate-function p (x .0) f (functions-applied p f m)
@@ -240,23 +235,23 @@ listed-solution p r σ a q =
     )
 
 -- ... every row that has a solution, with it
-pub row-listed : (p : Problem) (r : Row) (σ : Filling) → Accepted p → r ∈ rows p → Solution p σ → HasBodies p r σ → (r, σ) ∈ fullList p
+pub row-listed : (p : Problem) (r : Row) (σ : Filling) → Proper p → r ∈ rows p → Solution p σ → HasBodies p r σ → (r, σ) ∈ fullList p
 unfolding fullList solutionRows
-row-listed p r σ a i s h =
-    let e : σ ≡ candidate p r = fun-ext (row-solution-unique p r σ a s h) in
-    let m : r ∈ keep (solves p) (rows p) = mem-keep (solves p) r (rows p) i (solves-is-right p r a i .1 (σ, s, h)) in
+row-listed p r σ c i s h =
+    let e : σ ≡ candidate p r = fun-ext (row-solution-unique p r σ c s h) in
+    let m : r ∈ keep (solves p) (rows p) = mem-keep (solves p) r (rows p) i (solves-is-right p r c i .1 (σ, s, h)) in
     subst (λ (τ : Filling). _∈_ {A = Row × Filling} (r, τ) (map (λ (y : Row). (y, candidate p y)) (keep (solves p) (rows p)))) (sym e)
     (mem-map {B = Row × Filling} (λ (y : Row). (y, candidate p y)) m)
 
 -- ... and so every solution
-pub solution-listed : (p : Problem) (σ : Filling) → Accepted p → Solution p σ → (r : Row) × ((r, σ) ∈ fullList p)
-solution-listed p σ a s =
-    let o : OnlyRow p σ = solution-complete p σ a s in
-    (o .row, row-listed p (o .row) σ a (o .isRow) s (o .hasBodies))
+pub solution-listed : (p : Problem) (σ : Filling) → Proper p → Solution p σ → (r : Row) × ((r, σ) ∈ fullList p)
+solution-listed p σ c s =
+    let o : OnlyRow p σ = solution-complete p σ c s in
+    (o .row, row-listed p (o .row) σ c (o .isRow) s (o .hasBodies))
 
 -- ... and none twice: two rows of the list have different solutions
-pub listed-once : (p : Problem) (r r′ : Row) (σ : Filling) → Accepted p → (r, σ) ∈ fullList p → (r′, σ) ∈ fullList p → r ≡ r′
-listed-once p r r′ σ a q q′ =
-    let x = listed-solution p r σ a q in
-    let y = listed-solution p r′ σ a q′ in
-    row-only p σ (accepted-proper p a) (x .1) r r′ (x .0) (y .0) (x .2) (y .2)
+pub listed-once : (p : Problem) (r r′ : Row) (σ : Filling) → Proper p → (r, σ) ∈ fullList p → (r′, σ) ∈ fullList p → r ≡ r′
+listed-once p r r′ σ c q q′ =
+    let x = listed-solution p r σ c q in
+    let y = listed-solution p r′ σ c q′ in
+    row-only p σ c (x .1) r r′ (x .0) (y .0) (x .2) (y .2)

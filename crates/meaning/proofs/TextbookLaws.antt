@@ -38,7 +38,7 @@ module _ (p : Problem) (a : Accepted p) (full : List Listed) (isFull : IsFullLis
 
   solution-member : (σ : Filling) → Solution p σ → leftOut σ ∈ solutions
   solution-member σ sol =
-      let (x, there, e) = map-mem (λ (x : Listed). x .1) σ full (full-list-every p a full isFull σ sol) in
+      let (x, there, e) = map-mem (λ (x : Listed). x .1) σ full (full-list-every p (accepted-proper p a) full isFull σ sol) in
       subst (λ (τ : Filling). leftOut τ ∈ solutions) (sym e) (mem-map (λ (x : Listed). leftOut (x .1)) there)
 
   whole-set : (E : Language) → Robust E → FullSolutionSet (Whole E p) solutions
@@ -59,7 +59,7 @@ module _ (p : Problem) (a : Accepted p) (full : List Listed) (isFull : IsFullLis
 
   -- No two solutions become one
   solutions-once : Distinct solutions
-  solutions-once = once full (λ x i. isFull .members (x .0) (x .1) .0 i .1) (full-list-once p a full isFull)
+  solutions-once = once full (λ x i. isFull .members (x .0) (x .1) .0 i .1) (full-list-once p (accepted-proper p a) full isFull)
     where
       once : (xs : List Listed) → ((x : Listed) → x ∈ xs → Solution p (x .1)) → Distinct (map (λ (x : Listed). x .1) xs)
           → Distinct (map (λ (x : Listed). leftOut (x .1)) xs)

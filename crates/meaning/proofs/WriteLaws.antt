@@ -17,6 +17,7 @@ use Rattle.meaning.specs.Accept.{accept}
 use Rattle.meaning.specs.Search.{at}
 use Rattle.meaning.specs.PlaceValue.{PlaceValue, Names}
 use Rattle.meaning.specs.Entry.{rowText, WriteOn, WriteCall, notAccepted, onAccepted, noSuchRow, noSolutionRow, tooShort, writes}
+use Rattle.meaning.proofs.Proper.{accepted-proper}
 use Rattle.meaning.proofs.ByteLaws.{got-is, refused-not}
 use Rattle.meaning.proofs.ChoiceLaws.{rows-are}
 use Rattle.meaning.proofs.ProblemReading.{accept-accepted}
@@ -66,7 +67,7 @@ module _ (p : Problem) (v : PlaceValue) (buffer : Bytes) where
       pub when-large : {a : Answer ℕ} {after : Bytes} → largestWritten ≤ length buffer → WriteOn p v buffer a after
           → (n : ℕ) × (a ≡ got n) × (take n after ≡ rowText p r)
       when-large large w =
-          let within = text-within p r accepted (solves-is-right p r accepted (rows-are p r .1 (named .isPlace)) .1 solution) in
+          let within = text-within p r accepted (solves-is-right p r (accepted-proper p accepted) (rows-are p r .1 (named .isPlace)) .1 solution) in
           let (gives, holds) = when-room (omega arith) w in
           (length (rowText p r), gives, ap (take (length (rowText p r))) holds ∙ take-at (rowText p r) _ (length (rowText p r)) refl)
 
@@ -96,7 +97,7 @@ module _ (p : Problem) (v : PlaceValue) (buffer : Bytes) where
 
       go : ((r : Row) × Names p v (at r)) ⊎ ((r : Row) → Names p v (at r) → ⊥)
           → (a : Answer ℕ) × (after : Bytes) × WriteOn p v buffer a after
-      go (inl (r, m)) = solved r m (solution-row-told p r accepted (rows-are p r .1 (m .isPlace)))
+      go (inl (r, m)) = solved r m (solution-row-told p r (accepted-proper p accepted) (rows-are p r .1 (m .isPlace)))
       go (inr none) = (refused 16, buffer, noSuchRow none)
 
   -- ... AND ONLY ONE, with one buffer after it

@@ -35,6 +35,8 @@ pub mod Program
 pub mod Compare
 -- The full solution set of source document 000, for T-12 alone
 pub mod Textbook
+-- The problem with the longest list, for T-13 alone
+pub mod Longest
 -- Computed forms
 pub mod Field
 pub mod Encoded

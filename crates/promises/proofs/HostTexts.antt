@@ -19,6 +19,7 @@ use Rattle.meaning.specs.Entry.{WriteCall, WriteOn, checkCall}
 use Rattle.meaning.specs.Calls.{ThirdDemand, givenRow}
 use Rattle.meaning.specs.Given.{TextsGiven, namedBy}
 use Rattle.meaning.specs.Given as given
+use Rattle.meaning.proofs.Proper.{accepted-proper}
 use Rattle.meaning.proofs.Lists.{mem-map}
 use Rattle.meaning.proofs.ProblemReading.{accept-accepted}
 use Rattle.meaning.proofs.FullListLaws.{full-list-every, full-list-once}
@@ -111,8 +112,8 @@ module _ (host : Interface) (lawful : Lawful host) where
           problem = p;
           accepted = e;
           full = d .full;
-          everySolution = full-list-every p accepted (d .full) (d .isFull);
-          eachOnce = full-list-once p accepted (d .full) (d .isFull);
+          everySolution = full-list-every p (accepted-proper p accepted) (d .full) (d .isFull);
+          eachOnce = full-list-once p (accepted-proper p accepted) (d .full) (d .isFull);
           nothingElse = λ x m. d .isFull .members (x .0) (x .1) .0 m;
           inRowOrder = d .isFull .ordered;
           textbook = textbook p accepted (d .full) (d .isFull);

@@ -25,7 +25,7 @@ use Rattle.masks.specs.declared.NodeSet.{NodeSet}
 use Rattle.places.specs.declared.Place.{Place}
 use Rattle.places.specs.declared.Started.{Started}
 use Rattle.seeking.specs.declared.Searched.{Searched}
-use Rattle.writing.specs.declared.write.Written.{Written}
+use Rattle.copying.specs.declared.Written.{Written}
 use Rattle.checking.specs.declared.Checked.{Checked}
 use Rattle.matcher.specs.Opened.{OpenAnswers}
 use Rattle.matcher.specs.declared.OpenSearch.{OpenSearch}

@@ -35,9 +35,9 @@ use Rattle.places.specs.declared.Started.{Started}
 use Rattle.search.specs.Calling.{hostReply}
 use Rattle.seeking.specs.declared.Answer.the-variants as answers
 use Rattle.seeking.specs.declared.Searched.{Searched}
-use Rattle.writing.specs.Writing as writing
-use Rattle.writing.specs.declared.write.Written.{Written}
-use Rattle.writing.specs.declared.write.Written.the-variants as written
+use Rattle.copying.specs.Answered as writing
+use Rattle.copying.specs.declared.Written.{Written}
+use Rattle.copying.specs.declared.Written.the-variants as written
 use Rattle.checking.specs.Checking as checking
 use Rattle.checking.specs.declared.Checked.{Checked}
 use Rattle.matcher.specs.Opened.{searchedBy}

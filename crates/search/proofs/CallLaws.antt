@@ -21,6 +21,7 @@ use Rattle.meaning.specs.Search.{Place, at, past, placeOf, Reply, found, end, r
 use Rattle.meaning.specs.PlaceValue.{PlaceValue, masksOf, placeValue}
 use Rattle.meaning.specs.Entry.{HostReply, replyValue, SearchCall, notAccepted, onAccepted, noAllowance, noSuchPlace, searches}
 use Rattle.meaning.specs.Calls.{left}
+use Rattle.meaning.proofs.Proper.{accepted-proper}
 use Rattle.meaning.proofs.Lists.{never, is-some}
 use Rattle.meaning.proofs.PlaceLaws.{mem-split}
 use Rattle.meaning.proofs.Solutions.{solves-is-right}
@@ -61,7 +62,7 @@ judged-solves p q ps es fs functions firsts h r m =
     judge-means p q ps es fs functions firsts h (masksOf r) (record { choices = r; isRow = m; masks = refl })
     (record { solves = isSome o; sources = record { nodes = orNone o } })
     (record { solves = refl; nodes = λ kept e. ap orNone e }) .solution in
-    let right = solves-is-right p r (h .accepted) m in
+    let right = solves-is-right p r (accepted-proper p (h .accepted)) m in
     (λ e. right .0 (sym same ∙ e), λ x. same ∙ right .1 x)
 
 positive : (n : ℕ) → (n ≡ 0 → ⊥) → 0 < n

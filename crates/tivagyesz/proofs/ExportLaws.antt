@@ -25,8 +25,9 @@ use Rattle.search.specs.Calling.{rowValue, replyWith, hostReply, Answers}
 use Rattle.seeking.specs.declared.Answer as code
 use Rattle.seeking.specs.declared.Answer.the-variants as answers
 use Rattle.seeking.specs.declared.Searched.{Searched}
-use Rattle.writing.specs.Writing.{answerOf, Writes}
-use Rattle.writing.specs.declared.write.Written.{Written}
+use Rattle.copying.specs.Answered.{answerOf}
+use Rattle.copying.specs.declared.Written.{Written}
+use Rattle.writing.specs.Writing.{Writes}
 use Rattle.words.specs.Words.{hasPlace, placeOfWords, placeWords, placed}
 use Rattle.tivagyesz.specs.Exported.{placeInto, startCode, startAfter, Told, StartExport, withRow, replyCode, placeAfter, rowAfter}
 use Rattle.tivagyesz.specs.Exported.{rowGiven, Coded, SearchExport, writeCode, lengthAfter, WriteExport}

@@ -1,5 +1,5 @@
 -- What each exported function owes, for any bytes, any words and any buffers: a call of document 01 (`startCall`, `SearchCall`,
--- `WriteCall`, `checkCall`), its answer as a number, and what each slice holds after it. A slice has as many elements after as before.
+-- `WriteCall`, `checkCall`) or of T-13 (`LongestCall`), its answer as a number, and what each slice holds after it. A slice has as many elements after as before.
 -- "A refusal returns its number only. The output buffer and open search stay": a refusal is document 01's number, and nothing is changed.
 --   ..Code      the number of an answer
 --   ..After     what a slice holds after an answer
@@ -17,6 +17,7 @@ use Rattle.meaning.specs.Read.{Answer, after, got, refused}
 use Rattle.meaning.specs.Search.{found, end, paused, refusedCall}
 use Rattle.meaning.specs.PlaceValue.{PlaceValue}
 use Rattle.meaning.specs.Entry.{HostReply, startCall, SearchCall, WriteCall, checkCall}
+use Rattle.meaning.specs.Longest.{LongestCall}
 use Rattle.search.specs.Calling.{replyWith}
 use Rattle.seeking.specs.declared.Answer as code
 use Rattle.seeking.specs.declared.Answer.the-variants as answers
@@ -100,6 +101,13 @@ lengthAfter before (refused n) = before
 pub record WriteExport (s : Bytes) (row : List ℕ) (out : Bytes) (written : ℕ) (out′ : Bytes) (written′ r : ℕ) : Type 0 where
   pub answer : Answer ℕ
   pub call : WriteCall s (placeOfWords row) out answer out′
+  pub code : r ≡ writeCode answer
+  pub length : written′ ≡ lengthAfter written answer
+
+-- `matcher_longest`; of the buffer `LongestCall` speaks
+pub record LongestExport (n : ℕ) (out : Bytes) (written : ℕ) (out′ : Bytes) (written′ r : ℕ) : Type 0 where
+  pub answer : Answer ℕ
+  pub call : LongestCall n out answer out′
   pub code : r ≡ writeCode answer
   pub length : written′ ≡ lengthAfter written answer
 

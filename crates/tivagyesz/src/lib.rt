@@ -7,22 +7,23 @@ use codes::BUFFER_TOO_SHORT;
 use codes::FOUND;
 use codes::check_code;
 use codes::search_code;
+use copying::Written;
+use longest::write_longest;
 use places::Place;
 use places::Start;
 use search::call::search;
 use words::PLACE_WORDS;
 use words::place_of;
 use words::put_place;
-use writing::write::Written;
 use writing::write::write;
 ghost use mathlib.Core.Path.{_≡_};
 ghost use Prim.Native.Nat.{_≤_};
 ghost use lib.ListN.{length};
 ghost use Rattle.places.specs.Places.{valueOf};
-ghost use Rattle.writing.specs.Writing.{answerOf};
+ghost use Rattle.copying.specs.Answered.{answerOf};
 ghost use Rattle.words.specs.Words.{placeWords};
 ghost use Rattle.tivagyesz.specs.Exported.{placeInto, Told, rowGiven, lengthAfter, writeCode};
-ghost use Rattle.tivagyesz.specs.Exported.{StartExport, SearchExport, WriteExport, CheckExport};
+ghost use Rattle.tivagyesz.specs.Exported.{StartExport, SearchExport, WriteExport, LongestExport, CheckExport};
 
 // The start, where the words have room for a place.
 fn give_start(words: &mut [u64], first: Place) -> u32
@@ -112,6 +113,16 @@ pub extern "C" fn matcher_write(
         (now (out .exit)) (now (written .exit)) r ⌝ }
 {
     let answer = write(problem, place_of(row), out);
+    give_length(answer, written);
+    write_code(answer)
+}
+
+// The problem with the longest list for n nodes at the front of `out`, and its length into `written`.
+#[no_mangle]
+pub extern "C" fn matcher_longest(n: u32, out: &mut [u8], written: &mut usize) -> u32
+    ensures { λ r. ⌜ LongestExport n (now (out .entry)) (now (written .entry)) (now (out .exit)) (now (written .exit)) r ⌝ }
+{
+    let answer = write_longest(n, out);
     give_length(answer, written);
     write_code(answer)
 }

@@ -1,6 +1,7 @@
 // One row written into a buffer, and how the buffer stands after it. What is asked for has 259 bytes: a place, as a node set of four words
 // of 8 bytes for each of 8 functions and a byte that is 1 past the last and else 0; and the buffer's length, 2 bytes. Before, its bytes are
 // all 170.
+use copying::Written;
 use lines::input::number_at;
 use lines::output::bad;
 use lines::output::end_line;
@@ -9,7 +10,6 @@ use lines::output::print_bytes;
 use lines::output::print_number;
 use masks::NodeSet;
 use places::Place;
-use writing::write::Written;
 use writing::write::write;
 ghost use mathlib.Core.Path.{_≡_};
 ghost use Prim.Native.Nat.{_+_, _≤_};

@@ -19,6 +19,7 @@ use Rattle.meaning.specs.Accept.{accept}
 use Rattle.meaning.specs.Search.{at, past}
 use Rattle.meaning.specs.PlaceValue.{Names, masksOf}
 use Rattle.meaning.specs.Entry.{WriteCall, noSolutionRow, noSuchRow, notAccepted, onAccepted, rowText, tooShort, writes}
+use Rattle.meaning.proofs.Proper.{accepted-proper}
 use Rattle.meaning.proofs.SecondDemand.{text-fits}
 use Rattle.meaning.proofs.Solutions.{solves-is-right}
 use Rattle.masks.specs.Sets.{masksIn}
@@ -48,8 +49,8 @@ use Rattle.composing.specs.Entries.{DenotesAll, fieldsOf}
 use Rattle.writing.specs.Writing.{NamedWritten, RowCallable, RowWritten, TextAnswer, TextWritten, Writes}
 use Rattle.composing.specs.Composing.{FieldsWritten, TextMeasured, Writable}
 use Rattle.composing.specs.declared.entry.Plan.{Plan}
-use Rattle.writing.specs.declared.write.Written.{Written}
-use Rattle.writing.specs.declared.write.Written.the-variants as answers
+use Rattle.copying.specs.declared.Written.{Written}
+use Rattle.copying.specs.declared.Written.the-variants as answers
 use Rattle.composing.proofs.FieldLaws.{entryOr, row-fields}
 use Rattle.writing.proofs.Denoting.{plan-denotes, plan-planned}
 
@@ -106,7 +107,7 @@ module _ (s : Bytes) (ps es ns fs : List ℕ) (a : Standing) (firsts : Firsts) (
 
   -- Which rows are solution rows, by the test of a row
   right : (solves p (isNamed .0) ≡ true) ↔ SolutionRow p (isNamed .0)
-  right = solves-is-right p (isNamed .0) (ready .laid .accepted) (isNamed .1)
+  right = solves-is-right p (isNamed .0) (accepted-proper p (ready .laid .accepted)) (isNamed .1)
 
   module _ (judged : Judged) (j : Judges (judgedAt (told ns′) ps′ es′ fs′ (a .occurring .functions) firsts (masksIn (row .sets))) judged) where
     judgement : Judgement p (isNamed .0) judged

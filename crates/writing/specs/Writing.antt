@@ -5,7 +5,6 @@ use Prim.Native.Nat.{ℕ, _<_, _≤_}
 use mathlib.Core.List.{List}
 use lib.ListN.{length}
 use Rattle.meaning.specs.Basics.{Bytes}
-use Rattle.meaning.specs.Read.{Answer, got, refused}
 use Rattle.meaning.specs.Accept.{accept}
 use Rattle.meaning.specs.Entry.{WriteCall}
 use Rattle.faces.specs.declared.first.Firsts.{Firsts}
@@ -15,10 +14,11 @@ use Rattle.places.specs.Places.{valueOf}
 use Rattle.places.specs.declared.Place.{Place}
 use Rattle.search.specs.Calling.{Callable, RowThere}
 use Rattle.copying.specs.Fixed.{Wrote}
+use Rattle.copying.specs.Answered.{answerOf}
 use Rattle.composing.specs.Entries.{DenotesAll, Entries, fieldsOf}
 use Rattle.composing.specs.declared.entry.Plan.{Plan}
-use Rattle.writing.specs.declared.write.Written.{Written}
-use Rattle.writing.specs.declared.write.Written.the-variants as answers
+use Rattle.copying.specs.declared.Written.{Written}
+use Rattle.copying.specs.declared.Written.the-variants as answers
 
 -- "18 buffer too short", or the text at the front
 abbrev pub TextAnswer : Bytes → Bytes → Bytes → Written → Type 0
@@ -29,10 +29,6 @@ pub record TextWritten (es : List ℕ) (plan : Plan) (before after : Bytes) (r :
   pub answer : (says : Entries) → DenotesAll es plan says → TextAnswer (fieldsOf says 0) before after r
 
 -- Document 01's answer
-abbrev pub answerOf : Written → Answer ℕ
-answerOf (answers.Wrote n) = got n
-answerOf (answers.Refused n) = refused n
-
 abbrev pub Writes : Bytes → Place → Bytes → Bytes → Written → Type 0
 Writes s row before after r = WriteCall s (valueOf row) before (answerOf r) after
 

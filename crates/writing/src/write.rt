@@ -4,6 +4,7 @@ use accept::Verdict;
 use composing::entry::Plan;
 use composing::text::text_length;
 use composing::text::write_from;
+use copying::Written;
 use faces::first::Firsts;
 use fit::judge;
 use places::Named;
@@ -14,12 +15,6 @@ use table::TABLE_ROOM;
 ghost use Rattle.search.specs.Calling.{Callable};
 ghost use Rattle.composing.specs.Composing.{Writable};
 ghost use Rattle.writing.specs.Writing.{TextWritten, RowCallable, RowWritten, NamedWritten, Writes};
-
-// The text's length, or document 01's refusal by its number.
-pub enum Written {
-    Wrote(usize),
-    Refused(u8),
-}
 
 // "18 buffer too short" is known before the first byte is written.
 fn write_text(es: &[u64], plan: Plan, out: &mut [u8]) -> Written

@@ -1,0 +1,186 @@
+-- T-13's expression of suc m nodes, and as many solutions of (P(X), e) as there are sets that a choice can be.
+--   top, resolved      its first node; its names resolved
+--   rootFilling        P is the hole, X all of the expression
+--   belowFilling       P has a hole for each symbol of a set, and X is the symbol, or open where the set is empty
+--   fillings           all of these: 2^m + 1 (`fillings-count`), none twice (`fillings-distinct`), each a solution (`fillings-solve`)
+use mathlib.Core.Path.{_≡_, refl, ap, ap₂, _∙_, subst, sym}
+use mathlib.Core.Logic.{⊎-elim}
+use Prim.Native.Nat.{ℕ, zero, suc, _+_, _-_, _^_, _<_}
+use mathlib.Core.Bool.{true, false, true≢false}
+use mathlib.Core.List.{List, [], _∷_, map, List·Memᴰ·cases-cons, List·Memᴰ·head, List·Memᴰ·tail}
+use mathlib.Core.Option.{none, some}
+use native.Mathlib.Omega.{arith}
+use lib.ListN.{length, length-map}
+use Rattle.meaning.specs.Basics.{All, Distinct, choose, _∈_}
+use Rattle.meaning.specs.Term.{IsExpression, NamedTerm, Own, Term, Terms, Variable, application, cons, hole, nil, one, own, size, slot}
+use Rattle.meaning.specs.Term.{symbol}
+use Rattle.meaning.specs.Scope.{nameless, namelessTerm}
+use Rattle.meaning.specs.Shift.{ClosedTerm, shiftTerm}
+use Rattle.meaning.specs.Filling.{Entry, Filling, argument, body, leftOpen, value, valueOr}
+use Rattle.meaning.specs.Solution.{Solution, hasHole}
+use Rattle.meaning.specs.Choice.{Marks, punch, punchTerm}
+use Rattle.meaning.specs.Choices.{allMarks}
+use Rattle.meaning.specs.Longest.{longest, longestProblem, symbols}
+use Rattle.meaning.proofs.Lists.{all-mem, by-test, choose-false, choose-true, eqb-other, map-mem, never, or-false}
+use Rattle.meaning.proofs.ShiftLaws.{shift-closed-term}
+use Rattle.meaning.proofs.ViewLaws.{nameless-closed}
+use Rattle.meaning.proofs.Ordered.{Placed, allMarks-are}
+use Rattle.meaning.proofs.Punching.{blank, graft-eq, plugAll}
+use Rattle.longest.proofs.Distinct.{map-distinct}
+use Rattle.longest.proofs.SetCounts.{all-marks-count, all-marks-distinct, rootAlone}
+use Rattle.longest.proofs.Applied.{giving, solution-open, solution-valued}
+
+-- Symbols, some of them holes
+nameless-symbols : (m : ℕ) → nameless [] (symbols m) ≡ symbols m
+nameless-symbols zero = refl
+nameless-symbols (suc m) = ap (λ (s : Terms). cons (own (symbol 0)) nil s) (nameless-symbols m)
+
+symbols-expression : (X B : Type 0) (m : ℕ) → IsExpression (symbols {X = X} {B = B} m)
+symbols-expression X B zero = tt
+symbols-expression X B (suc m) = (tt, tt, symbols-expression X B m)
+
+symbols-size : (X B : Type 0) (m : ℕ) → size (symbols {X = X} {B = B} m) ≡ m
+symbols-size X B zero = refl
+symbols-size X B (suc m) = let e = symbols-size X B m in omega arith
+
+abbrev theSymbol : Term
+theSymbol = (own (symbol 0), nil)
+
+symbols-filled : (a : ℕ → Term) (ms : Marks) (m : ℕ) → All (Placed 1) ms → (hasHole 0 (punch ms (symbols m)) ≡ true → a 0 ≡ theSymbol)
+    → plugAll a 0 (punch ms (symbols m)) ≡ symbols m
+symbols-filled a ms zero h f = refl
+symbols-filled a [] (suc m) h f = ap (λ (s : Terms). cons (own (symbol 0)) nil s) (symbols-filled a [] m h f)
+symbols-filled a (none ∷ ms) (suc m) h f = ap (λ (s : Terms). cons (own (symbol 0)) nil s) (symbols-filled a ms m (h .1) f)
+symbols-filled a (some zero ∷ ms) (suc m) h f = graft-eq (ap (shiftTerm 0) (f refl)) (symbols-filled a ms m (h .1) (λ e. f refl))
+symbols-filled a (some (suc i) ∷ ms) (suc m) h f = let l = h .0 in absurd (omega arith)
+
+symbols-told : (ms ns : Marks) (m : ℕ) → length ms ≡ m → length ns ≡ m → _≡_ {A = Terms} (punch ms (symbols m)) (punch ns (symbols m))
+    → ms ≡ ns
+symbols-told [] [] m l k e = refl
+symbols-told [] (y ∷ ns) m l k e = absurd (omega arith)
+symbols-told (x ∷ ms) [] m l k e = absurd (omega arith)
+symbols-told (x ∷ ms) (y ∷ ns) zero l k e = absurd (omega arith)
+symbols-told (none ∷ ms) (none ∷ ns) (suc m) l k e = ap (λ (z : Marks). none ∷ z) (symbols-told ms ns m (omega arith) (omega arith) (cc))
+symbols-told (none ∷ ms) (some j ∷ ns) (suc m) l k e = never (cc)
+symbols-told (some i ∷ ms) (none ∷ ns) (suc m) l k e = never (cc)
+symbols-told (some i ∷ ms) (some j ∷ ns) (suc m) l k e =
+    let same : i ≡ j = cc in
+    ap₂ (λ (h : ℕ) (z : Marks). some h ∷ z) same (symbols-told ms ns m (omega arith) (omega arith) (cc))
+
+-- The expression: its first node, and the symbols below it
+abbrev pub top : {X B : Type 0} → ℕ → Own X B
+top zero = symbol 0
+top (suc m) = application (suc m)
+
+pub longest-is : (X B : Type 0) (m : ℕ) → longest {X = X} {B = B} (suc m) ≡ (own (top m), symbols m)
+longest-is X B zero = refl
+longest-is X B (suc m) =
+    choose-false _ _ (eqb-other (suc (suc m)) 1 (λ e. omega arith))
+    ∙ ap (λ (k : ℕ). (own (application k), symbols k)) (let e : suc (suc m) - 1 ≡ suc m = omega arith in e)
+
+pub longest-expression : (m : ℕ) → IsExpression (one (longest {X = ℕ} {B = ℕ} (suc m)))
+longest-expression m = subst (λ (t : NamedTerm). IsExpression (one t)) (sym (longest-is ℕ ℕ m)) (tt, symbols-expression ℕ ℕ m, tt)
+
+pub longest-size : (m : ℕ) → size (one (longest {X = ℕ} {B = ℕ} (suc m))) ≡ suc m
+longest-size m = ap (λ (t : NamedTerm). size (one t)) (longest-is ℕ ℕ m) ∙ (let e = symbols-size ℕ ℕ m in omega arith)
+
+abbrev whole : ℕ → Term
+whole m = (own (top m), symbols m)
+
+pub resolved : (m : ℕ) → namelessTerm [] (longest (suc m)) ≡ whole m
+resolved m = ap (namelessTerm []) (longest-is ℕ ℕ m) ∙ names m
+  where
+    names : (k : ℕ) → namelessTerm [] (own (top k), symbols k) ≡ whole k
+    names zero = refl
+    names (suc k) = ap (λ (s : Terms). (own (application (suc k)), s)) (nameless-symbols (suc k))
+
+whole-closed : (m : ℕ) → ClosedTerm (whole m)
+whole-closed m = subst ClosedTerm (resolved m) (nameless-closed [] (one (longest (suc m))))
+
+whole-expression : (m : ℕ) → IsExpression (one (whole m))
+whole-expression m = (tt, symbols-expression Variable (Unit {0}) m, tt)
+
+top-filled : (a : ℕ → Term) (ms : Marks) (m : ℕ) → plugAll a 0 (punch ms (symbols m)) ≡ symbols m
+    → plugAll a 0 (one (own (top m), punch ms (symbols m))) ≡ one (whole m)
+top-filled a ms zero e = refl
+top-filled a ms (suc m) e = ap (λ (s : Terms). one (own (application (suc m)), s)) e
+
+-- The solutions
+abbrev rootFilling : ℕ → Filling
+rootFilling m = giving (punchTerm (rootAlone m) (whole m)) (value (whole m))
+
+abbrev belowBody : ℕ → Marks → Term
+belowBody m ms = punchTerm (none ∷ ms) (whole m)
+
+abbrev belowFilling : ℕ → Marks → Filling
+belowFilling m ms = giving (belowBody m ms) (choose (hasHole 0 (one (belowBody m ms))) (value theSymbol) leftOpen)
+
+abbrev pub fillings : ℕ → List Filling
+fillings m = rootFilling m ∷ map (belowFilling m) (allMarks 1 m)
+
+pub fillings-count : (m : ℕ) → length (fillings m) ≡ 2 ^ m + 1
+fillings-count m = omega (arith, length-map (allMarks 1 m) (belowFilling m), all-marks-count m)
+
+-- .. their bodies differ
+hole-other : (o : Own Variable (Unit {0})) (c : Terms) → _≡_ {A = Entry Term} (body (slot (hole 0), nil)) (body (own o, c)) → ⊥
+hole-other o c e =
+    let terms : _≡_ {A = Term} (slot (hole 0), nil) (own o, c) = cc in
+    let labels = ap (λ (t : Term). t .0) terms in
+    never (cc)
+
+below-told : (o : Own Variable (Unit {0})) (c d : Terms) → _≡_ {A = Entry Term} (body (own o, c)) (body (own o, d)) → c ≡ d
+below-told o c d e =
+    let terms : _≡_ {A = Term} (own o, c) (own o, d) = cc in
+    ap (λ (t : Term). t .1) terms
+
+pub fillings-distinct : (m : ℕ) → Distinct (fillings m)
+fillings-distinct m = (
+  λ i. let (ms, k, e) = map-mem (belowFilling m) (rootFilling m) (allMarks 1 m) i in
+      hole-other (top m) (punch ms (symbols m)) (ap (λ (σ : Filling). σ 0) e),
+  map-distinct (belowFilling m) (allMarks 1 m)
+  (λ ms ns i j e.
+  symbols-told ms ns m (allMarks-are 1 m ms .0 i .0) (allMarks-are 1 m ns .0 j .0)
+  (below-told (top m) (punch ms (symbols m)) (punch ns (symbols m)) (ap (λ (σ : Filling). σ 0) e)))
+  (all-marks-distinct m),
+)
+
+-- .. are solutions
+module _ (m : ℕ) where
+  root-placed : (i : ℕ) → some i ∈ rootAlone m → i < 1
+  root-placed i q = all-mem (Placed 1) (some i) (rootAlone m) (omega arith, blank-placed m) q
+    where
+      blank-placed : (k : ℕ) → All (Placed 1) (blank k)
+      blank-placed zero = tt
+      blank-placed (suc k) = (tt, blank-placed k)
+
+  root-solves : Solution (longestProblem (suc m)) (rootFilling m)
+  root-solves =
+      solution-valued (longest (suc m)) (whole m) (resolved m) (longest-expression m) (rootAlone m) root-placed
+      (whole m) (whole-expression m) (whole-closed m) refl (ap one (shift-closed-term 0 (whole m) (whole-closed m)))
+
+  below-solves : (ms : Marks) → ms ∈ allMarks 1 m → Solution (longestProblem (suc m)) (belowFilling m ms)
+  below-solves ms i = by-test (hasHole 0 (one (belowBody m ms))) valued opened
+    where
+      marks : All (Placed 1) ms
+      marks = allMarks-are 1 m ms .0 i .1
+
+      placed : (k : ℕ) → some k ∈ (none ∷ ms) → k < 1
+      placed k q = all-mem (Placed 1) (some k) (none ∷ ms) (tt, marks) q
+
+      valued : hasHole 0 (one (belowBody m ms)) ≡ true → Solution (longestProblem (suc m)) (belowFilling m ms)
+      valued has =
+          subst (λ (v : Entry Term). Solution (longestProblem (suc m)) (giving (belowBody m ms) v)) (sym (choose-true (value theSymbol) leftOpen has))
+          (solution-valued (longest (suc m)) (whole m) (resolved m) (longest-expression m) (none ∷ ms) placed
+          theSymbol (tt, tt, tt) (tt, tt, tt) has (top-filled _ ms m (symbols-filled _ ms m marks (λ e. refl))))
+
+      opened : hasHole 0 (one (belowBody m ms)) ≡ false → Solution (longestProblem (suc m)) (belowFilling m ms)
+      opened lacks =
+          subst (λ (v : Entry Term). Solution (longestProblem (suc m)) (giving (belowBody m ms) v)) (sym (choose-false (value theSymbol) leftOpen lacks))
+          (solution-open (longest (suc m)) (whole m) (resolved m) (longest-expression m) (none ∷ ms) placed lacks
+          (top-filled _ ms m (symbols-filled _ ms m marks (λ e. absurd (true≢false (sym e ∙ or-false _ false lacks .0))))))
+
+  pub fillings-solve : (σ : Filling) → σ ∈ fillings m → Solution (longestProblem (suc m)) σ
+  fillings-solve σ i =
+      ⊎-elim (λ e. subst (Solution (longestProblem (suc m))) (sym e) root-solves)
+      (λ k. let (ms, j, e) = map-mem (belowFilling m) σ (allMarks 1 m) k in subst (Solution (longestProblem (suc m))) (sym e) (below-solves ms j))
+      (List·Memᴰ·cases-cons i)

@@ -1,0 +1,2 @@
+-- Writing the problem with the longest list.
+pub mod Writing

@@ -1,0 +1,116 @@
+// The problem with the longest list for a given number of nodes (T-13), written into a buffer: (P(X), e), where e is a symbol, or an
+// application of equal symbols.
+use copying::Written;
+use copying::write_head;
+use masks::NodeSet;
+ghost use mathlib.Core.Path.{_≡_};
+ghost use Prim.Native.Nat.{_≤_};
+ghost use mathlib.Core.Bool.{_||_};
+ghost use lib.ListN.{length};
+ghost use lib.Dec.{ltb};
+ghost use Rattle.meaning.specs.Limits.{maxFaceNodes};
+ghost use Rattle.meaning.specs.Field.{encode};
+ghost use Rattle.meaning.specs.Longest.{longestBytes, symbols};
+ghost use Rattle.longest.specs.Writing.{Nodes, ProblemRoom, Room, WritesLongest, expressionBytes, over, termsBytes};
+
+const APPLICATION: u8 = 3;
+
+const CONSTRAINT: u8 = 7;
+
+// How many bytes a field's head has, the pattern P(X), and a symbol.
+const HEAD: usize = 3;
+
+const PATTERN: usize = 8;
+
+const SYMBOL: usize = 5;
+
+const OUTSIDE: u8 = 28;
+
+const BUFFER_TOO_SHORT: u8 = 29;
+
+// Bytes at the buffer's front.
+fn put(bytes: &[u8], out: &mut [u8])
+    requires { ⌜ length (now bytes) ≤ length (now out) ⌝ }
+    ensures { λ _. ⌜ now (out .exit) ≡ over (now (bytes .entry)) (now (out .entry)) ⌝ }
+{
+    let mut i = 0;
+    while i < bytes.len() {
+        out[i] = bytes[i];
+        i += 1;
+    }
+}
+
+// So many times symbol 0.
+fn write_symbols(m: usize, out: &mut [u8])
+    requires { ⌜ length (encode (symbols m)) ≤ length (now out) ⌝ }
+    ensures { λ _. ⌜ now (out .exit) ≡ over (encode (symbols m)) (now (out .entry)) ⌝ }
+{
+    let mut i = 0;
+    while i < m {
+        put(b"\x01\x00\x02\x00\x00", &mut out[SYMBOL * i..]);
+        i += 1;
+    }
+}
+
+// How many bytes the expression has.
+fn expression_length(n: usize) -> usize
+    requires { ⌜ Nodes n ⌝ }
+    ensures { λ r. ⌜ r ≡ length (expressionBytes n) ⌝ }
+{
+    if n == 1 { SYMBOL } else { HEAD + SYMBOL * (n - 1) }
+}
+
+// "for n = 1 a symbol, else an application of n - 1 equal symbols": the symbols, and then the head before them.
+fn write_expression(n: usize, out: &mut [u8])
+    requires { ⌜ Room n (length (expressionBytes n)) (now out) ⌝ }
+    ensures { λ _. ⌜ now (out .exit) ≡ over (expressionBytes n) (now (out .entry)) ⌝ }
+{
+    if n == 1 {
+        write_symbols(1, out);
+        return;
+    }
+    write_symbols(n - 1, &mut out[HEAD..]);
+    write_head(APPLICATION, SYMBOL * (n - 1), out);
+}
+
+// The constraint's two terms: P(X) before the expression.
+fn write_terms(n: usize, out: &mut [u8])
+    requires { ⌜ Room n (length (termsBytes n)) (now out) ⌝ }
+    ensures { λ _. ⌜ now (out .exit) ≡ over (termsBytes n) (now (out .entry)) ⌝ }
+{
+    write_expression(n, &mut out[PATTERN..]);
+    put(b"\x06\x00\x05\x00\x05\x00\x01\x01", out);
+}
+
+// The constraint, whose expression has so many bytes: its terms, and then the head before them.
+fn write_problem(n: usize, expression: usize, out: &mut [u8])
+    requires { ⌜ ProblemRoom n expression (now out) ⌝ }
+    ensures { λ _. ⌜ now (out .exit) ≡ over (longestBytes n) (now (out .entry)) ⌝ }
+{
+    write_terms(n, &mut out[HEAD..]);
+    write_head(CONSTRAINT, PATTERN + expression, out);
+}
+
+// "28 when n is outside 1 to 256"
+fn is_outside(n: usize) -> bool
+    ensures { λ r. ⌜ r ≡ (ltb n 1 || ltb maxFaceNodes n) ⌝ }
+{
+    n < 1 || n > NodeSet::ROOM
+}
+
+// The problem for n nodes at the buffer's front: no later byte changes, and on a refusal none does.
+pub fn write_longest(n: u32, out: &mut [u8]) -> Written
+    ensures { λ r. ⌜ WritesLongest n (now (out .entry)) (now (out .exit)) r ⌝ }
+{
+    let nodes = n as usize;
+    if is_outside(nodes) {
+        return Written::Refused(OUTSIDE);
+    }
+    let expression = expression_length(nodes);
+    let length = HEAD + PATTERN + expression;
+    if out.len() < length {
+        return Written::Refused(BUFFER_TOO_SHORT);
+    }
+    write_problem(nodes, expression, out);
+    Written::Wrote(length)
+}
