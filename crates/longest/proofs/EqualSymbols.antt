@@ -72,23 +72,23 @@ abbrev pub top : {X B : Type 0} → ℕ → Own X B
 top zero = symbol 0
 top (suc m) = application (suc m)
 
-pub longest-is : (X B : Type 0) (m : ℕ) → longest {X = X} {B = B} (suc m) ≡ (own (top m), symbols m)
-longest-is X B zero = refl
-longest-is X B (suc m) =
+pub longest-is : (m : ℕ) → longest (suc m) ≡ (own (top m), symbols m)
+longest-is zero = refl
+longest-is (suc m) =
     choose-false _ _ (eqb-other (suc (suc m)) 1 (λ e. omega arith))
     ∙ ap (λ (k : ℕ). (own (application k), symbols k)) (let e : suc (suc m) - 1 ≡ suc m = omega arith in e)
 
-pub longest-expression : (m : ℕ) → IsExpression (one (longest {X = ℕ} {B = ℕ} (suc m)))
-longest-expression m = subst (λ (t : NamedTerm). IsExpression (one t)) (sym (longest-is ℕ ℕ m)) (tt, symbols-expression ℕ ℕ m, tt)
+pub longest-expression : (m : ℕ) → IsExpression (one (longest (suc m)))
+longest-expression m = subst (λ (t : NamedTerm). IsExpression (one t)) (sym (longest-is m)) (tt, symbols-expression ℕ ℕ m, tt)
 
-pub longest-size : (m : ℕ) → size (one (longest {X = ℕ} {B = ℕ} (suc m))) ≡ suc m
-longest-size m = ap (λ (t : NamedTerm). size (one t)) (longest-is ℕ ℕ m) ∙ (let e = symbols-size ℕ ℕ m in omega arith)
+pub longest-size : (m : ℕ) → size (one (longest (suc m))) ≡ suc m
+longest-size m = ap (λ (t : NamedTerm). size (one t)) (longest-is m) ∙ (let e = symbols-size ℕ ℕ m in omega arith)
 
 abbrev whole : ℕ → Term
 whole m = (own (top m), symbols m)
 
 pub resolved : (m : ℕ) → namelessTerm [] (longest (suc m)) ≡ whole m
-resolved m = ap (namelessTerm []) (longest-is ℕ ℕ m) ∙ names m
+resolved m = ap (namelessTerm []) (longest-is m) ∙ names m
   where
     names : (k : ℕ) → namelessTerm [] (own (top k), symbols k) ≡ whole k
     names zero = refl

@@ -7,4 +7,5 @@ pub mod LongestList
 -- Its bytes
 pub mod LongestBytes
 pub mod LongestAccepted
+pub mod CallLaws
 pub mod WriteLaws

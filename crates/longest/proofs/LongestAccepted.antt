@@ -60,7 +60,7 @@ top-readable levels (suc m) = ((sym (symbols-trees (suc m)), omega arith), symbo
 
 expression-readable : (m : ℕ) → Readable maxDepth inExpression (one (longest (suc m)))
 unfolding maxDepth
-expression-readable m = subst (λ (t : NamedTerm). Readable maxDepth inExpression (one t)) (sym (longest-is ℕ ℕ m)) (top-readable 30 m)
+expression-readable m = subst (λ (t : NamedTerm). Readable maxDepth inExpression (one t)) (sym (longest-is m)) (top-readable 30 m)
 
 within : (m : ℕ) → suc m ≤ maxFaceNodes → WithinLimits (longestProblem (suc m))
 unfolding maxDepth metavariableCount contextBelow maxConstraints largestProblem maxFaceNodes

@@ -39,7 +39,7 @@ unfolding encode
 application-is zero h = absurd (omega arith)
 application-is (suc zero) h = absurd (omega arith)
 application-is (suc (suc m)) h =
-    ap (λ (t : NamedTerm). encode (one t)) (longest-is ℕ ℕ (suc m))
+    ap (λ (t : NamedTerm). encode (one t)) (longest-is (suc m))
     ∙ append-nil (field 3 (encode (symbols (suc m))))
     ∙ ap (λ (k : ℕ). field 3 (encode (symbols k))) (let e : suc m ≡ suc (suc m) - 1 = omega arith in e)
 

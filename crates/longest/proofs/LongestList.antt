@@ -52,11 +52,11 @@ longest-list (suc m) h full isFull =
     let all = distinct-within (fillings m) (map (λ (y : Listed). y .1) full) (fillings-distinct m)
     (λ σ i. full-list-every (longestProblem (suc m)) (proper (longest (suc m)) (longest-expression m)) full isFull σ (fillings-solve m σ i)) in
     let most = list-most (longest (suc m)) (longest-expression m) full isFull in
-    let powers : 2 ^ (size (one (longest {X = ℕ} {B = ℕ} (suc m))) - 1) ≡ 2 ^ (suc m - 1) = ap (λ (n : ℕ). 2 ^ (n - 1)) (longest-size m) in
+    let powers : 2 ^ (size (one (longest (suc m))) - 1) ≡ 2 ^ (suc m - 1) = ap (λ (n : ℕ). 2 ^ (n - 1)) (longest-size m) in
     let same : 2 ^ (suc m - 1) ≡ 2 ^ m = ap (λ (n : ℕ). 2 ^ n) (let q : suc m - 1 ≡ m = omega arith in q) in
     omega (arith, fillings-count m, length-map full (λ (y : Listed). y .1))
 
 -- It has n nodes
-pub longest-nodes : (n : ℕ) → 1 ≤ n → size (one (longest {X = ℕ} {B = ℕ} n)) ≡ n
+pub longest-nodes : (n : ℕ) → 1 ≤ n → size (one (longest n)) ≡ n
 longest-nodes zero h = absurd (omega arith)
 longest-nodes (suc m) h = longest-size m

@@ -13,7 +13,7 @@ use lib.ListN.{length, drop}
 use lib.Dec.{eqb, ltb}
 use Rattle.meaning.specs.Limits.{maxFaceNodes}
 use Rattle.meaning.specs.Basics.{Bytes, choose}
-use Rattle.meaning.specs.Term.{Forest, Label, NamedTerm, Tree, application, cons, function, metavariable, nil, one, own, slot, symbol}
+use Rattle.meaning.specs.Term.{Forest, Label, NamedTerm, application, cons, function, metavariable, nil, one, own, slot, symbol}
 use Rattle.meaning.specs.Problem.{Problem}
 use Rattle.meaning.specs.Read.{Answer, got, refused}
 use Rattle.meaning.specs.Field.{encodeProblem}
@@ -27,7 +27,7 @@ symbols zero = nil
 symbols (suc m) = cons (own (symbol 0)) nil (symbols m)
 
 -- "for n = 1 a symbol, else an application of n - 1 equal symbols"
-abbrev pub longest : {X B : Type 0} → ℕ → Tree (Label X B)
+abbrev pub longest : ℕ → NamedTerm
 longest n = choose (eqb n 1) (own (symbol 0), nil) (own (application (n - 1)), symbols (n - 1))
 
 -- "the tool writes the problem (P(X), e), where e has n nodes"

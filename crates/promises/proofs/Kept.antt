@@ -15,6 +15,7 @@ use Rattle.meaning.specs.Row.{Row}
 use Rattle.meaning.specs.PlaceValue.{PlaceValue, masksOf, placeValue}
 use Rattle.meaning.specs.Entry.{HostReply, SearchCall, WriteCall, checkCall, startCall}
 use Rattle.meaning.specs.Calls.{Run, ThirdDemand, givenRow, left}
+use Rattle.meaning.specs.Longest.{LongestCall}
 use Rattle.meaning.proofs.Lists.{never}
 use Rattle.meaning.proofs.CallLaws as calls
 use Rattle.meaning.proofs.PlaceLaws.{place-long}
@@ -33,13 +34,15 @@ use Rattle.seeking.specs.declared.Answer.the-variants as answers
 use Rattle.seeking.specs.declared.Searched.{Searched}
 use Rattle.words.specs.Words.{hasPlace, placeOfWords, placed}
 use Rattle.words.proofs.WordLaws.{Small, place-small, placed-back, setOf, sets-back}
-use Rattle.tivagyesz.specs.Exported.{SearchExport, StartExport, WriteExport, lengthAfter, placeAfter, replyCode, rowAfter, startAfter, startCode}
-use Rattle.tivagyesz.specs.Exported.{startInto, withRow, writeCode}
+use Rattle.longest.proofs.CallLaws.{refused-stays}
+use Rattle.tivagyesz.specs.Exported.{LongestExport, SearchExport, StartExport, WriteExport, lengthAfter, placeAfter, replyCode, rowAfter}
+use Rattle.tivagyesz.specs.Exported.{startAfter, startCode, startInto, withRow, writeCode}
 use Rattle.places.proofs.Place.start.Met as start-met
 use Rattle.places.proofs.Place.at.Met as row-at-met
 use Rattle.places.proofs.Place.past_last.Met as past-last-met
 use Rattle.search.proofs.call.search.Met as search-met
 use Rattle.writing.proofs.write.write.Met as write-met
+use Rattle.longest.proofs.write_longest.Met as longest-met
 use Rattle.checking.proofs.check.Met as check-met
 use Rattle.matcher.proofs.OpenSearch.at.Met as opened-met
 use Rattle.matcher.proofs.search_owned.Met as owned-met
@@ -47,16 +50,18 @@ use Rattle.matcher.proofs.search_open.Met as open-met
 use Rattle.tivagyesz.proofs.matcher_start.Met as c-start-met
 use Rattle.tivagyesz.proofs.matcher_search.Met as c-search-met
 use Rattle.tivagyesz.proofs.matcher_write.Met as c-write-met
+use Rattle.tivagyesz.proofs.matcher_longest.Met as c-longest-met
 use Rattle.tivagyesz.proofs.matcher_check.Met as c-check-met
 use Rattle.promises.specs.Called.{Ends, OpenContract, Unasked}
-use Rattle.promises.specs.Numbers.{checkAnswer, writeAnswer}
+use Rattle.promises.specs.Numbers.{Refuses, checkAnswer, writeAnswer}
 use Rattle.promises.specs.Lists.{CEnd, CarriedCall, CarriedEnd, cAllowed, cFound, carriedAllowed, carriedFound, keptCalls}
-use Rattle.promises.specs.Promises.{FirstDemand, SecondDemand, inC, inRattle, startAnswer}
+use Rattle.promises.specs.Promises.{FirstDemand, LongestList, SecondDemand, inC, inRattle, startAnswer}
 use Rattle.promises.specs.Promises as page
-use Rattle.promises.proofs.RefusalNumbers.{check-numbers, check-read, write-numbers, write-read}
+use Rattle.promises.proofs.RefusalNumbers.{check-numbers, check-read, longest-numbers, write-numbers, write-read}
 use Rattle.promises.proofs.CallLists.{allowed-carried, callOf, carried-run, end-carried, founds-carried, kept-run}
 use Rattle.promises.proofs.CLists.{as-calls, c-started}
 use Rattle.promises.proofs.HostTexts.{Lawful, owed, texts-kept}
+use Rattle.promises.proofs.Longest.{longest-kept}
 
 -- The contract of `search_open`
 open-contract : OpenContract
@@ -108,6 +113,11 @@ text-stays : (s : Bytes) (v : PlaceValue) (out out′ : Bytes) (before : ℕ) (a
 text-stays s v out out′ before (got n) h w = absurd (omega arith)
 text-stays s v out out′ before (refused n) h w = (refused-leaves s v out out′ n w, refl)
 
+longest-stays : (n : ℕ) (out out′ : Bytes) (before : ℕ) (a : Answer ℕ) → 0 < writeCode a → LongestCall n out a out′
+    → (out′ ≡ out) × (lengthAfter before a ≡ before)
+longest-stays n out out′ before (got k) h w = absurd (omega arith)
+longest-stays n out out′ before (refused k) h w = (refused-stays w, refl)
+
 unasked : Unasked
 unasked = record {
   rowsAt = λ spans handed. tt;
@@ -116,11 +126,13 @@ unasked = record {
   starts = λ spans handed. tt;
   searches = λ spans handed. tt;
   writes = λ spans handed. tt;
+  writesLongest = λ spans handed. tt;
   checks = λ spans handed. tt;
   owned = λ spans handed. tt;
   startsInC = λ spans handed. tt;
   searchesInC = λ spans handed. tt;
   writesInC = λ spans handed. tt;
+  writesLongestInC = λ spans handed. tt;
   checksInC = λ spans handed. tt;
 }
 
@@ -132,12 +144,14 @@ ending = record {
   starts = start-met.met;
   searches = search-met.met;
   writes = write-met.met;
+  writesLongest = longest-met.met;
   checks = check-met.met;
   owned = owned-met.met;
   opened = open-met.met;
   startsInC = c-start-met.met;
   searchesInC = c-search-met.met;
   writesInC = c-write-met.met;
+  writesLongestInC = c-longest-met.met;
   checksInC = c-check-met.met;
 }
 
@@ -154,16 +168,19 @@ first-demand = record {
   owned = λ s kept n r c. c .1 .call;
   opened = λ s kept kept′ n r c. c .call;
   writes = λ s row out out′ r c. c .1;
+  writesLongest = λ n out out′ r c. c .1;
   checks = λ s text r c. c .1;
   startsInC = λ s place place′ r c. c .1;
   searchesInC = λ s n place row place′ row′ r c. c .1;
   writesInC = λ s row out out′ n n′ r c. c .1;
+  writesLongestInC = λ n out out′ k k′ r c. c .1;
   checksInC = λ s text r c. c .1;
   ends = ending;
   searchStays = λ s place n k r c e. place-stays k r (c .1) e;
   ownedStays = λ s kept n k r c e. place-stays k _ (c .1) e;
   openStays = λ s kept kept′ n k r c e. place-stays k _ c e;
   writeStays = λ s row out out′ k c. refused-leaves s (valueOf row) out out′ k (c .1);
+  longestStays = λ n out out′ k c. refused-stays (c .1);
   startStaysInC = λ s place place′ r c above.
       let h : StartExport s place place′ r = c .1 in
       h .place ∙ words-stay place (startInto place s) (omega (arith, h .code, above));
@@ -174,6 +191,10 @@ first-demand = record {
   writeStaysInC = λ s row out out′ n n′ r c above.
       let h : WriteExport s row out n out′ n′ r = c .1 in
       let still = text-stays s (placeOfWords row) out out′ n (h .answer) (omega (arith, h .code, above)) (h .call) in
+      (still .0, h .length ∙ still .1);
+  longestStaysInC = λ n out out′ k k′ r c above.
+      let h : LongestExport n out k out′ k′ r = c .1 in
+      let still = longest-stays n out out′ k (h .answer) (omega (arith, h .code, above)) (h .call) in
       (still .0, h .length ∙ still .1);
 }
 
@@ -253,3 +274,16 @@ third-demand = record {
       (calls.third-demand s p (h .calls) b
       (record { accepted = a; run = subst (λ (v : PlaceValue). Run (SearchCall s) v (h .calls)) here (h .run) })));
 }
+
+-- T-13, in Rattle and in C
+pub longest-list : LongestList inRattle
+longest-list = longest-kept inRattle (λ n out out′ a w. subst (λ (y : Answer ℕ). LongestCall n out y out′) (sym (w .2)) (w .1 .1))
+
+pub longest-list-in-c : LongestList inC
+longest-list-in-c =
+    longest-kept inC
+    (λ n out out′ a (k, k′, r, c, e).
+    let h : LongestExport n out k out′ k′ r = c .1 in
+    let same : a ≡ h .answer =
+    e ∙ ap₂ writeAnswer (h .code) (h .length) ∙ write-read (h .answer) k (subst Refuses (sym (h .call .answers)) (longest-numbers n out)) in
+    subst (λ (y : Answer ℕ). LongestCall n out y out′) (sym same) (h .call))

@@ -36,6 +36,7 @@ use Rattle.places.proofs.Place.at.Reads as row-at
 use Rattle.places.proofs.Place.past_last.Reads as past-last
 use Rattle.search.proofs.call.search.Reads as search
 use Rattle.writing.proofs.write.write.Reads as write
+use Rattle.longest.proofs.write_longest.Reads as longest
 use Rattle.checking.proofs.check.Reads as check
 use Rattle.matcher.proofs.OpenSearch.at.Reads as opened
 use Rattle.matcher.proofs.search_owned.Reads as owned
@@ -43,12 +44,14 @@ use Rattle.matcher.proofs.search_open as open-search
 use Rattle.tivagyesz.proofs.matcher_start.Reads as c-start
 use Rattle.tivagyesz.proofs.matcher_search.Reads as c-search
 use Rattle.tivagyesz.proofs.matcher_write.Reads as c-write
+use Rattle.tivagyesz.proofs.matcher_longest.Reads as c-longest
 use Rattle.tivagyesz.proofs.matcher_check.Reads as c-check
 use Rattle.places.proofs.Place.start.Statement as start-code
 use Rattle.places.proofs.Place.at.Statement as row-at-code
 use Rattle.places.proofs.Place.past_last.Statement as past-last-code
 use Rattle.search.proofs.call.search.Statement as search-code
 use Rattle.writing.proofs.write.write.Statement as write-code
+use Rattle.longest.proofs.write_longest.Statement as longest-code
 use Rattle.checking.proofs.check.Statement as check-code
 use Rattle.matcher.proofs.OpenSearch.at.Statement as opened-code
 use Rattle.matcher.proofs.search_owned.Statement as owned-code
@@ -56,6 +59,7 @@ use Rattle.matcher.proofs.search_open.Statement as open-code
 use Rattle.tivagyesz.proofs.matcher_start.Statement as c-start-code
 use Rattle.tivagyesz.proofs.matcher_search.Statement as c-search-code
 use Rattle.tivagyesz.proofs.matcher_write.Statement as c-write-code
+use Rattle.tivagyesz.proofs.matcher_longest.Statement as c-longest-code
 use Rattle.tivagyesz.proofs.matcher_check.Statement as c-check-code
 
 pub record Lent (references : ℕ) : Type 0 where
@@ -88,6 +92,9 @@ abbrev pub WriteCalled : Bytes → Place → Bytes → Written → Bytes → Typ
 WriteCalled s row out r out′ =
     (l : Lent 2) × write.Learnt (l .spans) (lent l 0 s, (row, (lent l 1 out, tt))) r (lent l 0 s, (row, (lent l 1 out′, tt)))
 
+abbrev pub LongestCalled : ℕ → Bytes → Written → Bytes → Type 0
+LongestCalled n out r out′ = (l : Lent 1) × longest.Learnt (l .spans) (n, (lent l 0 out, tt)) r (n, (lent l 0 out′, tt))
+
 abbrev pub CheckCalled : Bytes → Bytes → Checked → Type 0
 CheckCalled s text r =
     (l : Lent 2) × check.Learnt (l .spans) (lent l 0 s, (lent l 1 text, tt)) r (lent l 0 s, (lent l 1 text, tt))
@@ -116,6 +123,11 @@ CWriteCalled s row out written r out′ written′ =
     × c-write.Learnt (l .spans) (lent l 0 s, (lent l 1 row, (lent l 2 out, (lent l 3 written, tt)))) r
     (lent l 0 s, (lent l 1 row, (lent l 2 out′, (lent l 3 written′, tt))))
 
+abbrev pub CLongestCalled : ℕ → Bytes → ℕ → ℕ → Bytes → ℕ → Type 0
+CLongestCalled n out written r out′ written′ =
+    (l : Lent 2)
+    × c-longest.Learnt (l .spans) (n, (lent l 0 out, (lent l 1 written, tt))) r (n, (lent l 0 out′, (lent l 1 written′, tt)))
+
 abbrev pub CCheckCalled : Bytes → Bytes → ℕ → Type 0
 CCheckCalled s text r =
     (l : Lent 2) × c-check.Learnt (l .spans) (lent l 0 s, (lent l 1 text, tt)) r (lent l 0 s, (lent l 1 text, tt))
@@ -128,11 +140,13 @@ pub record Unasked : Type 0 where
   pub starts : (spans : Lfts 1) (handed : _) → start.Asked spans handed
   pub searches : (spans : Lfts 1) (handed : _) → search.Asked spans handed
   pub writes : (spans : Lfts 2) (handed : _) → write.Asked spans handed
+  pub writesLongest : (spans : Lfts 1) (handed : _) → longest.Asked spans handed
   pub checks : (spans : Lfts 2) (handed : _) → check.Asked spans handed
   pub owned : (spans : Lfts 1) (handed : _) → owned.Asked spans handed
   pub startsInC : (spans : Lfts 2) (handed : _) → c-start.Asked spans handed
   pub searchesInC : (spans : Lfts 3) (handed : _) → c-search.Asked spans handed
   pub writesInC : (spans : Lfts 4) (handed : _) → c-write.Asked spans handed
+  pub writesLongestInC : (spans : Lfts 2) (handed : _) → c-longest.Asked spans handed
   pub checksInC : (spans : Lfts 2) (handed : _) → c-check.Asked spans handed
 
 -- For `search_open`: what is asked is nothing, and what is ensured is `OpenCalled`
@@ -150,10 +164,12 @@ pub record Ends : Type 2 where
   pub starts : {M : Type 1} → start-code.statement M
   pub searches : {M : Type 1} → search-code.statement M
   pub writes : {M : Type 1} → write-code.statement M
+  pub writesLongest : {M : Type 1} → longest-code.statement M
   pub checks : {M : Type 1} → check-code.statement M
   pub owned : {M : Type 1} → owned-code.statement M
   pub opened : {M : Type 1} → open-code.statement M
   pub startsInC : {M : Type 1} → c-start-code.statement M
   pub searchesInC : {M : Type 1} → c-search-code.statement M
   pub writesInC : {M : Type 1} → c-write-code.statement M
+  pub writesLongestInC : {M : Type 1} → c-longest-code.statement M
   pub checksInC : {M : Type 1} → c-check-code.statement M

@@ -1,23 +1,25 @@
 -- THE THREE DEMANDS, on one page, of the functions that a host calls. What is quoted are the demands' own words. That all of it holds is one
 -- theorem each: `first-demand`, `second-demand` and `second-demand-in-c`, `third-demand` (proofs/Kept). T-12 is what the third says of the full
--- list in the words of source document 000.
---   Interface   how a host holds a row, and what its calls of the writer and the checker come to, in Rattle or in C
---   Owed        what is owed for a list of calls
+-- list in the words of source document 000. T-13 stands below them: `longest-list` and `longest-list-in-c`.
+--   Interface     how a host holds a row, and what its calls of the writers and the checker come to, in Rattle or in C
+--   Owed          what is owed for a list of calls
+--   LongestList   T-13: how long the list of (P(X), e) can be, and the problem whose list is as long
 use mathlib.Core.Path.{_≡_}
 use mathlib.Core.Logic.{_↔_}
 use mathlib.Core.Bool.{Bool, true, false}
 use mathlib.Core.List.{List, map}
-use Prim.Native.Nat.{ℕ, _<_, _≤_}
+use Prim.Native.Nat.{ℕ, _+_, _-_, _^_, _<_, _≤_}
 use lib.ListN.{length, take}
-use Rattle.meaning.specs.Limits.{largestWritten}
+use Rattle.meaning.specs.Limits.{largestProblem, largestWritten, maxFaceNodes}
 use Rattle.meaning.specs.Basics.{All, Byte, Bytes, Distinct, Ordered, Pairwise, _∈_}
+use Rattle.meaning.specs.Term.{IsExpression, NamedTerm, one, size}
 use Rattle.meaning.specs.Problem.{Problem}
 use Rattle.meaning.specs.Read.{Answer, got, refused}
 use Rattle.meaning.specs.Accept.{accept}
 use Rattle.meaning.specs.Filling.{Filling}
 use Rattle.meaning.specs.Solution.{Solution}
 use Rattle.meaning.specs.Row.{AreRows, HasBodies, IsRow, Row}
-use Rattle.meaning.specs.FullList.{EarlierListed, Listed}
+use Rattle.meaning.specs.FullList.{EarlierListed, IsFullList, Listed}
 use Rattle.meaning.specs.Textbook.{Textbook, leftOut}
 use Rattle.meaning.specs.Text.{Item, readText, said}
 use Rattle.meaning.specs.Textual.{AlphaText}
@@ -26,6 +28,7 @@ use Rattle.meaning.specs.PlaceValue.{Names, PlaceValue, placeValue}
 use Rattle.meaning.specs.Entry.{SearchCall, WriteCall, checkCall, startCall}
 use Rattle.meaning.specs.Calls.{givenRow}
 use Rattle.meaning.specs.Given.{namedBy}
+use Rattle.meaning.specs.Longest.{LongestCall, appliedTo, longest, longestProblem}
 use Rattle.masks.specs.declared.NodeSet.{NodeSet}
 use Rattle.places.specs.Places.{valueOf}
 use Rattle.places.specs.declared.Place.{Place}
@@ -45,9 +48,9 @@ use Rattle.matcher.specs.declared.Moved.{Moved}
 use Rattle.matcher.specs.declared.OpenSearch.{OpenSearch}
 use Rattle.matcher.specs.declared.Reply.{Reply}
 use Rattle.words.specs.Words.{placeOfWords}
-use Rattle.tivagyesz.specs.Exported.{CheckExport, SearchExport, StartExport, WriteExport}
-use Rattle.promises.specs.Called.{CCheckCalled, CSearchCalled, CStartCalled, CWriteCalled, CheckCalled, Ends, OpenCalled, OpenContract}
-use Rattle.promises.specs.Called.{OpenedCalled, OwnedCalled, PastLastCalled, RowAtCalled, SearchCalled, StartCalled, Unasked, WriteCalled}
+use Rattle.tivagyesz.specs.Exported.{CheckExport, LongestExport, SearchExport, StartExport, WriteExport}
+use Rattle.promises.specs.Called.{CCheckCalled, CLongestCalled, CSearchCalled, CStartCalled, CWriteCalled, CheckCalled, Ends}
+use Rattle.promises.specs.Called.{LongestCalled, OpenCalled, OpenContract, OpenedCalled, OwnedCalled, PastLastCalled, RowAtCalled, SearchCalled, StartCalled, Unasked, WriteCalled}
 use Rattle.promises.specs.Numbers.{checkAnswer, writeAnswer}
 use Rattle.promises.specs.Lists.{CCall, CEnd, CRun, CarriedCall, CarriedEnd, CarriedRun, KeptCall, KeptRun, cAllowed, cFound}
 use Rattle.promises.specs.Lists.{carriedAllowed, carriedFound, keptCalls}
@@ -73,12 +76,14 @@ pub record FirstDemand : Type 2 where
       → SearchCall s (valueOf (kept .place)) n (hostReply (searchedBy (kept′ .place) r))
   pub writes : (s : Bytes) (row : Place) (out out′ : Bytes) (r : Written) → WriteCalled s row out r out′
       → WriteCall s (valueOf row) out (writing.answerOf r) out′
+  pub writesLongest : (n : ℕ) (out out′ : Bytes) (r : Written) → LongestCalled n out r out′ → LongestCall n out (writing.answerOf r) out′
   pub checks : (s text : Bytes) (r : Checked) → CheckCalled s text r → checking.answerOf r ≡ checkCall s text
   pub startsInC : (s : Bytes) (place place′ : List ℕ) (r : ℕ) → CStartCalled s place r place′ → StartExport s place place′ r
   pub searchesInC : (s : Bytes) (n : ℕ) (place row place′ row′ : List ℕ) (r : ℕ) → CSearchCalled s place row n r place′ row′
       → SearchExport s n place row place′ row′ r
   pub writesInC : (s : Bytes) (row : List ℕ) (out out′ : Bytes) (n n′ r : ℕ) → CWriteCalled s row out n r out′ n′
       → WriteExport s row out n out′ n′ r
+  pub writesLongestInC : (n : ℕ) (out out′ : Bytes) (k k′ r : ℕ) → CLongestCalled n out k r out′ k′ → LongestExport n out k out′ k′ r
   pub checksInC : (s text : Bytes) (r : ℕ) → CCheckCalled s text r → CheckExport s text r
   -- "each call ends"
   pub ends : Ends
@@ -90,18 +95,22 @@ pub record FirstDemand : Type 2 where
   pub openStays : (s : Bytes) (kept kept′ : OpenSearch) (n k : ℕ) (r : Reply) → OpenCalled kept s n r kept′ → r .answer ≡ answers.Refused k
       → valueOf (kept′ .place) ≡ valueOf (kept .place)
   pub writeStays : (s : Bytes) (row : Place) (out out′ : Bytes) (k : ℕ) → WriteCalled s row out (written.Refused k) out′ → out′ ≡ out
+  pub longestStays : (n : ℕ) (out out′ : Bytes) (k : ℕ) → LongestCalled n out (written.Refused k) out′ → out′ ≡ out
   pub startStaysInC : (s : Bytes) (place place′ : List ℕ) (r : ℕ) → CStartCalled s place r place′ → 0 < r → place′ ≡ place
   pub searchStaysInC : (s : Bytes) (n : ℕ) (place row place′ row′ : List ℕ) (r : ℕ) → CSearchCalled s place row n r place′ row′ → r < 256
       → (place′ ≡ place) × (row′ ≡ row)
   pub writeStaysInC : (s : Bytes) (row : List ℕ) (out out′ : Bytes) (n n′ r : ℕ) → CWriteCalled s row out n r out′ n′ → 0 < r
       → (out′ ≡ out) × (n′ ≡ n)
+  pub longestStaysInC : (n : ℕ) (out out′ : Bytes) (k k′ r : ℕ) → CLongestCalled n out k r out′ k′ → 0 < r → (out′ ≡ out) × (k′ ≡ k)
 
--- A host's calls of the writer and the checker: bytes, a row as it is held, the buffer before, the answer, the buffer after
+-- A host's calls of the writer and the checker: bytes, a row as it is held, the buffer before, the answer, the buffer after; and of T-13's
+-- writer, by the number of nodes
 pub record Interface : Type 1 where
   pub Held : Type 0
   pub value : Held → PlaceValue
   pub Writing : Bytes → Held → Bytes → Answer ℕ → Bytes → Type 0
   pub Checking : Bytes → Bytes → Answer Bool → Type 0
+  pub Longest : ℕ → Bytes → Answer ℕ → Bytes → Type 0
 
 abbrev pub inRattle : Interface
 inRattle = record {
@@ -109,6 +118,7 @@ inRattle = record {
   value = valueOf;
   Writing = λ s row out a out′. (r : Written) × WriteCalled s row out r out′ × (a ≡ writing.answerOf r);
   Checking = λ s text a. (r : Checked) × CheckCalled s text r × (a ≡ checking.answerOf r);
+  Longest = λ n out a out′. (r : Written) × LongestCalled n out r out′ × (a ≡ writing.answerOf r);
 }
 
 abbrev pub inC : Interface
@@ -117,6 +127,7 @@ inC = record {
   value = placeOfWords;
   Writing = λ s row out a out′. (n n′ r : ℕ) × CWriteCalled s row out n r out′ n′ × (a ≡ writeAnswer r n′);
   Checking = λ s text a. (r : ℕ) × CCheckCalled s text r × (a ≡ checkAnswer r);
+  Longest = λ n out a out′. (k k′ r : ℕ) × CLongestCalled n out k r out′ k′ × (a ≡ writeAnswer r k′);
 }
 
 -- What a written text is read back as: the solution of its row
@@ -191,3 +202,21 @@ pub record ThirdDemand : Type 1 where
   -- a program in C carries its words, from what `matcher_start` wrote
   pub exported : (s : Bytes) (words place : List ℕ) (cs : List CCall) → All Byte s → CStartCalled s words 0 place → CRun s place cs
       → Owed inC s (cFound cs) (CEnd cs) (cAllowed cs)
+
+-- T-13
+pub record LongestList (host : Interface) : Type 1 where
+  -- "For n from 1 to 256 the tool writes the problem (P(X), e)": wherever there is room for any problem; and what is written is accepted
+  pub writes : (n : ℕ) (out out′ : Bytes) (a : Answer ℕ) → 1 ≤ n → n ≤ maxFaceNodes → largestProblem ≤ length out → host .Longest n out a out′
+      → (k : ℕ) × (a ≡ got k)
+  pub accepted : (n k : ℕ) (out out′ : Bytes) → host .Longest n out (got k) out′ → accept (take k out′) ≡ got (longestProblem n)
+  -- "where e has n nodes"
+  pub nodes : (n : ℕ) → 1 ≤ n → size (one (longest n)) ≡ n
+  -- "It has 2^(n-1) + 1 solutions": its full list has as many entries, and a list of calls with an End as many Founds
+  pub has : (n : ℕ) → 1 ≤ n → (full : List Listed) → IsFullList (longestProblem n) full → length full ≡ 2 ^ (n - 1) + 1
+  pub given : (n k : ℕ) (out out′ : Bytes) → host .Longest n out (got k) out′ → (rows : List (host .Held)) (ended : Type 0) (allowances : ℕ)
+      → Owed host (take k out′) rows ended allowances → ended → length rows ≡ 2 ^ (n - 1) + 1
+  -- "and every other expression of n nodes in such a problem has at most as many": whatever its depth and its numbers, so also where no
+  -- input can hold it; there is a full list
+  pub listed : (e : NamedTerm) → IsExpression (one e) → (full : List Listed) × IsFullList (appliedTo e) full
+  pub most : (e : NamedTerm) → IsExpression (one e) → (full : List Listed) → IsFullList (appliedTo e) full
+      → length full ≤ 2 ^ (size (one e) - 1) + 1
