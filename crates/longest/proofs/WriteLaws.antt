@@ -151,74 +151,79 @@ terms-wrote {n} {o} {y} {o′} h is-y e =
     (refl, is-y) refl e .1
     ∙ ap (λ (k : ℕ). termsBytes n ++ drop k o) (sym (length-append patternBytes (expressionBytes n)))
 
-pub expression-short : (n : ℕ) → Nodes n → 11 + length (expressionBytes n) < 65536
-unfolding maxFaceNodes
-expression-short n h = omega (arith, h .few, expression-most n (h .some))
+-- `problem_length`, of as many nodes as are written for
+pub length-one : {n : ℕ} → n ≡ 1 → 16 ≡ length (longestBytes n)
+length-one e = rw e (omega (arith, problem-length 1, symbols-length 1))
+
+pub length-several : {n : ℕ} → (n ≡ 1 → ⊥) → Nodes n → 14 + 5 * n - 5 ≡ length (longestBytes n)
+length-several {n} other h =
+    let some = h .some in
+    omega (arith, problem-length n, expression-length n (omega (arith, other)))
 
 -- `write_problem`: what it asks of its callees, and its return
-module _ {n expression : ℕ} {o : Bytes} (h : ProblemRoom n expression o) where
-  problem-long : 11 + expression ≤ length o
-  problem-long = omega (arith, h .fits .room, h .counted, problem-length n)
+module _ {n bytes : ℕ} {o : Bytes} (h : ProblemRoom n bytes o) where
+  terms-long : bytes ≡ 3 + length (termsBytes n)
+  terms-long = omega (arith, h .counted, ap length (problem-is n), field-length 7 (termsBytes n))
 
-  pub problem-head : 3 ≤ length o
-  problem-head = omega (arith, problem-long)
+  pub constraint-long : 3 ≤ bytes
+  constraint-long = omega (arith, terms-long)
 
-  pub problem-counted : 8 + expression < 65536
-  problem-counted = omega (arith, expression-short n (h .fits .nodes), h .counted)
+  pub problem-long : 3 ≤ length o
+  problem-long = omega (arith, constraint-long, h .fits .room)
+
+  problem-counted : bytes - 3 < 65536
+  unfolding maxFaceNodes
+  problem-counted = omega (arith, h .counted, problem-length n, expression-most n (h .fits .nodes .some), h .fits .nodes .few)
 
   pub terms-room : Room n (length (termsBytes n)) (take (length o - 3) (drop 3 o))
   terms-room =
       let long = problem-long in
       record {
         nodes = h .fits .nodes;
-        room = omega (arith, h .counted, length-append patternBytes (expressionBytes n), part-length 3 (length o) o (omega arith) (omega arith));
+        room = omega (arith, terms-long, h .fits .room, part-length 3 (length o) o (omega arith) (omega arith));
       }
 
   pub constraint-head : (y : Bytes) → length y ≡ length (take (length o - 3) (drop 3 o))
-      → HeadRoom (8 + expression) (putMid 3 (length o - 3) o y)
-  constraint-head y kept = head-room (8 + expression) o y problem-head problem-counted kept
+      → HeadRoom (bytes - 3) (putMid 3 (length o - 3) o y)
+  constraint-head y kept = head-room (bytes - 3) o y problem-long problem-counted kept
 
   pub problem-wrote : {y o′ : Bytes} → y ≡ over (termsBytes n) (take (length o - 3) (drop 3 o))
-      → o′ ≡ 7 ∷ (word (8 + expression) ++ drop 3 (putMid 3 (length o - 3) o y)) → o′ ≡ over (longestBytes n) o
+      → o′ ≡ 7 ∷ (word (bytes - 3) ++ drop 3 (putMid 3 (length o - 3) o y)) → o′ ≡ over (longestBytes n) o
   problem-wrote {y} {o′} is-y e =
-      let long = problem-long in
-      field-wrote 7 (8 + expression) (termsBytes n) o y o′ (omega (arith, h .counted, length-append patternBytes (expressionBytes n))) (omega arith) is-y e
+      field-wrote 7 (bytes - 3) (termsBytes n) o y o′ (omega (arith, terms-long)) problem-long is-y e
       ∙ ap (λ (b : Bytes). over b o) (sym (problem-is n))
 
 -- `write_longest`: n is among those that are written for, and its returns
-tested : (n : ℕ) {outside : Bool} → outside ≡ (ltb n 1 || ltb maxFaceNodes n) → outside ≡ false → (ltb n 1 ≡ false) × (ltb maxFaceNodes n ≡ false)
-tested n is e = or-false (ltb n 1) (ltb maxFaceNodes n) (sym is ∙ e)
-
-pub inside : (n : ℕ) {outside : Bool} → outside ≡ (ltb n 1 || ltb maxFaceNodes n) → outside ≡ false → Nodes n
+inside : (n : ℕ) {outside : Bool} → outside ≡ (ltb n 1 || ltb maxFaceNodes n) → outside ≡ false → Nodes n
 inside n is e =
-    let (low, high) = tested n is e in
+    let (low, high) = or-false (ltb n 1) (ltb maxFaceNodes n) (sym is ∙ e) in
     record { some = ltb-false n 1 low; few = ltb-false maxFaceNodes n high }
 
-module _ (n : ℕ) (o : Bytes) {outside : Bool} (is : outside ≡ (ltb n 1 || ltb maxFaceNodes n)) where
+module _ (n bytes : ℕ) (o : Bytes) {outside : Bool} (is : outside ≡ (ltb n 1 || ltb maxFaceNodes n)) where
   pub outside-refused : outside ≡ true → LongestCall n o (refused 28) o
   unfolding longestInto
   outside-refused e =
       let a : longestInto o n ≡ refused 28 = choose-true _ _ (sym is ∙ e) in
       record { answers = sym (ap lengthOf a); leaves = sym (ap (bufferAfter o) a) }
 
-  module _ {expression : ℕ} (within : outside ≡ false) (counted : expression ≡ length (expressionBytes n)) where
-    long : length (longestBytes n) ≡ 11 + expression
-    long = omega (arith, counted, problem-length n)
+  module _ (within : outside ≡ false) (counted : Nodes n → bytes ≡ length (longestBytes n)) where
+    long : bytes ≡ length (longestBytes n)
+    long = counted (inside n is within)
 
-    pub short-refused : length o < 11 + expression → LongestCall n o (refused 29) o
+    pub short-refused : length o < bytes → LongestCall n o (refused 29) o
     unfolding longestInto
     short-refused h =
         let a : longestInto o n ≡ refused 29 =
         choose-false _ _ (sym is ∙ within) ∙ choose-true _ _ (ltb-yes (length o) (length (longestBytes n)) (omega (arith, long))) in
         record { answers = sym (ap lengthOf a); leaves = sym (ap (bufferAfter o) a) }
 
-    module _ (room : 11 + expression ≤ length o) where
-      pub problem-room : ProblemRoom n expression o
-      problem-room = record { fits = record { nodes = inside n is within; room = omega (arith, long) }; counted = counted }
+    module _ (room : bytes ≤ length o) where
+      pub problem-room : ProblemRoom n bytes o
+      problem-room = record { fits = record { nodes = inside n is within; room = room }; counted = long }
 
-      pub longest-written : {o′ : Bytes} → o′ ≡ over (longestBytes n) o → LongestCall n o (got (11 + expression)) o′
+      pub longest-written : {o′ : Bytes} → o′ ≡ over (longestBytes n) o → LongestCall n o (got bytes) o′
       unfolding longestInto
       longest-written e =
           let a : longestInto o n ≡ got (longestBytes n) =
           choose-false _ _ (sym is ∙ within) ∙ choose-false _ _ (ltb-no (length o) (length (longestBytes n)) (omega (arith, long))) in
-          record { answers = ap got (sym long) ∙ sym (ap lengthOf a); leaves = e ∙ sym (ap (bufferAfter o) a) }
+          record { answers = ap got long ∙ sym (ap lengthOf a); leaves = e ∙ sym (ap (bufferAfter o) a) }

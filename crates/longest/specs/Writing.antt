@@ -3,7 +3,7 @@
 --   Nodes           "n from 1 to 256"
 --   ..Bytes         what is written
 --   Room            what writing for n asks of a buffer: room for so many bytes
---   ProblemRoom     the same for the whole problem, whose expression's length is known
+--   ProblemRoom     the same for the whole problem, which has so many
 --   WritesLongest   the answer for any n, with the whole buffer
 use mathlib.Core.Path.{_≡_}
 use Prim.Native.Nat.{ℕ, _≤_}
@@ -38,9 +38,9 @@ pub record Room (n bytes : ℕ) (buffer : Bytes) : Type 0 where
   pub nodes : Nodes n
   pub room : bytes ≤ length buffer
 
-pub record ProblemRoom (n expression : ℕ) (buffer : Bytes) : Type 0 where
-  pub fits : Room n (length (longestBytes n)) buffer
-  pub counted : expression ≡ length (expressionBytes n)
+pub record ProblemRoom (n bytes : ℕ) (buffer : Bytes) : Type 0 where
+  pub fits : Room n bytes buffer
+  pub counted : bytes ≡ length (longestBytes n)
 
 abbrev pub WritesLongest : ℕ → Bytes → Bytes → Written → Type 0
 WritesLongest n before after r = LongestCall n before (answerOf r) after

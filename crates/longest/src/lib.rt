@@ -52,14 +52,6 @@ fn write_symbols(m: usize, out: &mut [u8])
     }
 }
 
-// How many bytes the expression has.
-fn expression_length(n: usize) -> usize
-    requires { ⌜ Nodes n ⌝ }
-    ensures { λ r. ⌜ r ≡ length (expressionBytes n) ⌝ }
-{
-    if n == 1 { SYMBOL } else { HEAD + SYMBOL * (n - 1) }
-}
-
 // "for n = 1 a symbol, else an application of n - 1 equal symbols": the symbols, and then the head before them.
 fn write_expression(n: usize, out: &mut [u8])
     requires { ⌜ Room n (length (expressionBytes n)) (now out) ⌝ }
@@ -82,35 +74,44 @@ fn write_terms(n: usize, out: &mut [u8])
     put(b"\x06\x00\x05\x00\x05\x00\x01\x01", out);
 }
 
-// The constraint, whose expression has so many bytes: its terms, and then the head before them.
-fn write_problem(n: usize, expression: usize, out: &mut [u8])
-    requires { ⌜ ProblemRoom n expression (now out) ⌝ }
+// The constraint, which has so many bytes: its terms, and then the head before them.
+fn write_problem(n: usize, length: usize, out: &mut [u8])
+    requires { ⌜ ProblemRoom n length (now out) ⌝ }
     ensures { λ _. ⌜ now (out .exit) ≡ over (longestBytes n) (now (out .entry)) ⌝ }
 {
     write_terms(n, &mut out[HEAD..]);
-    write_head(CONSTRAINT, PATTERN + expression, out);
+    write_head(CONSTRAINT, length - HEAD, out);
+}
+
+// How many bytes the problem for n nodes has: n is any number here, since 28 comes before 29.
+fn problem_length(n: u32) -> usize
+    ensures { λ r. ⌜ (Nodes n → r ≡ length (longestBytes n)) ⌝ }
+{
+    if n == 1 {
+        return HEAD + PATTERN + SYMBOL;
+    }
+    HEAD + PATTERN + HEAD + SYMBOL * n as usize - SYMBOL
 }
 
 // "28 when n is outside 1 to 256"
-fn is_outside(n: usize) -> bool
+fn is_outside(n: u32) -> bool
     ensures { λ r. ⌜ r ≡ (ltb n 1 || ltb maxFaceNodes n) ⌝ }
 {
-    n < 1 || n > NodeSet::ROOM
+    n < 1 || n as usize > NodeSet::ROOM
 }
 
 // The problem for n nodes at the buffer's front: no later byte changes, and on a refusal none does.
 pub fn write_longest(n: u32, out: &mut [u8]) -> Written
     ensures { λ r. ⌜ WritesLongest n (now (out .entry)) (now (out .exit)) r ⌝ }
 {
-    let nodes = n as usize;
-    if is_outside(nodes) {
+    let length = problem_length(n);
+    let outside = is_outside(n);
+    if outside {
         return Written::Refused(OUTSIDE);
     }
-    let expression = expression_length(nodes);
-    let length = HEAD + PATTERN + expression;
     if out.len() < length {
         return Written::Refused(BUFFER_TOO_SHORT);
     }
-    write_problem(nodes, expression, out);
+    write_problem(n as usize, length, out);
     Written::Wrote(length)
 }

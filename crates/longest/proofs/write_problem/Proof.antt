@@ -1,15 +1,14 @@
 -- `write_problem` meets its contract: the terms, and then the head before them.
-use Rattle.longest.proofs.WriteLaws.{constraint-head, problem-counted, problem-head, problem-wrote, terms-room}
-use native.Mathlib.Omega.{arith}
+use Rattle.longest.proofs.WriteLaws.{constraint-head, constraint-long, problem-long, problem-wrote, terms-room}
 use borrow.Author.Needs.{needs}
 use Rattle.longest.proofs.write_problem.Statement.{statement}
 use Rattle.longest.proofs.write_problem.Tie as tie
 
 sub-write-terms : tie.Need-sub-write-terms
-sub-write-terms c = problem-head (c .before .pre)
+sub-write-terms c = problem-long (c .before .pre)
 
 part-write-terms-start : tie.Need-part-write-terms-start
-part-write-terms-start c = problem-head (c .before .pre)
+part-write-terms-start c = problem-long (c .before .pre)
 
 part-write-terms-end : tie.Need-part-write-terms-end
 part-write-terms-end c = search needs
@@ -17,8 +16,8 @@ part-write-terms-end c = search needs
 write-terms-requires : tie.Need-write-terms-requires
 write-terms-requires c κs = terms-room (c .before .before .pre)
 
-add-write-head : tie.Need-add-write-head
-add-write-head c = omega (arith, problem-counted (c .before .before .before .before .before .pre))
+sub-write-head : tie.Need-sub-write-head
+sub-write-head c = constraint-long (c .before .before .before .before .before .pre)
 
 write-head-requires : tie.Need-write-head-requires
 write-head-requires c κs =
@@ -42,7 +41,7 @@ write-problem-spec =
     part-write-terms-start
     part-write-terms-end
     write-terms-requires
-    add-write-head
+    sub-write-head
     write-head-requires
     same-length
     returns)
