@@ -8,8 +8,8 @@ use crate::term::Term;
 
 /// One field: the head, made from the content that is already there.
 ///
-/// All that is written was read from at most 4,096 bytes, so that the length
-/// has room in its two bytes.
+/// All that is written was read from at most 4,096 bytes, or is T-13's problem,
+/// which has at most 1,289, so that the length has room in its two bytes.
 pub fn field(tag: u8, content: &[u8]) -> Vec<u8> {
     let mut bytes = vec![tag];
     bytes.extend((content.len() as u16).to_be_bytes());

@@ -5,8 +5,8 @@
 //! both ways and T-10 lets faces have 256 nodes, by the Huet–Lang procedure of
 //! document 001 on named terms, and is there to be compared with another
 //! matcher. By request T-02 a comparison of two subexpressions says how far it
-//! went, and by T-08 equal ones have the same number. Errors are the documents'
-//! refusal numbers.
+//! went, and by T-08 equal ones have the same number; by T-13 it writes the
+//! problem with the longest list. Errors are the documents' refusal numbers.
 
 #![forbid(unsafe_code)]
 #![warn(missing_docs)]
@@ -17,6 +17,7 @@ mod check;
 mod compare;
 mod encode;
 mod faces;
+mod longest;
 mod matches;
 mod nodes;
 mod problem;
@@ -34,6 +35,7 @@ mod text;
 mod tests;
 
 pub use compare::Compared;
+pub use longest::longest;
 pub use problem::{Problem, Solution};
 pub use row::{Choice, Row};
 

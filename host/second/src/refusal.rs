@@ -1,6 +1,6 @@
 //! The refusals, by document 01's table "Where each check is made", 25 by
-//! request T-05 and 27 by T-07. Request T-09: "Refusal 12 is withdrawn and its
-//! number stays unused." T-10: "refusal 14 now begins at 257".
+//! request T-05, 27 by T-07, 28 and 29 by T-13. Request T-09: "Refusal 12 is
+//! withdrawn and its number stays unused." T-10: "refusal 14 now begins at 257".
 
 /// 1: the input is over 4,096 bytes.
 pub const INPUT_TOO_LONG: u8 = 1;
@@ -40,3 +40,7 @@ pub const BAD_TEXT: u8 = 20;
 pub const SPELLED_TOO_WIDE: u8 = 25;
 /// 27: a field's number in a text is not above the one before it.
 pub const NOT_RISING: u8 = 27;
+/// 28: the number of nodes is outside 1 to 256.
+pub const NODES_OUT_OF_RANGE: u8 = 28;
+/// 29: the buffer is shorter than the problem, checked after 28.
+pub const NO_ROOM_FOR_PROBLEM: u8 = 29;

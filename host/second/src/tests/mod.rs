@@ -4,6 +4,7 @@ mod checker;
 mod compared;
 mod examples;
 mod labels;
+mod longest;
 mod naming;
 mod notation;
 mod numbered;
