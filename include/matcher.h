@@ -21,7 +21,7 @@
  *
  * Every function takes any bytes, words and buffers, and answers a number: MATCHER_OK, an answer of 256 or more, or a refusal. Of several
  * refusals that apply the first is given, in the order in which the function's description names them. After a refusal no buffer is changed.
- * Every call takes the problem anew and keeps nothing, so that calls may run side by side, in any thread. None allocates memory. A
+ * A call that takes a problem takes it anew, and none keeps anything, so that calls may run side by side, in any thread. None allocates memory. A
  * thread with 192 KB of stack is enough: in tests none took more than 108.
  *
  * The caller owes what C cannot check:
@@ -39,7 +39,7 @@ extern "C" {
 #endif
 
 /* Of this header. It rises whenever a number, a layout or a function in it changes. */
-#define MATCHER_VERSION 2
+#define MATCHER_VERSION 3
 
 /* Fields. A field is a tag, 1 byte; the length of its content, 2 bytes, high byte first; and its content:
 
@@ -90,7 +90,7 @@ extern "C" {
    those after the 33 are neither read nor changed. */
 #define MATCHER_PLACE_WORDS 33
 
-/* Done: what matcher_start and matcher_write answer when they do not refuse. */
+/* Done: what matcher_start, matcher_write and matcher_longest answer when they do not refuse. */
 #define MATCHER_OK 0
 
 /* Answers of matcher_search. */
@@ -102,7 +102,7 @@ extern "C" {
 #define MATCHER_YES 259
 #define MATCHER_NO 260
 
-/* Refusals of a problem, by every function: the first that is met in reading, 1 to 11 or 25, then 13, then 14. There is no 12: a problem in
+/* Refusals of a problem, by every function that takes one: the first that is met in reading, 1 to 11 or 25, then 13, then 14. There is no 12: a problem in
    which a metavariable stands both as a function and alone is accepted, and has no rows, so that its search ends at once and no text
    passes. */
 #define MATCHER_PROBLEM_TOO_LONG 1
@@ -128,6 +128,8 @@ extern "C" {
 #define MATCHER_TEXT_TOO_LONG 19
 #define MATCHER_TEXT_MALFORMED 20
 #define MATCHER_TEXT_OUT_OF_ORDER 27
+#define MATCHER_NODES_OUT_OF_RANGE 28
+#define MATCHER_PROBLEM_BUFFER_TOO_SHORT 29
 
 /* What a refusal means, in words; of a number that is no refusal it says so. */
 static inline const char *matcher_meaning(uint32_t refusal) {
@@ -154,6 +156,8 @@ static inline const char *matcher_meaning(uint32_t refusal) {
         return "the text is not values, bodies and open metavariables with their contents, at most 32 deep and numbered at most 31";
     case MATCHER_SYMBOL_TOO_WIDE: return "a symbol's number below 65,536 has four bytes";
     case MATCHER_TEXT_OUT_OF_ORDER: return "a metavariable's number in the text is not above the one before it";
+    case MATCHER_NODES_OUT_OF_RANGE: return "the number of nodes is not from 1 to 256";
+    case MATCHER_PROBLEM_BUFFER_TOO_SHORT: return "the buffer is shorter than the problem";
     default: return "no refusal has this number";
     }
 }
@@ -183,6 +187,12 @@ uint32_t matcher_write(const uint8_t *problem, size_t len, const uint64_t *row, 
    wrong or missing metavariable is a no. Refused: 1 to 14 or 25; 19 a text over 8,192 bytes; 20 a malformed one; 27 one whose numbers do
    not rise. */
 uint32_t matcher_check(const uint8_t *problem, size_t len, const uint8_t *text, size_t text_len);
+
+/* The problem with the longest list for n nodes at the front of `out`, its length in `*written`, and no byte of `out` after it changed: P(X)
+   shall equal a symbol, for n = 1, or an application of n - 1 equal symbols; P, X and the symbol are 0, 1 and 0. It has 2^(n-1) + 1
+   solutions, and P(X) against any other expression of n nodes has at most as many. With MATCHER_LARGEST_PROBLEM bytes there is room for it.
+   MATCHER_OK, or refused: 28 if n is not from 1 to 256; 29 if `out` is too short. */
+uint32_t matcher_longest(uint32_t n, uint8_t *out, size_t out_len, size_t *written);
 
 #ifdef __cplusplus
 }

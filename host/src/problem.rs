@@ -76,6 +76,35 @@ impl Problem {
         Problem::new(&bytes)
     }
 
+    /// The problem with the longest list for this number of nodes: P(X), `?0{?1}`, against symbol 0, or from two nodes on
+    /// against an application of equal symbols 0. It has 2^(n-1) + 1 solutions, and P(X) against any other expression of n
+    /// nodes has at most as many: so this is how long a list can take that is cut off by allowances.
+    ///
+    /// ```
+    /// use matcher::{Problem, Refusal, Term};
+    ///
+    /// let three = Problem::longest(3)?;
+    /// let expression = Term::application([Term::symbol(0), Term::symbol(0)]);
+    /// assert_eq!(three, Problem::of([(Term::function(0, Term::metavariable(1)), expression)])?);
+    /// assert_eq!(three.search().count(), 5);
+    /// assert_eq!(Problem::longest(257), Err(Refusal::NodesOutOfRange));
+    /// # Ok::<(), Refusal>(())
+    /// ```
+    ///
+    /// # Errors
+    /// [`Refusal::NodesOutOfRange`], if there are not from 1 to [`MAX_FACE_NODES`](crate::MAX_FACE_NODES) nodes.
+    ///
+    /// # Panics
+    /// Only if the proved library answers what it is proved not to answer.
+    pub fn longest(nodes: u32) -> Result<Problem, Refusal> {
+        let mut bytes = [0; LARGEST_PROBLEM];
+        let mut length = 0;
+        match raw::longest(nodes, &mut bytes, &mut length) {
+            raw::OK => Problem::new(&bytes[..length]),
+            other => Err(refused(other)),
+        }
+    }
+
     /// Its bytes.
     #[must_use]
     pub fn bytes(&self) -> &[u8] {

@@ -1,7 +1,7 @@
 //! The functions of the proved library as they stand in `include/matcher.h`, with slices in place of pointers.
 //!
 //! Every function takes any bytes, words and buffers, and answers a number: 0 or one from 256 on, or else a refusal, 1 to
-//! 20 but for 12, 25 or 27 ([`Refusal`](crate::Refusal)). After a refusal no buffer is changed. A host that has a
+//! 20 but for 12, 25, or 27 to 29 ([`Refusal`](crate::Refusal)). After a refusal no buffer is changed. A host that has a
 //! [`Problem`](crate::Problem) needs none of this; it is here for programs that keep places and rows in their own way.
 
 /// The largest problem that is accepted, in bytes.
@@ -36,7 +36,7 @@ pub const SET_WORDS: usize = MAX_FACE_NODES / u64::BITS as usize;
 /// the last. A slice may have more: the place stands at its front, and later words are neither read nor changed.
 pub const PLACE_WORDS: usize = SET_WORDS * MAX_FUNCTIONS + 1;
 
-/// Done: what [`start`] and [`write()`] answer when they do not refuse.
+/// Done: what [`start`], [`write()`] and [`longest`] answer when they do not refuse.
 pub const OK: u32 = 0;
 
 /// [`search`]: the first solution row at or after the place.
@@ -75,6 +75,7 @@ extern "C" {
         written: *mut usize,
     ) -> u32;
     fn matcher_check(problem: *const u8, len: usize, text: *const u8, text_len: usize) -> u32;
+    fn matcher_longest(n: u32, out: *mut u8, out_len: usize, written: *mut usize) -> u32;
 }
 
 /// The start of the problem into `place`. [`OK`], or refused: 1 to 14 or 25; 18 where `place` has fewer than [`PLACE_WORDS`].
@@ -129,4 +130,13 @@ pub fn write(problem: &[u8], row: &[u64], out: &mut [u8], written: &mut usize) -
 pub fn check(problem: &[u8], text: &[u8]) -> u32 {
     // SAFETY: as in `start`.
     unsafe { matcher_check(problem.as_ptr(), problem.len(), text.as_ptr(), text.len()) }
+}
+
+/// The problem with the longest list for `n` nodes at the front of `out`, its length in `written`; no byte of `out` after it
+/// changes. [`OK`], or refused: 28 if `n` is not from 1 to 256; 29 if `out` is too short, which [`LARGEST_PROBLEM`] bytes
+/// never are. [`Problem::longest`](crate::Problem::longest) says which problem it is.
+#[must_use]
+pub fn longest(n: u32, out: &mut [u8], written: &mut usize) -> u32 {
+    // SAFETY: as in `start`.
+    unsafe { matcher_longest(n, out.as_mut_ptr(), out.len(), written) }
 }

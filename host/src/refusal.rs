@@ -5,8 +5,8 @@ use std::fmt;
 /// Makes the enum, its numbers and its words from one table, so that they cannot fall apart.
 macro_rules! refusals {
     ($($name:ident = $number:literal, $words:literal;)*) => {
-        /// Why a call is refused: document 01's table "Where each check is made", 25 by its change T-05 and 27 by T-07. A
-        /// refused call changes nothing. No refusal has the number 12, which T-09 withdrew: a problem in which a metavariable
+        /// Why a call is refused: document 01's table "Where each check is made", 25 by its change T-05, 27 by T-07, 28 and 29
+        /// by T-13. A refused call changes nothing. No refusal has the number 12, which T-09 withdrew: a problem in which a metavariable
         /// stands both as a function and alone is accepted, and has no solutions.
         ///
         /// Of several reasons that apply the first one met is given: a problem is read field by field from the front (1 to
@@ -55,6 +55,8 @@ refusals! {
     TextMalformed = 20, "the text is not values, bodies and open metavariables with their contents, at most 32 deep and numbered at most 31";
     SymbolTooWide = 25, "a symbol's number below 65,536 has four bytes";
     TextOutOfOrder = 27, "a metavariable's number in the text is not above the one before it";
+    NodesOutOfRange = 28, "the number of nodes is not from 1 to 256";
+    ProblemBufferTooShort = 29, "the buffer is shorter than the problem";
 }
 
 impl Refusal {
@@ -83,10 +85,10 @@ impl std::error::Error for Refusal {}
 mod tests {
     use super::Refusal;
 
-    /// The numbers are 1 to 20 without 12, 25 and 27, and each leads back to its refusal.
+    /// The numbers are 1 to 20 without 12, 25, and 27 to 29, and each leads back to its refusal.
     #[test]
     fn numbers_lead_back() {
-        let numbers: Vec<u32> = (1..=11).chain(13..=20).chain([25, 27]).collect();
+        let numbers: Vec<u32> = (1..=11).chain(13..=20).chain([25]).chain(27..=29).collect();
         let refused: Vec<u32> = Refusal::ALL.iter().map(|refusal| refusal.number().into()).collect();
         assert_eq!(refused, numbers);
         for number in 0..300 {

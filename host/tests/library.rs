@@ -251,3 +251,34 @@ fn a_refusal_says_what_it_means() {
         "refused 3: a field's length goes past the enclosing end"
     );
 }
+
+/// T-13's problem for three nodes, by hand: ?0{?1} shall equal (s0 s0).
+const THREE: [u8; 24] = [7, 0, 21, 6, 0, 5, 0, 5, 0, 1, 1, 3, 0, 10, 1, 0, 2, 0, 0, 1, 0, 2, 0, 0];
+
+#[test]
+fn the_longest_list_for_a_number_of_nodes() {
+    assert_eq!(Problem::longest(3).unwrap().bytes(), THREE);
+    for nodes in 1..=12 {
+        let problem = Problem::longest(nodes).unwrap();
+        assert_eq!(problem.search().count(), (1 << (nodes - 1)) + 1, "{nodes} nodes");
+    }
+    let texts: Vec<String> = Problem::longest(3)
+        .unwrap()
+        .search()
+        .map(|solution| [0, 1].map(|m| solution.given(m).unwrap().to_string()).join(", "))
+        .collect();
+    let expected = ["_, (s0 s0)", "(_ _), s0", "(_ s0), s0", "(s0 _), s0", "(s0 s0), open"];
+    assert_eq!(texts, expected);
+}
+
+#[test]
+fn every_number_of_nodes_from_1_to_256_has_a_problem() {
+    for nodes in 1..=256 {
+        let problem = Problem::longest(nodes).unwrap();
+        let first = problem.search().next().unwrap();
+        assert_eq!(first.holes(0), Some(vec![0]), "{nodes} nodes");
+    }
+    for nodes in [0, 257, 65_537, u32::MAX] {
+        assert_eq!(Problem::longest(nodes), Err(Refusal::NodesOutOfRange));
+    }
+}

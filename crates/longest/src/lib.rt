@@ -24,9 +24,9 @@ const PATTERN: usize = 8;
 
 const SYMBOL: usize = 5;
 
-const OUTSIDE: u8 = 28;
+const NODES_OUT_OF_RANGE: u8 = 28;
 
-const BUFFER_TOO_SHORT: u8 = 29;
+const PROBLEM_BUFFER_TOO_SHORT: u8 = 29;
 
 // Bytes at the buffer's front.
 fn put(bytes: &[u8], out: &mut [u8])
@@ -107,10 +107,10 @@ pub fn write_longest(n: u32, out: &mut [u8]) -> Written
     let length = problem_length(n);
     let outside = is_outside(n);
     if outside {
-        return Written::Refused(OUTSIDE);
+        return Written::Refused(NODES_OUT_OF_RANGE);
     }
     if out.len() < length {
-        return Written::Refused(BUFFER_TOO_SHORT);
+        return Written::Refused(PROBLEM_BUFFER_TOO_SHORT);
     }
     write_problem(n as usize, length, out);
     Written::Wrote(length)

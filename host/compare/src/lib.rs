@@ -1,8 +1,8 @@
 //! The proved matcher held against a second implementation, on the same problems.
 //!
 //! Each comparison is a function over a [`subject::Subject`], so that it can be tried on wrong matchers too ([`wrong`]):
-//! one that passes any of them would be no test. [`large`] has wrong ones of its own ([`wrong_sets`]). [`pairs`] and [`numbers`]
-//! are over what a program prints, with wrong ones of their own too ([`wrong_pairs`], [`wrong_numbers`]). [`textbook`] has no
+//! one that passes any of them would be no test. [`large`] has wrong ones of its own ([`wrong_sets`]), and so has [`longest`].
+//! [`pairs`] and [`numbers`] are over what a program prints, with wrong ones of their own too ([`wrong_pairs`], [`wrong_numbers`]). [`textbook`] has no
 //! second implementation: it tries everything that a definition speaks of.
 
 #![forbid(unsafe_code)]
@@ -17,6 +17,7 @@ pub mod generate;
 pub mod hex;
 pub mod large;
 pub mod lists;
+pub mod longest;
 pub mod nameless;
 pub mod nodes;
 pub mod numbers;

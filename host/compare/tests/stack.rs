@@ -162,6 +162,15 @@ fn in_little_stack(number: usize, problem: &[u8], texts: &[Vec<u8>]) -> Answers 
     running.join().expect("no call panics")
 }
 
+/// T-13's writer takes no problem.
+#[test]
+fn the_longest_problem_needs_little_stack() {
+    let thread = Builder::new().stack_size(STACK);
+    let write = || raw::longest(256, &mut [0; 1289], &mut 0);
+    let running = thread.spawn(write).expect("a thread starts");
+    assert_eq!(running.join().expect("no call panics"), OK);
+}
+
 #[test]
 fn every_entry_point_needs_little_stack() {
     let texts = texts();
