@@ -7,8 +7,7 @@ use lib.ListN.{length, take}
 use Rattle.meaning.specs.Basics.{_∈_}
 use Rattle.meaning.specs.Accept.{accept}
 use Rattle.meaning.specs.Search.{at, placeOf}
-use Rattle.meaning.proofs.Lists.{never}
-use Rattle.meaning.proofs.PlaceLaws.{mem-split}
+use Rattle.meaning.proofs.Lists.{mem-split, never}
 use Rattle.faces.specs.declared.first.Firsts.{Firsts}
 use Rattle.choosing.specs.Rows.{MaskRow, Steps}
 use Rattle.rows.specs.Rows.{Faced, StepsFrom, rowsOf}

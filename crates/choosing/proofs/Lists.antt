@@ -9,7 +9,7 @@ use native.Mathlib.Omega.{arith}
 use lib.ListN.{length, getElem?, replicate}
 use Rattle.meaning.specs.Basics.{each, _∈_, Distinct}
 use Rattle.meaning.specs.Rows.{product}
-use Rattle.meaning.proofs.Lists.{map-mem, never}
+use Rattle.meaning.proofs.Lists.{distinct-map, map-mem, never}
 use Rattle.meaning.proofs.Ordered.{fronted, fronted-mem}
 use Rattle.paths.proofs.WordLaws.{each-same}
 
@@ -31,16 +31,7 @@ split-once x (y ∷ xs) ys [] vs d e =
     absurd (d .0 (let q : y ≡ x = cc in rw q (Memᴰ·append-right xs (List·Memᴰ·head refl))))
 split-once x (y ∷ xs) ys (u ∷ us) vs d e = split-once x xs ys us vs (d .1) (let q : xs ++ (x ∷ ys) ≡ us ++ (x ∷ vs) = cc in q)
 
--- No element twice: in a list of images, in two lists joined, and with each element of one list before each list of another
-pub distinct-map : {A B : Type 0} (f : A → B) (xs : List A) → ((x y : A) → x ∈ xs → y ∈ xs → f x ≡ f y → x ≡ y) → Distinct xs → Distinct (map f xs)
-distinct-map f [] h d = tt
-distinct-map {A} f (x ∷ xs) h d = (
-  λ m.
-      let (y, i, e) = map-mem f (f x) xs m in
-      d .0 (subst (λ (z : A). z ∈ xs) (sym (h x y (List·Memᴰ·head refl) (List·Memᴰ·tail i) e)) i),
-  distinct-map f xs (λ y z i j. h y z (List·Memᴰ·tail i) (List·Memᴰ·tail j)) (d .1),
-)
-
+-- No element twice: in two lists joined, and with each element of one list before each list of another
 distinct-append : {A : Type 0} (xs ys : List A) → Distinct xs → Distinct ys → ((x : A) → x ∈ xs → x ∈ ys → ⊥) → Distinct (xs ++ ys)
 distinct-append [] ys d e h = e
 distinct-append (x ∷ xs) ys d e h = (

@@ -14,7 +14,7 @@ use Rattle.meaning.specs.Basics.{_∈_, Distinct}
 use Rattle.meaning.specs.Choice.{Marks}
 use Rattle.meaning.specs.Search.{at, placeOf}
 use Rattle.meaning.specs.PlaceValue.{maskOf}
-use Rattle.meaning.proofs.Lists.{never, choose-true, choose-false, map-mem, mem-map}
+use Rattle.meaning.proofs.Lists.{choose-false, choose-true, distinct-map, map-mem, mem-map, never}
 use Rattle.meaning.proofs.PlaceLaws.{OnePlace, mask-injective}
 use Rattle.tokens.specs.Key as table
 use Rattle.masks.proofs.Cases.{lt-or-ge}
@@ -25,7 +25,6 @@ use Rattle.paths.proofs.PathLaws.{paths-are, paths-distinct}
 use Rattle.paths.proofs.PathOrder.{paths-first, paths-last, paths-next}
 use Rattle.choosing.specs.FaceNodes.{Faces, nodesFrom, sizeFrom}
 use Rattle.choosing.specs.Rows.{MaskRow, Steps, behind, choicesAt, choicesFrom, firstAt, firstFrom, maskRows}
-use Rattle.choosing.proofs.Lists.{distinct-map}
 use Rattle.choosing.proofs.FaceNodes.{nodes-long}
 use Rattle.choosing.proofs.Stepping.{Carried, Fresh, all-are, all-once, allFrom, behind-is, carried-end, carried-step, first-of-all}
 use Rattle.choosing.proofs.Stepping.{firsts-at, firstsFrom, fresh-all, rows-after, rowsAfter}

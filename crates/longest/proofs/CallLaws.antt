@@ -5,7 +5,6 @@
 use mathlib.Core.Path.{_≡_, refl, ap, sym, _∙_}
 use Prim.Native.Nat.{ℕ, _≤_}
 use mathlib.Core.Bool.{Bool, true, false, _||_}
-use mathlib.Core.List.{_++_}
 use native.Mathlib.Omega.{arith}
 use borrow.Author.Tests.{ltb-false}
 use lib.ListN.{length, drop, take}
@@ -26,7 +25,8 @@ pub record Delivered (n k : ℕ) (out : Bytes) : Type 0 where
 
 pub delivered : {n k : ℕ} {buffer after : Bytes} → LongestCall n buffer (got k) after → Delivered n k after
 unfolding longestInto
-delivered {n} {k} {buffer} {after} c = go (ltb n 1 || ltb maxFaceNodes n) refl (ltb (length buffer) (length (longestBytes n))) (c .answers) (c .leaves)
+delivered {n} {k} {buffer} {after} c =
+    go (ltb n 1 || ltb maxFaceNodes n) refl (ltb (length buffer) (length (longestBytes n))) (c .answers) (c .leaves)
   where
     go : (outside : Bool) → (ltb n 1 || ltb maxFaceNodes n) ≡ outside → (short : Bool)
         → got k ≡ lengthOf (choose outside (refused 28) (choose short (refused 29) (got (longestBytes n))))

@@ -7,7 +7,7 @@ use mathlib.Core.Path.{_≡_, refl, ap, ap₂, _∙_, subst, sym}
 use mathlib.Core.Logic.{⊎-elim}
 use Prim.Native.Nat.{ℕ, zero, suc, _+_, _-_, _^_, _<_}
 use mathlib.Core.Bool.{true, false, true≢false}
-use mathlib.Core.List.{List, [], _∷_, map, List·Memᴰ·cases-cons, List·Memᴰ·head, List·Memᴰ·tail}
+use mathlib.Core.List.{List, [], _∷_, map, List·Memᴰ·cases-cons}
 use mathlib.Core.Option.{none, some}
 use native.Mathlib.Omega.{arith}
 use lib.ListN.{length, length-map}
@@ -16,17 +16,17 @@ use Rattle.meaning.specs.Term.{IsExpression, NamedTerm, Own, Term, Terms, Varia
 use Rattle.meaning.specs.Term.{symbol}
 use Rattle.meaning.specs.Scope.{nameless, namelessTerm}
 use Rattle.meaning.specs.Shift.{ClosedTerm, shiftTerm}
-use Rattle.meaning.specs.Filling.{Entry, Filling, argument, body, leftOpen, value, valueOr}
+use Rattle.meaning.specs.Problem.{Problem}
+use Rattle.meaning.specs.Filling.{Entry, Filling, body, leftOpen, value}
 use Rattle.meaning.specs.Solution.{Solution, hasHole}
 use Rattle.meaning.specs.Choice.{Marks, punch, punchTerm}
 use Rattle.meaning.specs.Choices.{allMarks}
 use Rattle.meaning.specs.Longest.{longest, longestProblem, symbols}
-use Rattle.meaning.proofs.Lists.{all-mem, by-test, choose-false, choose-true, eqb-other, map-mem, never, or-false}
+use Rattle.meaning.proofs.Lists.{all-mem, by-test, choose-false, choose-true, distinct-map, eqb-other, map-mem, never, or-false}
 use Rattle.meaning.proofs.ShiftLaws.{shift-closed-term}
 use Rattle.meaning.proofs.ViewLaws.{nameless-closed}
 use Rattle.meaning.proofs.Ordered.{Placed, allMarks-are}
 use Rattle.meaning.proofs.Punching.{blank, graft-eq, plugAll}
-use Rattle.longest.proofs.Distinct.{map-distinct}
 use Rattle.longest.proofs.SetCounts.{all-marks-count, all-marks-distinct, rootAlone}
 use Rattle.longest.proofs.Applied.{giving, solution-open, solution-valued}
 
@@ -87,7 +87,7 @@ longest-size m = ap (λ (t : NamedTerm). size (one t)) (longest-is m) ∙ (let e
 abbrev whole : ℕ → Term
 whole m = (own (top m), symbols m)
 
-pub resolved : (m : ℕ) → namelessTerm [] (longest (suc m)) ≡ whole m
+resolved : (m : ℕ) → namelessTerm [] (longest (suc m)) ≡ whole m
 resolved m = ap (namelessTerm []) (longest-is m) ∙ names m
   where
     names : (k : ℕ) → namelessTerm [] (own (top k), symbols k) ≡ whole k
@@ -137,15 +137,18 @@ pub fillings-distinct : (m : ℕ) → Distinct (fillings m)
 fillings-distinct m = (
   λ i. let (ms, k, e) = map-mem (belowFilling m) (rootFilling m) (allMarks 1 m) i in
       hole-other (top m) (punch ms (symbols m)) (ap (λ (σ : Filling). σ 0) e),
-  map-distinct (belowFilling m) (allMarks 1 m)
-  (λ ms ns i j e.
-  symbols-told ms ns m (allMarks-are 1 m ms .0 i .0) (allMarks-are 1 m ns .0 j .0)
-  (below-told (top m) (punch ms (symbols m)) (punch ns (symbols m)) (ap (λ (σ : Filling). σ 0) e)))
-  (all-marks-distinct m),
+  distinct-map (belowFilling m) (allMarks 1 m)
+      (λ ms ns i j e.
+      symbols-told ms ns m (allMarks-are 1 m ms .0 i .0) (allMarks-are 1 m ns .0 j .0)
+      (below-told (top m) (punch ms (symbols m)) (punch ns (symbols m)) (ap (λ (σ : Filling). σ 0) e)))
+      (all-marks-distinct m),
 )
 
--- .. are solutions
+-- .. and they are solutions
 module _ (m : ℕ) where
+  abbrev p : Problem
+  p = longestProblem (suc m)
+
   root-placed : (i : ℕ) → some i ∈ rootAlone m → i < 1
   root-placed i q = all-mem (Placed 1) (some i) (rootAlone m) (omega arith, blank-placed m) q
     where
@@ -153,34 +156,39 @@ module _ (m : ℕ) where
       blank-placed zero = tt
       blank-placed (suc k) = (tt, blank-placed k)
 
-  root-solves : Solution (longestProblem (suc m)) (rootFilling m)
+  root-solves : Solution p (rootFilling m)
   root-solves =
       solution-valued (longest (suc m)) (whole m) (resolved m) (longest-expression m) (rootAlone m) root-placed
       (whole m) (whole-expression m) (whole-closed m) refl (ap one (shift-closed-term 0 (whole m) (whole-closed m)))
 
-  below-solves : (ms : Marks) → ms ∈ allMarks 1 m → Solution (longestProblem (suc m)) (belowFilling m ms)
-  below-solves ms i = by-test (hasHole 0 (one (belowBody m ms))) valued opened
-    where
-      marks : All (Placed 1) ms
-      marks = allMarks-are 1 m ms .0 i .1
+  module _ (ms : Marks) (i : ms ∈ allMarks 1 m) where
+    marks : All (Placed 1) ms
+    marks = allMarks-are 1 m ms .0 i .1
 
-      placed : (k : ℕ) → some k ∈ (none ∷ ms) → k < 1
-      placed k q = all-mem (Placed 1) (some k) (none ∷ ms) (tt, marks) q
+    placed : (k : ℕ) → some k ∈ (none ∷ ms) → k < 1
+    placed k q = all-mem (Placed 1) (some k) (none ∷ ms) (tt, marks) q
 
-      valued : hasHole 0 (one (belowBody m ms)) ≡ true → Solution (longestProblem (suc m)) (belowFilling m ms)
-      valued has =
-          subst (λ (v : Entry Term). Solution (longestProblem (suc m)) (giving (belowBody m ms) v)) (sym (choose-true (value theSymbol) leftOpen has))
-          (solution-valued (longest (suc m)) (whole m) (resolved m) (longest-expression m) (none ∷ ms) placed
-          theSymbol (tt, tt, tt) (tt, tt, tt) has (top-filled _ ms m (symbols-filled _ ms m marks (λ e. refl))))
+    abbrev Solves : Entry Term → Type 0
+    Solves v = Solution p (giving (belowBody m ms) v)
 
-      opened : hasHole 0 (one (belowBody m ms)) ≡ false → Solution (longestProblem (suc m)) (belowFilling m ms)
-      opened lacks =
-          subst (λ (v : Entry Term). Solution (longestProblem (suc m)) (giving (belowBody m ms) v)) (sym (choose-false (value theSymbol) leftOpen lacks))
-          (solution-open (longest (suc m)) (whole m) (resolved m) (longest-expression m) (none ∷ ms) placed lacks
-          (top-filled _ ms m (symbols-filled _ ms m marks (λ e. absurd (true≢false (sym e ∙ or-false _ false lacks .0))))))
+    valued : hasHole 0 (one (belowBody m ms)) ≡ true → Solves (value theSymbol)
+    valued has =
+        solution-valued (longest (suc m)) (whole m) (resolved m) (longest-expression m) (none ∷ ms) placed
+        theSymbol (tt, tt, tt) (tt, tt, tt) has (top-filled _ ms m (symbols-filled _ ms m marks (λ e. refl)))
 
-  pub fillings-solve : (σ : Filling) → σ ∈ fillings m → Solution (longestProblem (suc m)) σ
+    opened : hasHole 0 (one (belowBody m ms)) ≡ false → Solves leftOpen
+    opened lacks =
+        solution-open (longest (suc m)) (whole m) (resolved m) (longest-expression m) (none ∷ ms) placed lacks
+        (top-filled _ ms m (symbols-filled _ ms m marks (λ e. absurd (true≢false (sym e ∙ or-false _ false lacks .0)))))
+
+    below-solves : Solution p (belowFilling m ms)
+    below-solves =
+        by-test (hasHole 0 (one (belowBody m ms)))
+        (λ h. subst Solves (sym (choose-true (value theSymbol) leftOpen h)) (valued h))
+        (λ h. subst Solves (sym (choose-false (value theSymbol) leftOpen h)) (opened h))
+
+  pub fillings-solve : (σ : Filling) → σ ∈ fillings m → Solution p σ
   fillings-solve σ i =
-      ⊎-elim (λ e. subst (Solution (longestProblem (suc m))) (sym e) root-solves)
-      (λ k. let (ms, j, e) = map-mem (belowFilling m) σ (allMarks 1 m) k in subst (Solution (longestProblem (suc m))) (sym e) (below-solves ms j))
+      ⊎-elim (λ e. subst (Solution p) (sym e) root-solves)
+      (λ k. let (ms, j, e) = map-mem (belowFilling m) σ (allMarks 1 m) k in subst (Solution p) (sym e) (below-solves ms j))
       (List·Memᴰ·cases-cons i)

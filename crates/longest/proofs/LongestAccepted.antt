@@ -1,15 +1,15 @@
 -- What is written for n from 1 to 256 is accepted, and read as T-13's problem.
-use mathlib.Core.Path.{_≡_, refl, ap, ap₂, sym, _∙_, subst}
-use Prim.Native.Nat.{ℕ, zero, suc, _+_, _*_, _≤_}
+use mathlib.Core.Path.{_≡_, refl, ap, sym, _∙_, subst}
+use Prim.Native.Nat.{ℕ, zero, suc, _≤_}
 use mathlib.Core.Bool.{Bool, true, false, _&&_, and-false, not}
-use mathlib.Core.List.{List, [], _∷_}
+use mathlib.Core.List.{List, []}
 use native.Mathlib.Omega.{arith}
 use lib.ListN.{length}
 use lib.Dec.{ltb}
 use Rattle.meaning.specs.Limits.{largestProblem, maxConstraints, maxDepth, maxFaceNodes, maxFunctions, metavariableCount}
 use Rattle.meaning.specs.Basics.{choose, every, isSome}
 use Rattle.meaning.specs.Term.{NamedTerm, Term, one, own, size, trees}
-use Rattle.meaning.specs.Scope.{enter, namelessLabel, namelessTerm}
+use Rattle.meaning.specs.Scope.{enter, namelessLabel}
 use Rattle.meaning.specs.Problem.{Problem, functions}
 use Rattle.meaning.specs.Read.{contextBelow, got, inExpression}
 use Rattle.meaning.specs.Face.{faces}

@@ -31,9 +31,6 @@ symbols-length (suc m) =
     omega (arith, ap length (symbol-more m), length-append theSymbol (encode (symbols m)), symbols-length m)
 
 -- The expression
-pub symbol-is : expressionBytes 1 ≡ encode (symbols 1)
-symbol-is = refl
-
 pub application-is : (n : ℕ) → 2 ≤ n → expressionBytes n ≡ field 3 (encode (symbols (n - 1)))
 unfolding encode
 application-is zero h = absurd (omega arith)

@@ -3,7 +3,7 @@
 --   applied-list   (P(X), e) has a full list, also where no input can hold e
 --   list-most      with at most 2^(n-1) + 1 entries, where e has n nodes
 --   longest-list   that of T-13's problem has as many
-use mathlib.Core.Path.{_≡_, refl, ap, sym, _∙_}
+use mathlib.Core.Path.{_≡_, ap}
 use Prim.Native.Nat.{ℕ, zero, suc, _+_, _-_, _^_, _≤_}
 use mathlib.Core.List.{List, [], map}
 use native.Mathlib.Omega.{arith}
@@ -17,10 +17,9 @@ use Rattle.meaning.specs.Rows.{rows}
 use Rattle.meaning.specs.FullList.{IsFullList, Listed}
 use Rattle.meaning.specs.Candidate.{candidate, fullList, solutionRows, solves}
 use Rattle.meaning.specs.Longest.{appliedTo, longest, longestProblem}
-use Rattle.meaning.proofs.Lists.{keep-length}
+use Rattle.meaning.proofs.Lists.{distinct-within, keep-length}
 use Rattle.meaning.proofs.ShiftLaws.{relabel-size}
 use Rattle.meaning.proofs.FullListLaws.{full-list-every, full-list-is, full-list-only}
-use Rattle.longest.proofs.Distinct.{distinct-within}
 use Rattle.longest.proofs.SetCounts.{choices-most}
 use Rattle.longest.proofs.Applied.{proper, rows-count}
 use Rattle.longest.proofs.EqualSymbols.{fillings, fillings-count, fillings-distinct, fillings-solve, longest-expression, longest-size}
@@ -42,8 +41,13 @@ module _ (e : NamedTerm) (x : IsExpression (one e)) where
       let nodes = relabel-size enter namelessLabel [] (one e) in
       let below : size (namelessTerm [] e .1) ≡ size (one e) - 1 = omega arith in
       let powers = ap (λ (n : ℕ). 2 ^ n) below in
-      omega (arith, ap length (full-list-only (appliedTo e) (proper e x) full isFull), listed-rows (appliedTo e), rows-count e,
-      choices-most (namelessTerm [] e))
+      omega (
+        arith,
+        ap length (full-list-only (appliedTo e) (proper e x) full isFull),
+        listed-rows (appliedTo e),
+        rows-count e,
+        choices-most (namelessTerm [] e),
+      )
 
 -- AS MANY
 pub longest-list : (n : ℕ) → 1 ≤ n → (full : List Listed) → IsFullList (longestProblem n) full → length full ≡ 2 ^ (n - 1) + 1

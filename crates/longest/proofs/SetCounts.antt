@@ -4,27 +4,26 @@
 --   choice-among    every choice is one of them
 --   choices-most    so a face of n nodes has at most 2^(n-1) + 1 choices
 use mathlib.Core.Path.{_≡_, refl, ap₂, sym, _∙_}
-use Prim.Native.Nat.{ℕ, zero, suc, _+_, _^_, _<_, _≤_}
-use mathlib.Core.List.{List, [], _∷_, _++_, map, append-nil, List·Memᴰ·head, List·Memᴰ·tail}
-use mathlib.Core.Option.{Option, none, some, Option·some-injective}
+use Prim.Native.Nat.{ℕ, zero, suc, _+_, _^_, _≤_}
+use mathlib.Core.List.{List, [], _∷_, _++_, map, List·Memᴰ·head, List·Memᴰ·tail}
+use mathlib.Core.Option.{none, some}
 use native.Mathlib.Omega.{arith}
 use lib.ListN.{length, length-append, length-map}
 use lib.Seq.{take-all}
-use Rattle.meaning.specs.Basics.{All, Distinct, _∈_}
+use Rattle.meaning.specs.Basics.{Distinct, _∈_}
 use Rattle.meaning.specs.Term.{Term, one, size}
 use Rattle.meaning.specs.Choice.{Choice, Earlier, Mark, Marks}
 use Rattle.meaning.specs.Choices.{allMarks, choices}
-use Rattle.meaning.proofs.Lists.{mem-all, mem-at, mem-map}
+use Rattle.meaning.proofs.Lists.{distinct-within, mem-all, mem-at, mem-map}
 use Rattle.meaning.proofs.Ordered.{Placed, allMarks-are, allMarks-ordered, earlier-strict, ordered-distinct}
 use Rattle.meaning.proofs.ChoiceLaws.{choices-are, choices-once}
 use Rattle.meaning.proofs.Punching.{blank}
 use Rattle.meaning.proofs.Apart.{choice-clear}
-use Rattle.longest.proofs.Distinct.{distinct-within}
 
 abbrev pub rootAlone : ℕ → Marks
 rootAlone m = some 0 ∷ blank m
 
-abbrev pub sets : ℕ → List Marks
+abbrev sets : ℕ → List Marks
 sets m = rootAlone m ∷ map (λ ms. none ∷ ms) (allMarks 1 m)
 
 pub all-marks-distinct : (m : ℕ) → Distinct (allMarks 1 m)
@@ -47,7 +46,7 @@ sets-count : (m : ℕ) → length (sets m) ≡ 2 ^ m + 1
 sets-count m = omega (arith, length-map (allMarks 1 m) (λ ms. none ∷ ms), all-marks-count m)
 
 -- EVERY CHOICE OF A FACE IS ONE OF THEM: below the root, if it is a hole, there is none
-pub choice-among : (e : Term) (ms : Marks) → Choice 1 e ms → ms ∈ sets (size (e .1))
+choice-among : (e : Term) (ms : Marks) → Choice 1 e ms → ms ∈ sets (size (e .1))
 choice-among e [] c = let l = c .long in absurd (omega arith)
 choice-among e (none ∷ ms) c =
     let l = c .long in

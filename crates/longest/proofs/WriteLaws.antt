@@ -1,6 +1,7 @@
--- What the functions that write leave in the buffer, over plain variables.
+-- What the functions that write ask of their callees and leave in the buffer, over plain variables; one part for each of them.
 --   put-next      one byte more
 --   Symbols       what the loop of `write_symbols` keeps: i symbols are written
+--   field-wrote   a field's content, written into the part after its head, and then the head
 use mathlib.Core.Path.{_≡_, refl, ap, sym, _∙_, subst}
 use Prim.Native.Nat.{ℕ, zero, suc, _+_, _-_, _*_, _<_, _≤_}
 use mathlib.Core.Bool.{Bool, true, false, _||_}
@@ -23,8 +24,10 @@ use Rattle.slices.proofs.Slices.{part-length}
 use Rattle.copying.specs.Fixed.{HeadRoom}
 use Rattle.copying.proofs.WriteLaws.{Part, headed, part-begins, part-ends, part-goes}
 use Rattle.longest.specs.Writing.{Nodes, ProblemRoom, Room, expressionBytes, over, patternBytes, termsBytes}
-use Rattle.longest.proofs.LongestBytes.{application-is, expression-length, expression-most, problem-is, problem-length, symbol-more, symbols-length, theSymbol}
+use Rattle.longest.proofs.LongestBytes.{application-is, expression-length, expression-most, problem-is, problem-length, symbol-more}
+use Rattle.longest.proofs.LongestBytes.{symbols-length, theSymbol}
 
+-- `put`
 put-at : (bytes o : Bytes) (i : ℕ) → i < length bytes → i < length o
     → set (take i bytes ++ drop i o) i (getD bytes i 0) ≡ take (suc i) bytes ++ drop (suc i) o
 put-at [] o i h l = absurd (omega arith)
@@ -68,7 +71,10 @@ module _ {m i : ℕ} {before out : Bytes} (w : Symbols m i before out) where
       is ∙ ap (λ (k : ℕ). encode (symbols m) ++ drop k before) long
 
   module _ (more : i < m) where
-    next-symbol : encode (symbols (m - i)) ≡ theSymbol ++ encode (symbols (m - (i + 1)))
+    abbrev later : Bytes
+    later = encode (symbols (m - (i + 1)))
+
+    next-symbol : encode (symbols (m - i)) ≡ theSymbol ++ later
     next-symbol =
         ap (λ (k : ℕ). encode (symbols k)) (let e : m - i ≡ suc (m - (i + 1)) = omega arith in e) ∙ symbol-more (m - (i + 1))
 
@@ -87,9 +93,9 @@ module _ {m i : ℕ} {before out : Bytes} (w : Symbols m i before out) where
         record {
           few = omega arith;
           same = same-len-mid (5 * i) (length out - 5 * i) out x kept ∙ w .same;
-          part = subst (λ (k : ℕ). Part (encode (symbols m)) (encode (symbols (m - (i + 1)))) k before (putMid (5 * i) (length out - 5 * i) out x))
-              (let e : 5 * i + 5 ≡ 5 * (i + 1) = omega arith in e)
-              (part-goes (w .part) theSymbol (encode (symbols (m - (i + 1)))) next-symbol (refl, is));
+          part =
+              subst (λ (k : ℕ). Part (encode (symbols m)) later k before (putMid (5 * i) (length out - 5 * i) out x))
+              (let e : 5 * i + 5 ≡ 5 * (i + 1) = omega arith in e) (part-goes (w .part) theSymbol later next-symbol (refl, is));
         }
 
 -- A field: its head before the content, which stands in the part after it
@@ -143,8 +149,8 @@ module _ {n : ℕ} {o : Bytes} (h : Room n (length (expressionBytes n)) o) where
         ∙ ap (λ (b : Bytes). over b o) (sym (application-is n several))
 
 -- The return of `write_terms`
-pub terms-wrote : {n : ℕ} {o y o′ : Bytes} → Room n (length (termsBytes n)) o → y ≡ over (expressionBytes n) (take (length o - 8) (drop 8 o))
-    → o′ ≡ over patternBytes (putMid 8 (length o - 8) o y) → o′ ≡ over (termsBytes n) o
+pub terms-wrote : {n : ℕ} {o y o′ : Bytes} → Room n (length (termsBytes n)) o
+    → y ≡ over (expressionBytes n) (take (length o - 8) (drop 8 o)) → o′ ≡ over patternBytes (putMid 8 (length o - 8) o y) → o′ ≡ over (termsBytes n) o
 terms-wrote {n} {o} {y} {o′} h is-y e =
     let room = h .room in
     headed patternBytes (expressionBytes n) o y o′ 8 (length (expressionBytes n)) (8 + length (expressionBytes n)) refl (omega arith)

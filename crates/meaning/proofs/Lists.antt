@@ -8,7 +8,7 @@ use mathlib.Core.List.{List·Memᴰ·append-cases, Memᴰ·append-left, Memᴰ·
 use mathlib.Core.Option.{Option, none, some}
 use native.Mathlib.Nat.{suc-add}
 use native.Mathlib.Omega.{arith}
-use lib.ListN.{length, drop, getElem?}
+use lib.ListN.{length, drop, getElem?, length-append}
 use lib.Dec.{eqb, eqb→eq, eqb-refl, T}
 use Rattle.meaning.specs.Basics.{choose, keep, each, countFrom, upTo, isIn, every, All, _∈_, Distinct, isSome, join, guard, AllO}
 
@@ -219,6 +219,18 @@ pub each-append : {A B : Type 0} (f : A → List B) (xs ys : List A) → each f 
 each-append f [] ys = refl
 each-append {A} {B} f (x ∷ xs) ys = ap (λ (r : List B). f x ++ r) (each-append f xs ys) ∙ sym (append-assoc (f x) (each f xs) (each f ys))
 
+-- What stands before an element, and after it
+pub mem-split : {A : Type 0} (x : A) (xs : List A) → x ∈ xs → (before later : List A) × (xs ≡ before ++ (x ∷ later))
+mem-split x [] m = absurd (List·Memᴰ·not-nil m)
+mem-split {A} x (y ∷ ys) m = ⊎-elim here (λ q. there (mem-split x ys q)) (List·Memᴰ·cases-cons m)
+  where
+    here : x ≡ y → (before later : List A) × (y ∷ ys ≡ before ++ (x ∷ later))
+    here e = ([], ys, ap {B = List A} (λ z. z ∷ ys) (sym e))
+
+    there : (before later : List A) × (ys ≡ before ++ (x ∷ later)) → (before later : List A) × (y ∷ ys ≡ before ++ (x ∷ later))
+    there r = (y ∷ r .0, r .1, ap {B = List A} (λ z. y ∷ z) (r .2))
+
+-- No element twice: what passes a test, images that are told apart, and that a list which has all of them is no shorter
 pub keep-distinct : {A : Type 0} (p : A → Bool) (xs : List A) → Distinct xs → Distinct (keep p xs)
 keep-distinct p [] d = tt
 keep-distinct {A} p (x ∷ xs) d = go (p x) (keep-distinct p xs (d .1))
@@ -226,6 +238,31 @@ keep-distinct {A} p (x ∷ xs) d = go (p x) (keep-distinct p xs (d .1))
     go : (b : Bool) → Distinct (keep p xs) → Distinct (choose b (x ∷ keep p xs) (keep p xs))
     go true h = (λ q. d .0 (keep-mem p x xs q .0), h)
     go false h = h
+
+pub distinct-map : {A B : Type 0} (f : A → B) (xs : List A) → ((x y : A) → x ∈ xs → y ∈ xs → f x ≡ f y → x ≡ y) → Distinct xs → Distinct (map f xs)
+distinct-map f [] h d = tt
+distinct-map {A} f (x ∷ xs) h d = (
+  λ m.
+      let (y, i, e) = map-mem f (f x) xs m in
+      d .0 (subst (λ (z : A). z ∈ xs) (sym (h x y (List·Memᴰ·head refl) (List·Memᴰ·tail i) e)) i),
+  distinct-map f xs (λ y z i j. h y z (List·Memᴰ·tail i) (List·Memᴰ·tail j)) (d .1),
+)
+
+-- Without one of its elements a list still has the others
+other-left : {A : Type 0} (x y : A) (before later : List A) → (x ≡ y → ⊥) → x ∈ before ++ (y ∷ later) → x ∈ before ++ later
+other-left x y before later other m =
+    ⊎-elim (λ i. Memᴰ·append-left later i)
+    (λ i. ⊎-elim (λ e. absurd (other e)) (λ j. Memᴰ·append-right before j) (List·Memᴰ·cases-cons i))
+    (List·Memᴰ·append-cases before m)
+
+pub distinct-within : {A : Type 0} (xs ys : List A) → Distinct xs → ((x : A) → x ∈ xs → x ∈ ys) → length xs ≤ length ys
+distinct-within [] ys d h = omega arith
+distinct-within {A} (x ∷ xs) ys d h =
+    let (before, later, e) = mem-split x ys (h x (List·Memᴰ·head refl)) in
+    let others = distinct-within xs (before ++ later) (d .1)
+    (λ y m. other-left y x before later (λ q. d .0 (subst (λ (z : A). z ∈ xs) q m))
+    (subst (λ (zs : List A). y ∈ zs) e (h y (List·Memᴰ·tail m)))) in
+    omega (arith, ap length e, length-append before (x ∷ later), length-append before later)
 
 -- Every element
 pub all-mem : {A : Type 0} (P : A → Type 0) (x : A) (xs : List A) → All P xs → x ∈ xs → P x

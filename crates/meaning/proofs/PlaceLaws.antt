@@ -26,7 +26,7 @@ use Rattle.meaning.specs.Accept.{overlarge, checkProblem}
 use Rattle.meaning.specs.Readable.{Accepted}
 use Rattle.meaning.specs.Search.{Place, at, past, From}
 use Rattle.meaning.specs.PlaceValue.{maskOf, PlaceValue, masksOf, placeValue, IsPlace, Names}
-use Rattle.meaning.proofs.Lists.{true-T, all-mem, every-all}
+use Rattle.meaning.proofs.Lists.{true-T, all-mem, every-all, mem-split}
 use Rattle.meaning.proofs.ByteLaws.{unless-got}
 use Rattle.meaning.proofs.Proper.{one-place, functions-applied}
 use Rattle.meaning.proofs.ChoiceLaws.{rows-are}
@@ -224,16 +224,6 @@ named-place p v = go (named-row p v) (same-value v (placeValue past))
         none past n = e (n .isValue)
 
 -- The rows from a place on
-pub mem-split : {A : Type 0} (x : A) (xs : List A) → x ∈ xs → (before later : List A) × (xs ≡ before ++ (x ∷ later))
-mem-split x [] m = absurd (List·Memᴰ·not-nil m)
-mem-split {A} x (y ∷ ys) m = ⊎-elim here (λ q. there (mem-split x ys q)) (List·Memᴰ·cases-cons m)
-  where
-    here : x ≡ y → (before later : List A) × (y ∷ ys ≡ before ++ (x ∷ later))
-    here e = ([], ys, ap {B = List A} (λ z. z ∷ ys) (sym e))
-
-    there : (before later : List A) × (ys ≡ before ++ (x ∷ later)) → (before later : List A) × (y ∷ ys ≡ before ++ (x ∷ later))
-    there r = (y ∷ r .0, r .1, ap {B = List A} (λ z. y ∷ z) (r .2))
-
 pub rows-from : (p : Problem) (place : Place Row) → IsPlace p place → (from : List Row) × From (rows p) place from
 rows-from p (at r) i =
     let s = mem-split r (rows p) (rows-are p r .1 i) in

@@ -226,8 +226,7 @@ listed-solution p r σ c q =
     let x = map-mem (λ (y : Row). (y, candidate p y)) (r, σ) (keep (solves p) (rows p)) q in
     let k = keep-mem (solves p) (x .0) (rows p) (x .1) in
     let er : r ≡ x .0 = ap (λ (y : Row × Filling). y .0) (x .2) in
-    let eσ : σ ≡ candidate p (x .0) = ap (λ (y : Row × Filling). y .1) (x .2) in
-    (
+    let eσ : σ ≡ candidate p (x .0) = ap (λ (y : Row × Filling). y .1) (x .2) in (
       subst (λ (y : Row). y ∈ rows p) (sym er) (k .0),
       subst (Solution p) (sym eσ) (candidate-solution p (x .0) c (rows-are p (x .0) .0 (k .0)) (k .1)),
       λ f m. ap (λ (τ : Filling). τ f) eσ ∙ candidate-function p (x .0) f (functions-applied p f m)

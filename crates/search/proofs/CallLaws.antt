@@ -22,8 +22,7 @@ use Rattle.meaning.specs.PlaceValue.{PlaceValue, masksOf, placeValue}
 use Rattle.meaning.specs.Entry.{HostReply, replyValue, SearchCall, notAccepted, onAccepted, noAllowance, noSuchPlace, searches}
 use Rattle.meaning.specs.Calls.{left}
 use Rattle.meaning.proofs.Proper.{accepted-proper}
-use Rattle.meaning.proofs.Lists.{never, is-some}
-use Rattle.meaning.proofs.PlaceLaws.{mem-split}
+use Rattle.meaning.proofs.Lists.{is-some, mem-split, never}
 use Rattle.meaning.proofs.Solutions.{solves-is-right}
 use Rattle.masks.specs.Sets.{masksIn}
 use Rattle.masks.specs.declared.NodeSet.{NodeSet}

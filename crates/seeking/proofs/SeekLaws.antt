@@ -7,8 +7,7 @@ use native.Mathlib.Omega.{arith}
 use lib.ListN.{length}
 use Rattle.meaning.specs.Basics.{choose, _∈_}
 use Rattle.meaning.specs.Search.{Place, at, past, placeOf, found, end, paused, Keeps, finds, ends, pauses}
-use Rattle.meaning.proofs.Lists.{never}
-use Rattle.meaning.proofs.PlaceLaws.{mem-split}
+use Rattle.meaning.proofs.Lists.{mem-split, never}
 use Rattle.meaning.proofs.OneCall.{one-before}
 use Rattle.masks.specs.Sets.{masksIn}
 use Rattle.masks.specs.declared.NodeSet.{NodeSet}

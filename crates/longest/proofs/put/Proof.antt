@@ -50,7 +50,8 @@ returns c =
     let args = c .before .before .args in
     let bytes = args .bytes .now in
     let e : loop .i ≡ length bytes = omega arith in
-    loop .inv .2 ∙ ap (λ (k : ℕ). take k bytes ++ drop k (args .out .now)) e ∙ ap (λ (l : Bytes). l ++ drop (length bytes) (args .out .now)) (take-length bytes)
+    let out = args .out .now in
+    loop .inv .2 ∙ ap (λ (k : ℕ). take k bytes ++ drop k out) e ∙ ap (λ (l : Bytes). l ++ drop (length bytes) out) (take-length bytes)
 
 pub put-spec : {M : Type 1} → statement M
 put-spec =
