@@ -78,7 +78,7 @@ impl Problem {
 
     /// The problem with the longest list for this number of nodes: P(X), `?0{?1}`, against symbol 0, or from two nodes on
     /// against an application of equal symbols 0. It has 2^(n-1) + 1 solutions, and P(X) against any other expression of n
-    /// nodes has at most as many: so this is how long a list can take that is cut off by allowances.
+    /// nodes has at most as many: who sets allowances can see here what the heaviest formula of that length costs.
     ///
     /// ```
     /// use matcher::{Problem, Refusal, Term};

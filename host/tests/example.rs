@@ -1,4 +1,4 @@
-//! The example program: it stops, saves its place, and goes on in another process.
+//! The example programs: one stops, saves its place, and goes on in another process; one writes T-13's problem.
 
 use std::path::{Path, PathBuf};
 use std::process::{Command, Output};
@@ -21,17 +21,17 @@ impl Drop for Folder {
 }
 
 /// cargo builds examples beside its tests.
-fn program() -> PathBuf {
+fn program(name: &str) -> PathBuf {
     let test = std::env::current_exe().expect("a test has a path");
     let built = test
         .ancestors()
         .nth(2)
         .expect("it stands in deps/ of the folder of what is built");
-    built.join("examples/stop_and_resume")
+    built.join("examples").join(name)
 }
 
 fn run(problem: &Path, saved: &Path, count: &str) -> Output {
-    Command::new(program())
+    Command::new(program("stop_and_resume"))
         .args([problem.as_os_str(), saved.as_os_str(), count.as_ref()])
         .output()
         .expect("it starts; `cargo test --test example` alone does not build it, `cargo build --examples` does")
@@ -76,4 +76,44 @@ fn it_tells_what_is_wrong_and_loses_nothing() {
     std::fs::write(&problem, []).unwrap();
     assert!(told("1").contains("a suspended search has 292 bytes"));
     assert_eq!(std::fs::read(&saved).unwrap(), b"not a place");
+}
+
+fn longest(arguments: &[&str]) -> Output {
+    Command::new(program("longest"))
+        .args(arguments)
+        .output()
+        .expect("it starts; `cargo test --test example` alone does not build it, `cargo build --examples` does")
+}
+
+#[test]
+fn the_longest_problem_is_written_and_listed() {
+    let folder = Folder::new("longest");
+    let (problem, saved) = (folder.0.join("problem"), folder.0.join("saved"));
+    let output = longest(&["2"]);
+    assert!(output.status.success());
+    let two = [7, 0, 16, 6, 0, 5, 0, 5, 0, 1, 1, 3, 0, 5, 1, 0, 2, 0, 0];
+    assert_eq!(output.stdout, two);
+    std::fs::write(&problem, output.stdout).unwrap();
+    assert_eq!(
+        printed(&run(&problem, &saved, "9")),
+        "solution 1: ?0 is _, ?1 is (s0)\nsolution 2: ?0 is (_), ?1 is s0\nsolution 3: ?0 is (s0), ?1 is open\nend 3\n"
+    );
+}
+
+#[test]
+fn a_number_of_nodes_that_is_none_is_told() {
+    let told = |arguments: &[&str]| {
+        let output = longest(arguments);
+        assert_eq!(output.status.code(), Some(1));
+        assert!(output.stdout.is_empty());
+        String::from_utf8_lossy(&output.stderr).into_owned()
+    };
+    assert_eq!(told(&[]), "longest: usage: longest NODES\n");
+    assert_eq!(told(&["-1"]), "longest: NODES is a number, not '-1'\n");
+    for nodes in ["0", "257"] {
+        assert_eq!(
+            told(&[nodes]),
+            "longest: refused 28: the number of nodes is not from 1 to 256\n"
+        );
+    }
 }
