@@ -21,8 +21,8 @@
  *
  * Every function takes any bytes, words and buffers, and answers a number: MATCHER_OK, an answer of 256 or more, or a refusal. Of several
  * refusals that apply the first is given, in the order in which the function's description names them. After a refusal no buffer is changed.
- * A call that takes a problem takes it anew, and none keeps anything, so that calls may run side by side, in any thread. None allocates memory. A
- * thread with 192 KB of stack is enough: in tests none took more than 108.
+ * A call that takes a problem takes it anew, and none keeps anything, so that calls may run side by side, in any thread. None allocates
+ * memory. A thread with 192 KB of stack is enough: in tests none took more than 108.
  *
  * The caller owes what C cannot check:
  * - each pointer has as many elements as the length after it says (one, where there is none), and is not null even where that is 0;
@@ -102,9 +102,9 @@ extern "C" {
 #define MATCHER_YES 259
 #define MATCHER_NO 260
 
-/* Refusals of a problem, by every function that takes one: the first that is met in reading, 1 to 11 or 25, then 13, then 14. There is no 12: a problem in
-   which a metavariable stands both as a function and alone is accepted, and has no rows, so that its search ends at once and no text
-   passes. */
+/* Refusals of a problem, by every function that takes one: the first that is met in reading, 1 to 11 or 25, then 13, then 14. There is no
+   12: a problem in which a metavariable stands both as a function and alone is accepted, and has no rows, so that its search ends at once
+   and no text passes. */
 #define MATCHER_PROBLEM_TOO_LONG 1
 #define MATCHER_HEAD_CUT_OFF 2
 #define MATCHER_LENGTH_PAST_END 3

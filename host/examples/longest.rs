@@ -2,7 +2,8 @@
 //!
 //!     cargo run --example longest -- NODES > PROBLEM
 //!
-//! NODES is from 1 to 256. The problem has 2^(NODES-1) + 1 solutions; `readings` or `stop_and_resume` lists them.
+//! NODES is from 1 to 256. The problem has 2^(NODES-1) + 1 solutions: `stop_and_resume` lists them, `readings` the first
+//! thousand.
 
 use matcher::Problem;
 use std::error::Error;
@@ -20,7 +21,9 @@ fn run() -> Result<(), Box<dyn Error>> {
     let [nodes] = &arguments[..] else {
         return Err("usage: longest NODES".into());
     };
-    let nodes = nodes.parse().map_err(|_| format!("NODES is a number, not '{nodes}'"))?;
+    let nodes = nodes
+        .parse()
+        .map_err(|_| format!("NODES is a number from 1 to 256, not '{nodes}'"))?;
     let problem = Problem::longest(nodes)?;
     let mut out = std::io::stdout().lock();
     out.write_all(problem.bytes())?;

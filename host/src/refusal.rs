@@ -6,8 +6,8 @@ use std::fmt;
 macro_rules! refusals {
     ($($name:ident = $number:literal, $words:literal;)*) => {
         /// Why a call is refused: document 01's table "Where each check is made", 25 by its change T-05, 27 by T-07, 28 and 29
-        /// by T-13. A refused call changes nothing. No refusal has the number 12, which T-09 withdrew: a problem in which a metavariable
-        /// stands both as a function and alone is accepted, and has no solutions.
+        /// by T-13. A refused call changes nothing. No refusal has the number 12, which T-09 withdrew: a problem in which a
+        /// metavariable stands both as a function and alone is accepted, and has no solutions.
         ///
         /// Of several reasons that apply the first one met is given: a problem is read field by field from the front (1 to
         /// 11 and 25), then looked at as a whole (13 and 14), and only then is what else the call was given.

@@ -109,7 +109,13 @@ fn a_number_of_nodes_that_is_none_is_told() {
         String::from_utf8_lossy(&output.stderr).into_owned()
     };
     assert_eq!(told(&[]), "longest: usage: longest NODES\n");
-    assert_eq!(told(&["-1"]), "longest: NODES is a number, not '-1'\n");
+    for nodes in ["-1", "many", "4294967296"] {
+        let told = told(&[nodes]);
+        assert_eq!(
+            told,
+            format!("longest: NODES is a number from 1 to 256, not '{nodes}'\n")
+        );
+    }
     for nodes in ["0", "257"] {
         assert_eq!(
             told(&[nodes]),

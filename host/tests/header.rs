@@ -1,5 +1,5 @@
 //! One word and one number for one thing in C, in Rust and in Rattle: the header has what this crate has and nothing else,
-//! and the sources of the proved library have the same limits and answers.
+//! and the sources of the proved library have the same limits, answers, tags and refusals.
 
 use matcher::{raw, text_of, Given, Problem, Refusal, Term};
 use std::collections::BTreeMap;

@@ -1,5 +1,6 @@
 -- T-13's expression of suc m nodes, and as many solutions of (P(X), e) as there are sets that a choice can be.
---   top, resolved      its first node; its names resolved
+--   top                its first node
+--   heavy              the expression with its names resolved
 --   rootFilling        P is the hole, X all of the expression
 --   belowFilling       P has a hole for each symbol of a set, and X is the symbol, or open where the set is empty
 --   fillings           all of these: 2^m + 1 (`fillings-count`), none twice (`fillings-distinct`), each a solution (`fillings-solve`)
@@ -10,7 +11,7 @@ use mathlib.Core.Bool.{true, false, true≢false}
 use mathlib.Core.List.{List, [], _∷_, map, List·Memᴰ·cases-cons}
 use mathlib.Core.Option.{none, some}
 use native.Mathlib.Omega.{arith}
-use lib.ListN.{length, length-map}
+use lib.ListN.{length}
 use Rattle.meaning.specs.Basics.{All, Distinct, choose, _∈_}
 use Rattle.meaning.specs.Term.{IsExpression, NamedTerm, Own, Term, Terms, Variable, application, cons, hole, nil, one, own, size, slot}
 use Rattle.meaning.specs.Term.{symbol}
@@ -21,13 +22,13 @@ use Rattle.meaning.specs.Filling.{Entry, Filling, body, leftOpen, value}
 use Rattle.meaning.specs.Solution.{Solution, hasHole}
 use Rattle.meaning.specs.Choice.{Marks, punch, punchTerm}
 use Rattle.meaning.specs.Choices.{allMarks}
-use Rattle.meaning.specs.Longest.{longest, longestProblem, symbols}
+use Rattle.meaning.specs.Longest.{heaviest, longestProblem, symbols}
 use Rattle.meaning.proofs.Lists.{all-mem, by-test, choose-false, choose-true, distinct-map, eqb-other, map-mem, never, or-false}
 use Rattle.meaning.proofs.ShiftLaws.{shift-closed-term}
 use Rattle.meaning.proofs.ViewLaws.{nameless-closed}
 use Rattle.meaning.proofs.Ordered.{Placed, allMarks-are}
 use Rattle.meaning.proofs.Punching.{blank, graft-eq, plugAll}
-use Rattle.longest.proofs.SetCounts.{all-marks-count, all-marks-distinct, rootAlone}
+use Rattle.longest.proofs.SetCounts.{all-marks-distinct, one-more, rootAlone}
 use Rattle.longest.proofs.Applied.{giving, solution-open, solution-valued}
 
 -- Symbols, some of them holes
@@ -72,45 +73,45 @@ abbrev pub top : {X B : Type 0} → ℕ → Own X B
 top zero = symbol 0
 top (suc m) = application (suc m)
 
-pub longest-is : (m : ℕ) → longest (suc m) ≡ (own (top m), symbols m)
-longest-is zero = refl
-longest-is (suc m) =
+pub heaviest-is : (m : ℕ) → heaviest (suc m) ≡ (own (top m), symbols m)
+heaviest-is zero = refl
+heaviest-is (suc m) =
     choose-false _ _ (eqb-other (suc (suc m)) 1 (λ e. omega arith))
     ∙ ap (λ (k : ℕ). (own (application k), symbols k)) (let e : suc (suc m) - 1 ≡ suc m = omega arith in e)
 
-pub longest-expression : (m : ℕ) → IsExpression (one (longest (suc m)))
-longest-expression m = subst (λ (t : NamedTerm). IsExpression (one t)) (sym (longest-is m)) (tt, symbols-expression ℕ ℕ m, tt)
+pub heaviest-expression : (m : ℕ) → IsExpression (one (heaviest (suc m)))
+heaviest-expression m = subst (λ (t : NamedTerm). IsExpression (one t)) (sym (heaviest-is m)) (tt, symbols-expression ℕ ℕ m, tt)
 
-pub longest-size : (m : ℕ) → size (one (longest (suc m))) ≡ suc m
-longest-size m = ap (λ (t : NamedTerm). size (one t)) (longest-is m) ∙ (let e = symbols-size ℕ ℕ m in omega arith)
+pub heaviest-size : (m : ℕ) → size (one (heaviest (suc m))) ≡ suc m
+heaviest-size m = ap (λ (t : NamedTerm). size (one t)) (heaviest-is m) ∙ (let e = symbols-size ℕ ℕ m in omega arith)
 
-abbrev whole : ℕ → Term
-whole m = (own (top m), symbols m)
+abbrev heavy : ℕ → Term
+heavy m = (own (top m), symbols m)
 
-resolved : (m : ℕ) → namelessTerm [] (longest (suc m)) ≡ whole m
-resolved m = ap (namelessTerm []) (longest-is m) ∙ names m
+resolved : (m : ℕ) → namelessTerm [] (heaviest (suc m)) ≡ heavy m
+resolved m = ap (namelessTerm []) (heaviest-is m) ∙ names m
   where
-    names : (k : ℕ) → namelessTerm [] (own (top k), symbols k) ≡ whole k
+    names : (k : ℕ) → namelessTerm [] (own (top k), symbols k) ≡ heavy k
     names zero = refl
     names (suc k) = ap (λ (s : Terms). (own (application (suc k)), s)) (nameless-symbols (suc k))
 
-whole-closed : (m : ℕ) → ClosedTerm (whole m)
-whole-closed m = subst ClosedTerm (resolved m) (nameless-closed [] (one (longest (suc m))))
+heavy-closed : (m : ℕ) → ClosedTerm (heavy m)
+heavy-closed m = subst ClosedTerm (resolved m) (nameless-closed [] (one (heaviest (suc m))))
 
-whole-expression : (m : ℕ) → IsExpression (one (whole m))
-whole-expression m = (tt, symbols-expression Variable (Unit {0}) m, tt)
+heavy-expression : (m : ℕ) → IsExpression (one (heavy m))
+heavy-expression m = (tt, symbols-expression Variable (Unit {0}) m, tt)
 
 top-filled : (a : ℕ → Term) (ms : Marks) (m : ℕ) → plugAll a 0 (punch ms (symbols m)) ≡ symbols m
-    → plugAll a 0 (one (own (top m), punch ms (symbols m))) ≡ one (whole m)
+    → plugAll a 0 (one (own (top m), punch ms (symbols m))) ≡ one (heavy m)
 top-filled a ms zero e = refl
 top-filled a ms (suc m) e = ap (λ (s : Terms). one (own (application (suc m)), s)) e
 
 -- The solutions
 abbrev rootFilling : ℕ → Filling
-rootFilling m = giving (punchTerm (rootAlone m) (whole m)) (value (whole m))
+rootFilling m = giving (punchTerm (rootAlone m) (heavy m)) (value (heavy m))
 
 abbrev belowBody : ℕ → Marks → Term
-belowBody m ms = punchTerm (none ∷ ms) (whole m)
+belowBody m ms = punchTerm (none ∷ ms) (heavy m)
 
 abbrev belowFilling : ℕ → Marks → Filling
 belowFilling m ms = giving (belowBody m ms) (choose (hasHole 0 (one (belowBody m ms))) (value theSymbol) leftOpen)
@@ -119,7 +120,7 @@ abbrev pub fillings : ℕ → List Filling
 fillings m = rootFilling m ∷ map (belowFilling m) (allMarks 1 m)
 
 pub fillings-count : (m : ℕ) → length (fillings m) ≡ 2 ^ m + 1
-fillings-count m = omega (arith, length-map (allMarks 1 m) (belowFilling m), all-marks-count m)
+fillings-count m = one-more (rootFilling m) (belowFilling m) m
 
 -- .. their bodies differ
 hole-other : (o : Own Variable (Unit {0})) (c : Terms) → _≡_ {A = Entry Term} (body (slot (hole 0), nil)) (body (own o, c)) → ⊥
@@ -158,8 +159,8 @@ module _ (m : ℕ) where
 
   root-solves : Solution p (rootFilling m)
   root-solves =
-      solution-valued (longest (suc m)) (whole m) (resolved m) (longest-expression m) (rootAlone m) root-placed
-      (whole m) (whole-expression m) (whole-closed m) refl (ap one (shift-closed-term 0 (whole m) (whole-closed m)))
+      solution-valued (heaviest (suc m)) (heavy m) (resolved m) (heaviest-expression m) (rootAlone m) root-placed
+      (heavy m) (heavy-expression m) (heavy-closed m) refl (ap one (shift-closed-term 0 (heavy m) (heavy-closed m)))
 
   module _ (ms : Marks) (i : ms ∈ allMarks 1 m) where
     marks : All (Placed 1) ms
@@ -173,12 +174,12 @@ module _ (m : ℕ) where
 
     valued : hasHole 0 (one (belowBody m ms)) ≡ true → Solves (value theSymbol)
     valued has =
-        solution-valued (longest (suc m)) (whole m) (resolved m) (longest-expression m) (none ∷ ms) placed
+        solution-valued (heaviest (suc m)) (heavy m) (resolved m) (heaviest-expression m) (none ∷ ms) placed
         theSymbol (tt, tt, tt) (tt, tt, tt) has (top-filled _ ms m (symbols-filled _ ms m marks (λ e. refl)))
 
     opened : hasHole 0 (one (belowBody m ms)) ≡ false → Solves leftOpen
     opened lacks =
-        solution-open (longest (suc m)) (whole m) (resolved m) (longest-expression m) (none ∷ ms) placed lacks
+        solution-open (heaviest (suc m)) (heavy m) (resolved m) (heaviest-expression m) (none ∷ ms) placed lacks
         (top-filled _ ms m (symbols-filled _ ms m marks (λ e. absurd (true≢false (sym e ∙ or-false _ false lacks .0)))))
 
     below-solves : Solution p (belowFilling m ms)

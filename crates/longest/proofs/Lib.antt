@@ -7,6 +7,7 @@ pub mod LongestList
 -- Its bytes, and what writes them
 pub mod LongestBytes
 pub mod LongestExamples
+pub mod IntoLaws
 pub mod LongestAccepted
 pub mod CallLaws
 pub mod WriteLaws

@@ -16,12 +16,13 @@ use Rattle.meaning.specs.Face.{faces}
 use Rattle.meaning.specs.Row.{faceOf}
 use Rattle.meaning.specs.Accept.{accept, checkProblem, overlarge}
 use Rattle.meaning.specs.Readable.{Accepted, Readable, WithinLimits}
-use Rattle.meaning.specs.Longest.{appliedTo, longest, longestBytes, longestProblem, symbols}
+use Rattle.meaning.specs.Longest.{appliedTo, heaviest, longestBytes, longestProblem, symbols}
 use Rattle.meaning.proofs.Lists.{choose-false}
 use Rattle.meaning.proofs.ShiftLaws.{ltb-no, relabel-size}
 use Rattle.meaning.proofs.ProblemReading.{accepted-accept}
+use Rattle.longest.specs.Writing.{Nodes}
 use Rattle.longest.proofs.Applied.{face-is, functions-are}
-use Rattle.longest.proofs.EqualSymbols.{longest-is, longest-size, top}
+use Rattle.longest.proofs.EqualSymbols.{heaviest-is, heaviest-size, top}
 use Rattle.longest.proofs.LongestBytes.{expression-most, problem-length}
 
 -- 13 and 14 ask how many functions there are, and how many nodes P faces
@@ -40,7 +41,7 @@ small-face e h =
     ∙ ap (λ (b : Bool). isSome (faces p) && not (not b && true)) few
     ∙ and-false (isSome (faces p))
 
-pub applied-checked : (e : NamedTerm) → size (one e) ≤ maxFaceNodes → checkProblem maxFaceNodes (appliedTo e) ≡ got (appliedTo e)
+applied-checked : (e : NamedTerm) → size (one e) ≤ maxFaceNodes → checkProblem maxFaceNodes (appliedTo e) ≡ got (appliedTo e)
 unfolding checkProblem
 applied-checked e h = choose-false _ _ (few-functions e) ∙ choose-false _ _ (small-face e h)
 
@@ -58,9 +59,9 @@ unfolding contextBelow
 top-readable levels zero = symbols-readable (suc levels) 1
 top-readable levels (suc m) = ((sym (symbols-trees (suc m)), omega arith), symbols-readable levels (suc m), tt)
 
-expression-readable : (m : ℕ) → Readable maxDepth inExpression (one (longest (suc m)))
+expression-readable : (m : ℕ) → Readable maxDepth inExpression (one (heaviest (suc m)))
 unfolding maxDepth
-expression-readable m = subst (λ (t : NamedTerm). Readable maxDepth inExpression (one t)) (sym (longest-is m)) (top-readable 30 m)
+expression-readable m = subst (λ (t : NamedTerm). Readable maxDepth inExpression (one t)) (sym (heaviest-is m)) (top-readable 30 m)
 
 within : (m : ℕ) → suc m ≤ maxFaceNodes → WithinLimits (longestProblem (suc m))
 unfolding maxDepth metavariableCount contextBelow maxConstraints largestProblem maxFaceNodes
@@ -72,10 +73,11 @@ within m h =
     }
 
 -- ACCEPTED
-pub longest-accepted : (n : ℕ) → 1 ≤ n → n ≤ maxFaceNodes → Accepted (longestProblem n)
-longest-accepted zero h few = absurd (omega arith)
-longest-accepted (suc m) h few =
-    record { within = within m few; checked = applied-checked (longest (suc m)) (let nodes = longest-size m in omega arith) }
+pub longest-accepted : (n : ℕ) → Nodes n → Accepted (longestProblem n)
+longest-accepted zero h = let some = h .some in absurd (omega arith)
+longest-accepted (suc m) h =
+    let few = h .few in
+    record { within = within m few; checked = applied-checked (heaviest (suc m)) (let nodes = heaviest-size m in omega arith) }
 
-pub longest-read : (n : ℕ) → 1 ≤ n → n ≤ maxFaceNodes → accept (longestBytes n) ≡ got (longestProblem n)
-longest-read n h few = accepted-accept (longestProblem n) (longest-accepted n h few)
+pub longest-read : (n : ℕ) → Nodes n → accept (longestBytes n) ≡ got (longestProblem n)
+longest-read n h = accepted-accept (longestProblem n) (longest-accepted n h)

@@ -14,13 +14,13 @@ use Rattle.meaning.specs.Field.{encode, encodeConstraint, encodeProblem, field,
 use Rattle.meaning.specs.Longest.{longestBytes, symbols}
 use Rattle.meaning.proofs.ByteLaws.{field-length}
 use Rattle.longest.specs.Writing.{expressionBytes, patternBytes, termsBytes}
-use Rattle.longest.proofs.EqualSymbols.{longest-is}
+use Rattle.longest.proofs.EqualSymbols.{heaviest-is}
 
 -- Symbol 0
-abbrev pub theSymbol : Bytes
-theSymbol = 1 ∷ 0 ∷ 2 ∷ 0 ∷ 0 ∷ []
+abbrev pub symbolField : Bytes
+symbolField = 1 ∷ 0 ∷ 2 ∷ 0 ∷ 0 ∷ []
 
-pub symbol-more : (m : ℕ) → encode (symbols (suc m)) ≡ theSymbol ++ encode (symbols m)
+pub symbol-more : (m : ℕ) → encode (symbols (suc m)) ≡ symbolField ++ encode (symbols m)
 unfolding encode field word symbolBytes firstWide
 symbol-more m = refl
 
@@ -28,7 +28,7 @@ pub symbols-length : (m : ℕ) → length (encode (symbols m)) ≡ 5 * m
 unfolding encode
 symbols-length zero = refl
 symbols-length (suc m) =
-    omega (arith, ap length (symbol-more m), length-append theSymbol (encode (symbols m)), symbols-length m)
+    omega (arith, ap length (symbol-more m), length-append symbolField (encode (symbols m)), symbols-length m)
 
 -- The expression
 pub application-is : (n : ℕ) → 2 ≤ n → expressionBytes n ≡ field 3 (encode (symbols (n - 1)))
@@ -36,7 +36,7 @@ unfolding encode
 application-is zero h = absurd (omega arith)
 application-is (suc zero) h = absurd (omega arith)
 application-is (suc (suc m)) h =
-    ap (λ (t : NamedTerm). encode (one t)) (longest-is (suc m))
+    ap (λ (t : NamedTerm). encode (one t)) (heaviest-is (suc m))
     ∙ append-nil (field 3 (encode (symbols (suc m))))
     ∙ ap (λ (k : ℕ). field 3 (encode (symbols k))) (let e : suc m ≡ suc (suc m) - 1 = omega arith in e)
 

@@ -34,11 +34,12 @@ examples =
     ∷ worked 3 24 (got three)
     ∷ worked 3 23 (refused 29)
     ∷ worked 1 0 (refused 29)
+    ∷ worked 256 0 (refused 29)
     ∷ worked 0 100 (refused 28)
     ∷ worked 0 0 (refused 28)
     ∷ worked 257 0 (refused 28)
     ∷ []
 
-pub longests-hold : All (λ (x : Worked). longestInto (replicate (x .room) 0) (x .nodes) ≡ x .gives) examples
+pub longests-hold : All (λ (x : Worked). longestInto (x .nodes) (replicate (x .room) 0) ≡ x .gives) examples
 unfolding longestInto maxFaceNodes encodeProblem encodeConstraint encode field word symbolBytes firstWide
-longests-hold = (refl, (refl, (refl, (refl, (refl, (refl, (refl, (refl, tt))))))))
+longests-hold = (refl, (refl, (refl, (refl, (refl, (refl, (refl, (refl, (refl, tt)))))))))

@@ -2,7 +2,7 @@
 -- has at most as many."
 --   applied-list   (P(X), e) has a full list, also where no input can hold e
 --   list-most      with at most 2^(n-1) + 1 entries, where e has n nodes
---   longest-list   that of T-13's problem has as many
+--   longest-count   that of T-13's problem has as many
 use mathlib.Core.Path.{_≡_, ap}
 use Prim.Native.Nat.{ℕ, zero, suc, _+_, _-_, _^_, _≤_}
 use mathlib.Core.List.{List, [], map}
@@ -16,13 +16,13 @@ use Rattle.meaning.specs.Row.{Row}
 use Rattle.meaning.specs.Rows.{rows}
 use Rattle.meaning.specs.FullList.{IsFullList, Listed}
 use Rattle.meaning.specs.Candidate.{candidate, fullList, solutionRows, solves}
-use Rattle.meaning.specs.Longest.{appliedTo, longest, longestProblem}
+use Rattle.meaning.specs.Longest.{appliedTo, heaviest, longestProblem}
 use Rattle.meaning.proofs.Lists.{distinct-within, keep-length}
 use Rattle.meaning.proofs.ShiftLaws.{relabel-size}
 use Rattle.meaning.proofs.FullListLaws.{full-list-every, full-list-is, full-list-only}
 use Rattle.longest.proofs.SetCounts.{choices-most}
 use Rattle.longest.proofs.Applied.{proper, rows-count}
-use Rattle.longest.proofs.EqualSymbols.{fillings, fillings-count, fillings-distinct, fillings-solve, longest-expression, longest-size}
+use Rattle.longest.proofs.EqualSymbols.{fillings, fillings-count, fillings-distinct, fillings-solve, heaviest-expression, heaviest-size}
 
 -- A full list is no longer than the list of rows
 listed-rows : (p : Problem) → length (fullList p) ≤ length (rows p)
@@ -50,17 +50,21 @@ module _ (e : NamedTerm) (x : IsExpression (one e)) where
       )
 
 -- AS MANY
-pub longest-list : (n : ℕ) → 1 ≤ n → (full : List Listed) → IsFullList (longestProblem n) full → length full ≡ 2 ^ (n - 1) + 1
-longest-list zero h full isFull = absurd (omega arith)
-longest-list (suc m) h full isFull =
+pub longest-count : (n : ℕ) → 1 ≤ n → (full : List Listed) → IsFullList (longestProblem n) full → length full ≡ 2 ^ (n - 1) + 1
+longest-count zero h full isFull = absurd (omega arith)
+longest-count (suc m) h full isFull =
     let all = distinct-within (fillings m) (map (λ (y : Listed). y .1) full) (fillings-distinct m)
-    (λ σ i. full-list-every (longestProblem (suc m)) (proper (longest (suc m)) (longest-expression m)) full isFull σ (fillings-solve m σ i)) in
-    let most = list-most (longest (suc m)) (longest-expression m) full isFull in
-    let powers : 2 ^ (size (one (longest (suc m))) - 1) ≡ 2 ^ (suc m - 1) = ap (λ (n : ℕ). 2 ^ (n - 1)) (longest-size m) in
+    (λ σ i. full-list-every (longestProblem (suc m)) (proper (heaviest (suc m)) (heaviest-expression m)) full isFull σ (fillings-solve m σ i)) in
+    let most = list-most (heaviest (suc m)) (heaviest-expression m) full isFull in
+    let powers : 2 ^ (size (one (heaviest (suc m))) - 1) ≡ 2 ^ (suc m - 1) = ap (λ (n : ℕ). 2 ^ (n - 1)) (heaviest-size m) in
     let same : 2 ^ (suc m - 1) ≡ 2 ^ m = ap (λ (n : ℕ). 2 ^ n) (let q : suc m - 1 ≡ m = omega arith in q) in
     omega (arith, fillings-count m, length-map full (λ (y : Listed). y .1))
 
--- It has n nodes
-pub longest-nodes : (n : ℕ) → 1 ≤ n → size (one (longest n)) ≡ n
-longest-nodes zero h = absurd (omega arith)
-longest-nodes (suc m) h = longest-size m
+-- It is an expression of n nodes
+pub heaviest-nodes : (n : ℕ) → 1 ≤ n → size (one (heaviest n)) ≡ n
+heaviest-nodes zero h = absurd (omega arith)
+heaviest-nodes (suc m) h = heaviest-size m
+
+pub heaviest-is-expression : (n : ℕ) → 1 ≤ n → IsExpression (one (heaviest n))
+heaviest-is-expression zero h = absurd (omega arith)
+heaviest-is-expression (suc m) h = heaviest-expression m

@@ -1,6 +1,6 @@
 -- How many choices with one place a face can have: the root alone, or any set of the nodes below it.
 --   rootAlone       only the first of suc m nodes
---   sets            it, and all sets of the m other nodes: 2^m + 1
+--   sets            it, and all sets of the m other nodes: 2^m + 1 (`one-more`)
 --   choice-among    every choice is one of them
 --   choices-most    so a face of n nodes has at most 2^(n-1) + 1 choices
 use mathlib.Core.Path.{_≡_, refl, ap₂, sym, _∙_}
@@ -30,7 +30,7 @@ pub all-marks-distinct : (m : ℕ) → Distinct (allMarks 1 m)
 all-marks-distinct m = ordered-distinct Earlier earlier-strict (allMarks 1 m) (allMarks-ordered 1 m)
 
 -- THEIR NUMBER
-pub all-marks-count : (m : ℕ) → length (allMarks 1 m) ≡ 2 ^ m
+all-marks-count : (m : ℕ) → length (allMarks 1 m) ≡ 2 ^ m
 all-marks-count zero = refl
 all-marks-count (suc m) =
     let all : List Marks = allMarks 1 m in
@@ -42,8 +42,8 @@ all-marks-count (suc m) =
     let d = length-map all (λ ms. none ∷ ms) in
     omega (arith, all-marks-count m)
 
-sets-count : (m : ℕ) → length (sets m) ≡ 2 ^ m + 1
-sets-count m = omega (arith, length-map (allMarks 1 m) (λ ms. none ∷ ms), all-marks-count m)
+pub one-more : {A : Type 0} (x : A) (f : Marks → A) (m : ℕ) → length (x ∷ map f (allMarks 1 m)) ≡ 2 ^ m + 1
+one-more x f m = omega (arith, length-map (allMarks 1 m) f, all-marks-count m)
 
 -- EVERY CHOICE OF A FACE IS ONE OF THEM: below the root, if it is a hole, there is none
 choice-among : (e : Term) (ms : Marks) → Choice 1 e ms → ms ∈ sets (size (e .1))
@@ -65,4 +65,4 @@ pub choices-most : (e : Term) → length (choices 1 e) ≤ 2 ^ size (e .1) + 1
 choices-most e =
     let m = size (e .1) in
     let few = distinct-within (choices 1 e) (sets m) (choices-once 1 e) (λ ms i. choice-among e ms (choices-are 1 e ms .0 i)) in
-    omega (arith, sets-count m)
+    omega (arith, one-more (rootAlone m) (λ ms. none ∷ ms) m)

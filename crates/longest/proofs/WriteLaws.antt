@@ -4,11 +4,10 @@
 --   field-wrote   a field's content, written into the part after its head, and then the head
 use mathlib.Core.Path.{_≡_, refl, ap, sym, _∙_, subst}
 use Prim.Native.Nat.{ℕ, zero, suc, _+_, _-_, _*_, _<_, _≤_}
-use mathlib.Core.Bool.{Bool, true, false, _||_}
+use mathlib.Core.Bool.{Bool, true, false}
 use mathlib.Core.List.{[], _∷_, _++_}
 use native.Mathlib.Omega.{arith}
 use native.Mathlib.Numerals.{add-one}
-use borrow.Author.Tests.{ltb-false}
 use borrow.Rule.Slice.PartMut.{putMid, same-len-mid}
 use lib.ListN.{length, drop, getD, length-append, set, take}
 use lib.Dec.{ltb}
@@ -16,16 +15,16 @@ use Rattle.meaning.specs.Limits.{maxFaceNodes}
 use Rattle.meaning.specs.Basics.{Bytes}
 use Rattle.meaning.specs.Read.{got, refused}
 use Rattle.meaning.specs.Field.{encode, field, word}
-use Rattle.meaning.specs.Longest.{LongestCall, bufferAfter, lengthOf, longestBytes, longestInto, symbols}
-use Rattle.meaning.proofs.Lists.{choose-false, choose-true, or-false}
+use Rattle.meaning.specs.Longest.{LongestCall, bufferAfter, isOutside, lengthOf, longestBytes, longestInto, over, symbols}
 use Rattle.meaning.proofs.ByteLaws.{field-length}
 use Rattle.meaning.proofs.ShiftLaws.{ltb-no, ltb-yes}
 use Rattle.slices.proofs.Slices.{part-length}
 use Rattle.copying.specs.Fixed.{HeadRoom}
 use Rattle.copying.proofs.WriteLaws.{Part, headed, part-begins, part-ends, part-goes}
-use Rattle.longest.specs.Writing.{Nodes, ProblemRoom, Room, expressionBytes, over, patternBytes, termsBytes}
+use Rattle.longest.specs.Writing.{Nodes, ProblemRoom, Room, expressionBytes, patternBytes, termsBytes}
+use Rattle.longest.proofs.IntoLaws.{inside, into-outside, into-room, into-short}
 use Rattle.longest.proofs.LongestBytes.{application-is, expression-length, expression-most, problem-is, problem-length, symbol-more}
-use Rattle.longest.proofs.LongestBytes.{symbols-length, theSymbol}
+use Rattle.longest.proofs.LongestBytes.{symbols-length, symbolField}
 
 -- `put`
 put-at : (bytes o : Bytes) (i : ℕ) → i < length bytes → i < length o
@@ -42,10 +41,10 @@ put-next bytes o out i h l e =
     ∙ ap (λ (k : ℕ). take k bytes ++ drop k o) (sym (add-one i))
 
 -- The returns of `is_outside`
-pub outside-below : (n : ℕ) → n < 1 → ltb n 1 ≡ (ltb n 1 || ltb maxFaceNodes n)
+pub outside-below : (n : ℕ) → n < 1 → ltb n 1 ≡ isOutside n
 outside-below n h = rw (ltb-yes n 1 h)
 
-pub outside-above : (n : ℕ) → 1 ≤ n → ltb maxFaceNodes n ≡ (ltb n 1 || ltb maxFaceNodes n)
+pub outside-above : (n : ℕ) → 1 ≤ n → ltb maxFaceNodes n ≡ isOutside n
 outside-above n h = rw (ltb-no n 1 h)
 
 -- `write_symbols`: of all symbols, i are written
@@ -74,19 +73,22 @@ module _ {m i : ℕ} {before out : Bytes} (w : Symbols m i before out) where
     abbrev later : Bytes
     later = encode (symbols (m - (i + 1)))
 
-    next-symbol : encode (symbols (m - i)) ≡ theSymbol ++ later
+    next-symbol : encode (symbols (m - i)) ≡ symbolField ++ later
     next-symbol =
         ap (λ (k : ℕ). encode (symbols k)) (let e : m - i ≡ suc (m - (i + 1)) = omega arith in e) ∙ symbol-more (m - (i + 1))
 
     pub symbol-room : length (encode (symbols m)) ≤ length before → 5 * i + 5 ≤ length out
     symbol-room room = omega (arith, w .same, symbols-length m)
 
+    pub symbol-start : length (encode (symbols m)) ≤ length before → 5 * i ≤ length out
+    symbol-start room = omega (arith, symbol-room room)
+
     pub symbol-fits : length (encode (symbols m)) ≤ length before → 5 ≤ length (take (length out - 5 * i) (drop (5 * i) out))
     symbol-fits room =
-        let inside = symbol-room room in
+        let start = symbol-room room in
         omega (arith, part-length (5 * i) (length out) out (omega arith) (omega arith))
 
-    pub symbols-go : {x : Bytes} → x ≡ over theSymbol (take (length out - 5 * i) (drop (5 * i) out))
+    pub symbols-go : {x : Bytes} → x ≡ over symbolField (take (length out - 5 * i) (drop (5 * i) out))
         → length x ≡ length (take (length out - 5 * i) (drop (5 * i) out))
         → Symbols m (i + 1) before (putMid (5 * i) (length out - 5 * i) out x)
     symbols-go {x} is kept =
@@ -95,11 +97,11 @@ module _ {m i : ℕ} {before out : Bytes} (w : Symbols m i before out) where
           same = same-len-mid (5 * i) (length out - 5 * i) out x kept ∙ w .same;
           part =
               subst (λ (k : ℕ). Part (encode (symbols m)) later k before (putMid (5 * i) (length out - 5 * i) out x))
-              (let e : 5 * i + 5 ≡ 5 * (i + 1) = omega arith in e) (part-goes (w .part) theSymbol later next-symbol (refl, is));
+              (let e : 5 * i + 5 ≡ 5 * (i + 1) = omega arith in e) (part-goes (w .part) symbolField later next-symbol (refl, is));
         }
 
 -- A field: its head before the content, which stands in the part after it
-pub field-wrote : (tag k : ℕ) (inner o y o′ : Bytes) → k ≡ length inner → 3 ≤ length o → y ≡ over inner (take (length o - 3) (drop 3 o))
+field-wrote : (tag k : ℕ) (inner o y o′ : Bytes) → k ≡ length inner → 3 ≤ length o → y ≡ over inner (take (length o - 3) (drop 3 o))
     → o′ ≡ tag ∷ (word k ++ drop 3 (putMid 3 (length o - 3) o y)) → o′ ≡ over (field tag inner) o
 unfolding field word
 field-wrote tag k inner o y o′ is-k room is-y e =
@@ -138,13 +140,13 @@ module _ {n : ℕ} {o : Bytes} (h : Room n (length (expressionBytes n)) o) where
 
     pub symbols-fit : length (encode (symbols (n - 1))) ≤ length (take (length o - 3) (drop 3 o))
     symbols-fit =
-        let inside = application-room in
+        let fits = application-room in
         omega (arith, symbols-length (n - 1), part-length 3 (length o) o (omega arith) (omega arith))
 
     pub application-wrote : {y o′ : Bytes} → y ≡ over (encode (symbols (n - 1))) (take (length o - 3) (drop 3 o))
         → o′ ≡ 3 ∷ (word (5 * (n - 1)) ++ drop 3 (putMid 3 (length o - 3) o y)) → o′ ≡ over (expressionBytes n) o
     application-wrote {y} {o′} is-y e =
-        let inside = application-room in
+        let fits = application-room in
         field-wrote 3 (5 * (n - 1)) (encode (symbols (n - 1))) o y o′ (sym (symbols-length (n - 1))) (omega arith) is-y e
         ∙ ap (λ (b : Bytes). over b o) (sym (application-is n several))
 
@@ -199,37 +201,26 @@ module _ {n bytes : ℕ} {o : Bytes} (h : ProblemRoom n bytes o) where
       field-wrote 7 (bytes - 3) (termsBytes n) o y o′ (omega (arith, terms-long)) problem-long is-y e
       ∙ ap (λ (b : Bytes). over b o) (sym (problem-is n))
 
--- `write_longest`: n is among those that are written for, and its returns
-inside : (n : ℕ) {outside : Bool} → outside ≡ (ltb n 1 || ltb maxFaceNodes n) → outside ≡ false → Nodes n
-inside n is e =
-    let (low, high) = or-false (ltb n 1) (ltb maxFaceNodes n) (sym is ∙ e) in
-    record { some = ltb-false n 1 low; few = ltb-false maxFaceNodes n high }
+-- The returns of `write_longest`
+module _ (n : ℕ) (o : Bytes) where
+  refuses : {r : ℕ} → longestInto n o ≡ refused r → LongestCall n o (refused r) o
+  refuses a = record { answers = sym (ap lengthOf a); leaves = sym (ap (bufferAfter o) a) }
 
-module _ (n bytes : ℕ) (o : Bytes) {outside : Bool} (is : outside ≡ (ltb n 1 || ltb maxFaceNodes n)) where
-  pub outside-refused : outside ≡ true → LongestCall n o (refused 28) o
-  unfolding longestInto
-  outside-refused e =
-      let a : longestInto o n ≡ refused 28 = choose-true _ _ (sym is ∙ e) in
-      record { answers = sym (ap lengthOf a); leaves = sym (ap (bufferAfter o) a) }
+  pub outside-refused : {outside : Bool} → outside ≡ isOutside n → outside ≡ true → LongestCall n o (refused 28) o
+  outside-refused is e = refuses (into-outside n o (sym is ∙ e))
 
-  module _ (within : outside ≡ false) (counted : Nodes n → bytes ≡ length (longestBytes n)) where
+  module _ (bytes : ℕ) {outside : Bool} (is : outside ≡ isOutside n) (e : outside ≡ false) (counted : Nodes n → bytes ≡ length (longestBytes n)) where
     long : bytes ≡ length (longestBytes n)
-    long = counted (inside n is within)
+    long = counted (inside n (sym is ∙ e))
 
     pub short-refused : length o < bytes → LongestCall n o (refused 29) o
-    unfolding longestInto
-    short-refused h =
-        let a : longestInto o n ≡ refused 29 =
-        choose-false _ _ (sym is ∙ within) ∙ choose-true _ _ (ltb-yes (length o) (length (longestBytes n)) (omega (arith, long))) in
-        record { answers = sym (ap lengthOf a); leaves = sym (ap (bufferAfter o) a) }
+    short-refused h = refuses (into-short n o (sym is ∙ e) (omega (arith, long)))
 
     module _ (room : bytes ≤ length o) where
       pub problem-room : ProblemRoom n bytes o
-      problem-room = record { fits = record { nodes = inside n is within; room = room }; counted = long }
+      problem-room = record { fits = record { nodes = inside n (sym is ∙ e); room = room }; counted = long }
 
       pub longest-written : {o′ : Bytes} → o′ ≡ over (longestBytes n) o → LongestCall n o (got bytes) o′
-      unfolding longestInto
-      longest-written e =
-          let a : longestInto o n ≡ got (longestBytes n) =
-          choose-false _ _ (sym is ∙ within) ∙ choose-false _ _ (ltb-no (length o) (length (longestBytes n)) (omega (arith, long))) in
-          record { answers = ap got long ∙ sym (ap lengthOf a); leaves = e ∙ sym (ap (bufferAfter o) a) }
+      longest-written w =
+          let a = into-room n o (sym is ∙ e) (omega (arith, long)) in
+          record { answers = ap got long ∙ sym (ap lengthOf a); leaves = w ∙ sym (ap (bufferAfter o) a) }

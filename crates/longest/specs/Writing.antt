@@ -1,5 +1,4 @@
--- What writing the longest problem promises.
---   over            bytes at a buffer's front, and no later byte changed
+-- What writing T-13's problem promises.
 --   Nodes           "n from 1 to 256"
 --   ..Bytes         what is written
 --   Room            what writing for n asks of a buffer: room for so many bytes
@@ -8,17 +7,14 @@
 use mathlib.Core.Path.{_≡_}
 use Prim.Native.Nat.{ℕ, _≤_}
 use mathlib.Core.List.{[], _∷_, _++_}
-use lib.ListN.{length, drop}
+use lib.ListN.{length}
 use Rattle.meaning.specs.Limits.{maxFaceNodes}
 use Rattle.meaning.specs.Basics.{Bytes}
 use Rattle.meaning.specs.Term.{one}
 use Rattle.meaning.specs.Field.{encode}
-use Rattle.meaning.specs.Longest.{LongestCall, longest, longestBytes}
+use Rattle.meaning.specs.Longest.{LongestCall, heaviest, longestBytes}
 use Rattle.copying.specs.Answered.{answerOf}
 use Rattle.copying.specs.declared.Written.{Written}
-
-abbrev pub over : Bytes → Bytes → Bytes
-over bytes buffer = bytes ++ drop (length bytes) buffer
 
 pub record Nodes (n : ℕ) : Type 0 where
   pub some : 1 ≤ n
@@ -29,7 +25,7 @@ abbrev pub patternBytes : Bytes
 patternBytes = 6 ∷ 0 ∷ 5 ∷ 0 ∷ 5 ∷ 0 ∷ 1 ∷ 1 ∷ []
 
 abbrev pub expressionBytes : ℕ → Bytes
-expressionBytes n = encode (one (longest n))
+expressionBytes n = encode (one (heaviest n))
 
 abbrev pub termsBytes : ℕ → Bytes
 termsBytes n = patternBytes ++ expressionBytes n

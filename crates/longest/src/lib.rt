@@ -5,13 +5,10 @@ use copying::write_head;
 use masks::NodeSet;
 ghost use mathlib.Core.Path.{_≡_};
 ghost use Prim.Native.Nat.{_≤_};
-ghost use mathlib.Core.Bool.{_||_};
 ghost use lib.ListN.{length};
-ghost use lib.Dec.{ltb};
-ghost use Rattle.meaning.specs.Limits.{maxFaceNodes};
 ghost use Rattle.meaning.specs.Field.{encode};
-ghost use Rattle.meaning.specs.Longest.{longestBytes, symbols};
-ghost use Rattle.longest.specs.Writing.{Nodes, ProblemRoom, Room, WritesLongest, expressionBytes, over, termsBytes};
+ghost use Rattle.meaning.specs.Longest.{isOutside, longestBytes, over, symbols};
+ghost use Rattle.longest.specs.Writing.{Nodes, ProblemRoom, Room, WritesLongest, expressionBytes, termsBytes};
 
 const APPLICATION: u8 = 3;
 
@@ -40,7 +37,7 @@ fn put(bytes: &[u8], out: &mut [u8])
     }
 }
 
-// So many times symbol 0.
+// So many times symbol 0: 01 0002 0000.
 fn write_symbols(m: usize, out: &mut [u8])
     requires { ⌜ length (encode (symbols m)) ≤ length (now out) ⌝ }
     ensures { λ _. ⌜ now (out .exit) ≡ over (encode (symbols m)) (now (out .entry)) ⌝ }
@@ -65,7 +62,7 @@ fn write_expression(n: usize, out: &mut [u8])
     write_head(APPLICATION, SYMBOL * (n - 1), out);
 }
 
-// The constraint's two terms: P(X) before the expression.
+// The constraint's two terms: P(X), which is 06 0005 00 and in it 05 0001 01, before the expression.
 fn write_terms(n: usize, out: &mut [u8])
     requires { ⌜ Room n (length (termsBytes n)) (now out) ⌝ }
     ensures { λ _. ⌜ now (out .exit) ≡ over (termsBytes n) (now (out .entry)) ⌝ }
@@ -83,7 +80,8 @@ fn write_problem(n: usize, length: usize, out: &mut [u8])
     write_head(CONSTRAINT, length - HEAD, out);
 }
 
-// How many bytes the problem for n nodes has: n is any number here, since 28 comes before 29.
+// How many bytes the problem for n nodes has. It is asked before n is looked at, so that n may be any number; outside 1 to 256 the answer
+// means nothing.
 fn problem_length(n: u32) -> usize
     ensures { λ r. ⌜ (Nodes n → r ≡ length (longestBytes n)) ⌝ }
 {
@@ -95,7 +93,7 @@ fn problem_length(n: u32) -> usize
 
 // "28 when n is outside 1 to 256"
 fn is_outside(n: u32) -> bool
-    ensures { λ r. ⌜ r ≡ (ltb n 1 || ltb maxFaceNodes n) ⌝ }
+    ensures { λ r. ⌜ r ≡ isOutside n ⌝ }
 {
     n < 1 || n as usize > NodeSet::ROOM
 }

@@ -232,8 +232,9 @@ module _ (p : Problem) (r : Row) where
           let e : x .0 ≡ rowBody p r f = cc in
           subst (λ (t : Term). IsBody (placesOf p f) (one t)) e (x .2)
 
-  pub solution-candidate : (σ : Filling) → Proper p → Solution p σ → HasBodies p r σ → (m : ℕ) → σ m ≡ candidate p r m
-  solution-candidate σ c s h m =
+  -- UNIQUE: "that solution is then the only one, up to bound names"
+  pub row-solution-unique : (σ : Filling) → Proper p → Solution p σ → HasBodies p r σ → (m : ℕ) → σ m ≡ candidate p r m
+  row-solution-unique σ c s h m =
       by-test (isFunction p m)
       (λ a. let q : m ∈ applied (patterns p) = isIn-mem m (applied (patterns p)) a in h m (applied-functions p c m q)
       ∙ sym (candidate-function m q))

@@ -24,7 +24,8 @@ use Rattle.meaning.specs.Given.{TextOf, TextsGiven, namedBy}
 use Rattle.meaning.proofs.Proper.{accepted-proper}
 use Rattle.meaning.proofs.Lists.{map-mem}
 use Rattle.meaning.proofs.ChoiceLaws.{rows-are}
-use Rattle.meaning.proofs.Solutions.{row-solution-unique, solves-is-right}
+use Rattle.meaning.proofs.Candidate.{row-solution-unique}
+use Rattle.meaning.proofs.Solutions.{solves-is-right}
 use Rattle.meaning.proofs.TextLaws.{text-says}
 use Rattle.meaning.proofs.SecondDemand.{text-names, text-read-back}
 use Rattle.meaning.proofs.WriteLaws.{when-large, written-text}

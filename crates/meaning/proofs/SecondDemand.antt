@@ -23,7 +23,8 @@ use Rattle.meaning.specs.Given.{namedBy}
 use Rattle.meaning.proofs.Lists.{keep-length}
 use Rattle.meaning.proofs.ChoiceLaws.{rows-are}
 use Rattle.meaning.proofs.Proper.{Proper, accepted-proper}
-use Rattle.meaning.proofs.Solutions.{row-solution-unique, solution-complete, solves-is-right, candidate-solution, OnlyRow}
+use Rattle.meaning.proofs.Candidate.{row-solution-unique}
+use Rattle.meaning.proofs.Solutions.{solution-complete, solves-is-right, candidate-solution, OnlyRow}
 use Rattle.meaning.proofs.TextReading.{read-text}
 use Rattle.meaning.proofs.TextLaws.{text-says, text-ascends, text-readable}
 use Rattle.meaning.proofs.Sums.{length-upTo}

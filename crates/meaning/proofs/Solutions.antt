@@ -32,7 +32,7 @@ use Rattle.meaning.proofs.ChoiceLaws.{rows-are}
 use Rattle.meaning.proofs.Proper.{Proper, by-role, applied-functions, functions-applied, applied-occurs, plain-occurs}
 use Rattle.meaning.proofs.Sources.{Walked, walked}
 use Rattle.meaning.proofs.Candidate.{Fitting, candidate-function, candidate-plain, candidate-other, fitting-source, fitting-idle}
-use Rattle.meaning.proofs.Candidate.{lookup-cases, solution-candidate}
+use Rattle.meaning.proofs.Candidate.{lookup-cases, row-solution-unique}
 use Rattle.meaning.proofs.Lists.{drop-mem, mem-at, is-some}
 use Rattle.meaning.proofs.RowBodies.{face-expression, choice-in, row-exists, row-only, body-row}
 
@@ -164,11 +164,6 @@ candidate-solution p r c i e = record {
         absurd (true≢false (sym (x .0 .needed) ∙ idle (x .0 .standing) st))
 
 -- THE MAIN THEOREMS
-
--- UNIQUE: "that solution is then the only one, up to bound names"
-pub row-solution-unique : (p : Problem) (r : Row) (σ : Filling) → Proper p → Solution p σ → HasBodies p r σ → (m : ℕ)
-    → σ m ≡ candidate p r m
-row-solution-unique p r σ c s h = solution-candidate p r σ c s h
 
 -- Two solutions with the same bodies are equal
 pub solutions-unique : (p : Problem) (σ τ : Filling) → Proper p → Solution p σ → Solution p τ → ((f : ℕ) → f ∈ functions p → σ f ≡ τ f)

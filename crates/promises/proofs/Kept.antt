@@ -53,11 +53,11 @@ use Rattle.tivagyesz.proofs.matcher_write.Met as c-write-met
 use Rattle.tivagyesz.proofs.matcher_longest.Met as c-longest-met
 use Rattle.tivagyesz.proofs.matcher_check.Met as c-check-met
 use Rattle.promises.specs.Called.{Ends, OpenContract, Unasked}
-use Rattle.promises.specs.Numbers.{Refuses, checkAnswer, writeAnswer}
+use Rattle.promises.specs.Numbers.{checkAnswer, writeAnswer}
 use Rattle.promises.specs.Lists.{CEnd, CarriedCall, CarriedEnd, cAllowed, cFound, carriedAllowed, carriedFound, keptCalls}
 use Rattle.promises.specs.Promises.{FirstDemand, LongestList, SecondDemand, inC, inRattle, startAnswer}
 use Rattle.promises.specs.Promises as page
-use Rattle.promises.proofs.RefusalNumbers.{check-numbers, check-read, longest-numbers, write-numbers, write-read}
+use Rattle.promises.proofs.RefusalNumbers.{check-numbers, check-read, longest-read, write-numbers, write-read}
 use Rattle.promises.proofs.CallLists.{allowed-carried, callOf, carried-run, end-carried, founds-carried, kept-run}
 use Rattle.promises.proofs.CLists.{as-calls, c-started}
 use Rattle.promises.proofs.HostTexts.{Lawful, owed, texts-kept}
@@ -285,5 +285,6 @@ longest-list-in-c =
     (λ n out out′ a (k, k′, r, c, e).
     let h : LongestExport n out k out′ k′ r = c .1 in
     let same : a ≡ h .answer =
-    e ∙ ap₂ writeAnswer (h .code) (h .length) ∙ write-read (h .answer) k (subst Refuses (sym (h .call .answers)) (longest-numbers n out)) in
+    e ∙ ap₂ writeAnswer (h .code) (h .length)
+    ∙ ap (λ (y : Answer ℕ). writeAnswer (writeCode y) (lengthAfter k y)) (h .call .answers) ∙ longest-read n k out ∙ sym (h .call .answers) in
     subst (λ (y : Answer ℕ). LongestCall n out y out′) (sym same) (h .call))

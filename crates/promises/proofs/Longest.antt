@@ -19,7 +19,7 @@ use Rattle.meaning.proofs.ByteLaws.{got-is}
 use Rattle.meaning.proofs.ChoiceLaws.{rows-are}
 use Rattle.meaning.proofs.Proper.{Proper, accepted-proper}
 use Rattle.meaning.proofs.RowBodies.{row-only}
-use Rattle.longest.proofs.LongestList.{applied-list, list-most, longest-list, longest-nodes}
+use Rattle.longest.proofs.LongestList.{applied-list, heaviest-nodes, list-most, longest-count, heaviest-is-expression}
 use Rattle.longest.proofs.LongestAccepted.{longest-accepted, longest-read}
 use Rattle.longest.proofs.CallLaws.{Delivered, delivered, roomy-writes}
 use Rattle.promises.specs.Promises.{Interface, LongestList, Owed}
@@ -45,22 +45,23 @@ module _ {host : Interface} {s : Bytes} {rows : List (host .Held)} {ended : Type
 module _ (host : Interface) (writes : (n : ℕ) (out out′ : Bytes) (a : Answer ℕ) → host .Longest n out a out′ → LongestCall n out a out′) where
   pub longest-kept : LongestList host
   longest-kept = record {
-    writes = λ n out out′ a some few room c. roomy-writes some few room (writes n out out′ a c);
+    writes = λ n out out′ a some few room c. roomy-writes (record { some = some; few = few }) room (writes n out out′ a c);
     accepted = λ n k out out′ c. accepts n k out′ (delivered (writes n out out′ (got k) c));
-    nodes = longest-nodes;
-    has = longest-list;
+    nodes = heaviest-nodes;
+    expression = heaviest-is-expression;
+    has = longest-count;
     given = λ n k out out′ c rows ended allowances o e. founds n k out′ (delivered (writes n out out′ (got k) c)) rows ended allowances o e;
     listed = λ e x. (fullList (appliedTo e), applied-list e x);
     most = list-most;
   }
     where
       accepts : (n k : ℕ) (out′ : Bytes) → Delivered n k out′ → accept (take k out′) ≡ got (longestProblem n)
-      accepts n k out′ d = ap accept (d .front) ∙ longest-read n (d .some) (d .few)
+      accepts n k out′ d = ap accept (d .front) ∙ longest-read n (d .nodes)
 
       founds : (n k : ℕ) (out′ : Bytes) → Delivered n k out′ → (rows : List (host .Held)) (ended : Type 0) (allowances : ℕ)
           → Owed host (take k out′) rows ended allowances → ended → length rows ≡ 2 ^ (n - 1) + 1
       founds n k out′ d rows ended allowances o e =
           let same : longestProblem n ≡ o .problem = got-is (sym (accepts n k out′ d) ∙ o .accepted) in
-          let c : Proper (o .problem) = subst Proper same (accepted-proper (longestProblem n) (longest-accepted n (d .some) (d .few))) in
+          let c : Proper (o .problem) = subst Proper same (accepted-proper (longestProblem n) (longest-accepted n (d .nodes))) in
           all-given o c e
-          ∙ longest-list n (d .some) (o .full) (subst (λ (p : Problem). IsFullList p (o .full)) (sym same) (owed-full o c))
+          ∙ longest-count n (d .nodes .some) (o .full) (subst (λ (p : Problem). IsFullList p (o .full)) (sym same) (owed-full o c))

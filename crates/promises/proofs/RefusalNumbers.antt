@@ -1,9 +1,9 @@
--- Every refusal that a C program is given has a number from 1 to 20, 25, or 27 to 29: not 0, which is done, none from 256 on, which are answers,
--- and not 12, which is withdrawn.
---   start-numbers, search-numbers, write-numbers, longest-numbers, check-numbers   one for each exported function
+-- Every refusal that a C program is given has a number from 1 to 20, 25 or 27: not 0, which is done, none from 256 on, which are answers,
+-- and not 12, which is withdrawn; of `matcher_longest` it has 28 or 29.
+--   start-numbers, search-numbers, write-numbers, check-numbers, longest-numbers   one for each exported function
 -- The rest goes through the definitions of reading in document 01's order.
 use mathlib.Core.Path.{_≡_, refl, subst, _∙_}
-use mathlib.Core.Logic.{⊎-elim}
+use mathlib.Core.Logic.{_⊎_, inl, inr, ⊎-elim}
 use Prim.Native.Nat.{ℕ, zero, suc, _-_, _<_}
 use mathlib.Core.Bool.{Bool, true, false, _&&_, _||_, not, false≢true}
 use mathlib.Core.List.{List}
@@ -11,7 +11,7 @@ use lib.ListN.{length, getD}
 use lib.Dec.{eqb, ltb}
 use native.Mathlib.Omega.{arith}
 use borrow.Author.Tests.{ltb-true}
-use Rattle.meaning.proofs.Lists.{T-true, and-T, choose-false, eqb-eq, eqb-other, or-cases, true-T}
+use Rattle.meaning.proofs.Lists.{T-true, and-T, choose-false, eqb-eq, eqb-other, never, or-cases, true-T}
 use Rattle.meaning.specs.Limits.{firstWide, maxConstraints, maxDepth, maxFaceNodes, maxFunctions, largestProblem, largestText, metavariableCount}
 use Rattle.meaning.specs.Basics.{Bytes, choose}
 use Rattle.meaning.specs.Problem.{Problem, functions}
@@ -27,7 +27,8 @@ use Rattle.meaning.specs.Search.{found, end, paused, refusedCall, Place, Reply,
 use Rattle.meaning.specs.PlaceValue.{PlaceValue}
 use Rattle.meaning.specs.Entry.{HostReply, replyValue, startCall, SearchCall, notAccepted, onAccepted, noAllowance, noSuchPlace, searches}
 use Rattle.meaning.specs.Entry.{WriteCall, checkCall, checkOn, noSuchRow, noSolutionRow, tooShort, writes}
-use Rattle.meaning.specs.Longest.{lengthOf, longestBytes, longestInto}
+use Rattle.meaning.specs.Longest.{lengthOf, longestInto}
+use Rattle.longest.proofs.IntoLaws.{into-by}
 use Rattle.words.specs.Words.{hasPlace}
 use Rattle.tivagyesz.specs.Exported.{checkCode, lengthAfter, placeInto, startInto, withRow, writeCode}
 use Rattle.promises.specs.Numbers.{isRefusal, Refuses, answer, refusal, RefusesReply, checkAnswer, writeAnswer}
@@ -234,24 +235,19 @@ write-numbers s v buffer after′ given (onAccepted p e (noSolutionRow r names f
 write-numbers s v buffer after′ given (onAccepted p e (tooShort r names t l)) = refusal 18 refl
 write-numbers s v buffer after′ given (onAccepted p e (writes r names t l)) = answer _
 
--- `matcher_longest`
-pub longest-numbers : (n : ℕ) (buffer : Bytes) → Refuses (lengthOf (longestInto buffer n))
-unfolding longestInto
-longest-numbers n buffer = go (ltb n 1 || ltb maxFaceNodes n) (ltb (length buffer) (length (longestBytes n)))
-  where
-    go : (outside short : Bool) → Refuses (lengthOf (choose outside (refused 28) (choose short (refused 29) (got (longestBytes n)))))
-    go true short = refusal 28 refl
-    go false true = refusal 29 refl
-    go false false = answer _
-
 -- `matcher_check`
 pub check-numbers : (s t : Bytes) → Refuses (checkCall s t)
 unfolding checkCall checkOn
 check-numbers s t = then (accept s) _ (accepted s) (λ p. then (readText t) _ (text t) (λ is. answer _))
 
+-- `matcher_longest`
+pub longest-numbers : (n r : ℕ) (buffer : Bytes) → lengthOf (longestInto n buffer) ≡ refused r → (r ≡ 28) ⊎ (r ≡ 29)
+longest-numbers n r buffer =
+    into-by n buffer (λ a. lengthOf a ≡ refused r → (r ≡ 28) ⊎ (r ≡ 29)) (λ e. inl (cc)) (λ e. inr (cc)) (λ h e. never (cc))
+
 -- The numbers of refusals are above 0 and below 256
 pub small : (r : ℕ) → isRefusal r ≡ true → (0 < r) × (r < 256)
-small r e = ⊎-elim low high (or-cases (ltb 0 r && (ltb r 21 && not (eqb r 12))) (eqb r 25 || (ltb 26 r && ltb r 30)) e)
+small r e = ⊎-elim low high (or-cases (ltb 0 r && (ltb r 21 && not (eqb r 12))) (eqb r 25 || eqb r 27) e)
   where
     low : (ltb 0 r && (ltb r 21 && not (eqb r 12))) ≡ true → (0 < r) × (r < 256)
     low h =
@@ -259,13 +255,9 @@ small r e = ⊎-elim low high (or-cases (ltb 0 r && (ltb r 21 && not (eqb r 12))
         let (c, d) = and-T (ltb r 21) (not (eqb r 12)) b in
         (ltb-true 0 r (T-true a), omega (arith, ltb-true r 21 (T-true c)))
 
-    high : (eqb r 25 || (ltb 26 r && ltb r 30)) ≡ true → (0 < r) × (r < 256)
-    high h =
-        ⊎-elim (λ q. let z = eqb-eq r 25 q in (omega arith, omega arith))
-        (λ q.
-        let (a, b) = and-T (ltb 26 r) (ltb r 30) (true-T q) in
-        (omega (arith, ltb-true 26 r (T-true a)), omega (arith, ltb-true r 30 (T-true b))))
-        (or-cases (eqb r 25) (ltb 26 r && ltb r 30) h)
+    high : (eqb r 25 || eqb r 27) ≡ true → (0 < r) × (r < 256)
+    high h = ⊎-elim (λ q. let z = eqb-eq r 25 q in (omega arith, omega arith)) (λ q. let z = eqb-eq r 27 q in (omega arith, omega arith))
+        (or-cases (eqb r 25) (eqb r 27) h)
 
 -- What a number says is what was answered
 pub check-read : (a : Answer Bool) → Refuses a → checkAnswer (checkCode a) ≡ a
@@ -279,3 +271,8 @@ pub write-read : (a : Answer ℕ) (before : ℕ) → Refuses a → writeAnswer (
 write-read (got n) before h = refl
 write-read (refused zero) before (refusal q e) = absurd (omega (arith, small zero e))
 write-read (refused (suc r)) before h = refl
+
+pub longest-read : (n before : ℕ) (buffer : Bytes)
+    → let a = lengthOf (longestInto n buffer) in writeAnswer (writeCode a) (lengthAfter before a) ≡ a
+longest-read n before buffer =
+    into-by n buffer (λ a. writeAnswer (writeCode (lengthOf a)) (lengthAfter before (lengthOf a)) ≡ lengthOf a) refl refl (λ h. refl)

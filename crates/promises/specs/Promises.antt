@@ -28,7 +28,7 @@ use Rattle.meaning.specs.PlaceValue.{Names, PlaceValue, placeValue}
 use Rattle.meaning.specs.Entry.{SearchCall, WriteCall, checkCall, startCall}
 use Rattle.meaning.specs.Calls.{givenRow}
 use Rattle.meaning.specs.Given.{namedBy}
-use Rattle.meaning.specs.Longest.{LongestCall, appliedTo, longest, longestProblem}
+use Rattle.meaning.specs.Longest.{LongestCall, appliedTo, heaviest, longestProblem}
 use Rattle.masks.specs.declared.NodeSet.{NodeSet}
 use Rattle.places.specs.Places.{valueOf}
 use Rattle.places.specs.declared.Place.{Place}
@@ -50,7 +50,8 @@ use Rattle.matcher.specs.declared.Reply.{Reply}
 use Rattle.words.specs.Words.{placeOfWords}
 use Rattle.tivagyesz.specs.Exported.{CheckExport, LongestExport, SearchExport, StartExport, WriteExport}
 use Rattle.promises.specs.Called.{CCheckCalled, CLongestCalled, CSearchCalled, CStartCalled, CWriteCalled, CheckCalled, Ends}
-use Rattle.promises.specs.Called.{LongestCalled, OpenCalled, OpenContract, OpenedCalled, OwnedCalled, PastLastCalled, RowAtCalled, SearchCalled, StartCalled, Unasked, WriteCalled}
+use Rattle.promises.specs.Called.{LongestCalled, OpenCalled, OpenContract, OpenedCalled, OwnedCalled, PastLastCalled, RowAtCalled}
+use Rattle.promises.specs.Called.{SearchCalled, StartCalled, Unasked, WriteCalled}
 use Rattle.promises.specs.Numbers.{checkAnswer, writeAnswer}
 use Rattle.promises.specs.Lists.{CCall, CEnd, CRun, CarriedCall, CarriedEnd, CarriedRun, KeptCall, KeptRun, cAllowed, cFound}
 use Rattle.promises.specs.Lists.{carriedAllowed, carriedFound, keptCalls}
@@ -210,7 +211,8 @@ pub record LongestList (host : Interface) : Type 1 where
       → (k : ℕ) × (a ≡ got k)
   pub accepted : (n k : ℕ) (out out′ : Bytes) → host .Longest n out (got k) out′ → accept (take k out′) ≡ got (longestProblem n)
   -- "where e has n nodes"
-  pub nodes : (n : ℕ) → 1 ≤ n → size (one (longest n)) ≡ n
+  pub nodes : (n : ℕ) → 1 ≤ n → size (one (heaviest n)) ≡ n
+  pub expression : (n : ℕ) → 1 ≤ n → IsExpression (one (heaviest n))
   -- "It has 2^(n-1) + 1 solutions": its full list has as many entries, and a list of calls with an End as many Founds
   pub has : (n : ℕ) → 1 ≤ n → (full : List Listed) → IsFullList (longestProblem n) full → length full ≡ 2 ^ (n - 1) + 1
   pub given : (n k : ℕ) (out out′ : Bytes) → host .Longest n out (got k) out′ → (rows : List (host .Held)) (ended : Type 0) (allowances : ℕ)

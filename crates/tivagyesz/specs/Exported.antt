@@ -1,5 +1,6 @@
 -- What each exported function owes, for any bytes, any words and any buffers: a call of document 01 (`startCall`, `SearchCall`,
--- `WriteCall`, `checkCall`) or of T-13 (`LongestCall`), its answer as a number, and what each slice holds after it. A slice has as many elements after as before.
+-- `WriteCall`, `checkCall`) or of T-13 (`LongestCall`), its answer as a number, and what each slice holds after it. A slice has as many
+-- elements after as before.
 -- "A refusal returns its number only. The output buffer and open search stay": a refusal is document 01's number, and nothing is changed.
 --   ..Code      the number of an answer
 --   ..After     what a slice holds after an answer

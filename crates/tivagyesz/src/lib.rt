@@ -1,5 +1,5 @@
 // The matcher for programs in C, declared in include/matcher.h. A place is words that the caller keeps; every function takes any bytes, any
-// words and any buffers, and answers a number: a refusal of document 01, or what the call found.
+// words and any buffers, and answers a number: a refusal of document 01 or of its change requests, or what the call found.
 pub mod codes;
 
 use checking::check;
@@ -91,7 +91,7 @@ fn write_code(answer: Written) -> u32
     }
 }
 
-// The length of the text into `written`, if there is a text.
+// How many bytes were written into `written`, if any were.
 fn give_length(answer: Written, written: &mut usize)
     ensures { λ _. ⌜ now (written .exit) ≡ lengthAfter (now (written .entry)) (answerOf answer) ⌝ }
 {

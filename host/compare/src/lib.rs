@@ -1,9 +1,10 @@
 //! The proved matcher held against a second implementation, on the same problems.
 //!
 //! Each comparison is a function over a [`subject::Subject`], so that it can be tried on wrong matchers too ([`wrong`]):
-//! one that passes any of them would be no test. [`large`] has wrong ones of its own ([`wrong_sets`]), and so has [`longest`].
-//! [`pairs`] and [`numbers`] are over what a program prints, with wrong ones of their own too ([`wrong_pairs`], [`wrong_numbers`]). [`textbook`] has no
-//! second implementation: it tries everything that a definition speaks of.
+//! one that passes any of them would be no test. [`large`] has wrong ones of its own ([`wrong_sets`]), and so has [`longest`]
+//! ([`wrong_longest`]). [`pairs`] and [`numbers`] are over what a program prints, with wrong ones of their own too
+//! ([`wrong_pairs`], [`wrong_numbers`]). [`textbook`] has no second implementation: it tries everything that a definition
+//! speaks of.
 
 #![forbid(unsafe_code)]
 #![warn(missing_docs)]
@@ -33,6 +34,7 @@ pub mod texts;
 pub mod tree;
 pub mod vectors;
 pub mod wrong;
+pub mod wrong_longest;
 pub mod wrong_numbers;
 pub mod wrong_pairs;
 pub mod wrong_sets;

@@ -2,7 +2,7 @@
 
 use crate::hex::hex;
 use crate::report::Tally;
-use matcher::raw::{self, LARGEST_PROBLEM, OK};
+use matcher::raw::{LARGEST_PROBLEM, OK};
 
 /// Writes the problem with the longest list for so many nodes, as `matcher::raw::longest` does.
 pub type Writer = dyn Fn(u32, &mut [u8], &mut usize) -> u32;
@@ -16,11 +16,14 @@ fn numbers() -> impl Iterator<Item = u32> {
     (0..=260).chain([511, 512, 65_535, 65_537, u32::MAX])
 }
 
-/// Buffers of any length that matters: none, those about the shortest problem, about this one, and room for all.
+/// The length of the last problem, by hand: 11 bytes before the application, 3 of its head, and 5 for each of 255 symbols.
+const LAST: usize = 11 + 3 + 5 * 255;
+
+/// Buffers of any length that matters: none, those about the shortest problem, about this one or, where there is none, the
+/// last, and room for all.
 fn rooms(nodes: u32) -> Vec<usize> {
-    let exact = second::longest(nodes, usize::MAX).map_or(0, |bytes| bytes.len());
-    let about = [exact.saturating_sub(1), exact, exact + 1];
-    [vec![0, 1, 15, 16, 17], about.to_vec(), vec![LARGEST_PROBLEM]].concat()
+    let exact = second::longest(nodes, usize::MAX).map_or(LAST, |bytes| bytes.len());
+    vec![0, 1, 15, 16, 17, exact - 1, exact, exact + 1, LARGEST_PROBLEM]
 }
 
 /// Compares the writer's answers, lengths and buffers.
@@ -54,95 +57,4 @@ fn one(write: &Writer, nodes: u32, room: usize) -> Result<String, String> {
         return Err(format!("left {}, not {}", hex(&out), hex(&buffer)));
     }
     Ok(case)
-}
-
-/// A way to be wrong.
-#[derive(Clone, Copy, Debug, PartialEq, Eq)]
-pub enum WrongLongest {
-    /// Refuses everything.
-    Refuses,
-    /// Takes another number of nodes for the last: 255.
-    LastIs255,
-    /// Writes for 257 nodes too.
-    Takes257,
-    /// Takes 0 nodes for 1.
-    Takes0,
-    /// Has one symbol more.
-    OneSymbolMore,
-    /// Has symbol 1 for the last one.
-    LastSymbolDiffers,
-    /// Has a symbol without an application for two nodes.
-    TwoNodesAreOne,
-    /// Looks for 29 before 28.
-    LooksFor29First,
-    /// Refuses a buffer that is just long enough.
-    RefusesExactRoom,
-    /// Changes the byte after the problem.
-    WritesTooFar,
-    /// Changes the buffer although it is too short.
-    WritesWhenRefused,
-    /// Gives a length although it refuses.
-    TellsLengthWhenRefused,
-}
-
-impl WrongLongest {
-    /// All of them.
-    pub const ALL: [WrongLongest; 12] = [
-        WrongLongest::Refuses,
-        WrongLongest::LastIs255,
-        WrongLongest::Takes257,
-        WrongLongest::Takes0,
-        WrongLongest::OneSymbolMore,
-        WrongLongest::LastSymbolDiffers,
-        WrongLongest::TwoNodesAreOne,
-        WrongLongest::LooksFor29First,
-        WrongLongest::RefusesExactRoom,
-        WrongLongest::WritesTooFar,
-        WrongLongest::WritesWhenRefused,
-        WrongLongest::TellsLengthWhenRefused,
-    ];
-
-    /// Writes wrongly.
-    pub fn write(self, nodes: u32, out: &mut [u8], written: &mut usize) -> u32 {
-        let before = out.to_vec();
-        let handed = match (self, nodes) {
-            (WrongLongest::Takes257, 257) => 256,
-            (WrongLongest::Takes0, 0) | (WrongLongest::TwoNodesAreOne, 2) => 1,
-            (WrongLongest::OneSymbolMore, 2..=255) => nodes + 1,
-            _ => nodes,
-        };
-        let answer = raw::longest(handed, out, written);
-        match self {
-            WrongLongest::Refuses => {
-                out.copy_from_slice(&before);
-                28
-            }
-            WrongLongest::LastIs255 if nodes == 256 && answer != 28 => {
-                out.copy_from_slice(&before);
-                28
-            }
-            WrongLongest::LastSymbolDiffers if answer == OK => {
-                out[*written - 1] = 1;
-                OK
-            }
-            WrongLongest::LooksFor29First if answer == 28 && out.len() < 16 => 29,
-            WrongLongest::RefusesExactRoom if answer == OK && out.len() == *written => {
-                out.copy_from_slice(&before);
-                29
-            }
-            WrongLongest::WritesTooFar if answer == OK && *written < out.len() => {
-                out[*written] = 0;
-                OK
-            }
-            WrongLongest::WritesWhenRefused if answer == 29 && !out.is_empty() => {
-                out[0] = 7;
-                29
-            }
-            WrongLongest::TellsLengthWhenRefused if answer == 29 => {
-                *written = 0;
-                29
-            }
-            _ => answer,
-        }
-    }
 }

@@ -1,5 +1,5 @@
-//! The C example, compiled as its first lines say, prints what the second implementation gives; the header by itself is
-//! strict C and C++.
+//! The C examples, compiled as their first lines say, print what the second implementation gives, and between them call every
+//! function of the header; the header by itself is strict C and C++.
 
 use compare::generate;
 use compare::random::Random;
@@ -30,16 +30,18 @@ fn no_warning(output: &Output) {
     assert!(output.status.success(), "{}", String::from_utf8_lossy(&output.stderr));
 }
 
-/// Compiles the example.
-fn compiled(to: &Path) {
+/// Compiles an example, into a file of this process.
+fn compiled(example: &str) -> PathBuf {
+    let to = std::env::temp_dir().join(format!("matcher_{example}_{}", std::process::id()));
     let output = compiler("CC", "cc")
         .args(["-std=c99", "-O1", "-o"])
-        .arg(to)
-        .arg(repository().join("host/examples/list.c"))
+        .arg(&to)
+        .arg(repository().join("host/examples").join(example).with_extension("c"))
         .arg(env!("TIVAGYESZ_LIBRARY"))
         .output()
         .expect("a C compiler is there");
     no_warning(&output);
+    to
 }
 
 /// Runs a program on this input.
@@ -76,8 +78,7 @@ fn said(answer: &str) -> String {
 
 #[test]
 fn it_lists_as_the_second_implementation_does() {
-    let program = std::env::temp_dir().join(format!("matcher_list_{}", std::process::id()));
-    compiled(&program);
+    let program = compiled("list");
     let mut solutions = 0;
     for seed in 0..200 {
         let problem = tree::problem(&generate::problem(&mut Random::new(seed)).constraints);
@@ -97,6 +98,30 @@ fn it_lists_as_the_second_implementation_does() {
     assert_eq!((&printed[..], words), ("refused 1\n", said("refused 1\n")));
     let _ = std::fs::remove_file(&program);
     assert!(solutions >= 100, "only {solutions} solutions");
+}
+
+/// T-13: "It has 2^(n-1) + 1 solutions".
+#[test]
+fn it_counts_the_longest_lists() {
+    let program = compiled("heaviest");
+    let run = |nodes: &str| {
+        let output = Command::new(&program).arg(nodes).output().expect("the example runs");
+        let text = |bytes| String::from_utf8(bytes).expect("it prints text");
+        (output.status.code(), text(output.stdout), text(output.stderr))
+    };
+    for nodes in 1..=8 {
+        let solutions = format!("{} solutions\n", (1 << (nodes - 1)) + 1);
+        assert_eq!(run(&nodes.to_string()), (Some(0), solutions, String::new()));
+    }
+    let outside = "heaviest: refused 28: the number of nodes is not from 1 to 256\n";
+    for nodes in ["0", "257", "4294967295"] {
+        assert_eq!(run(nodes), (Some(1), String::new(), outside.to_string()));
+    }
+    let usage = "usage: heaviest NODES, a number from 1 to 256\n";
+    for nodes in ["", "many", "3x", "4294967296"] {
+        assert_eq!(run(nodes), (Some(2), String::new(), usage.to_string()));
+    }
+    let _ = std::fs::remove_file(&program);
 }
 
 /// What a compiler says of a file that has the header and nothing else.

@@ -14,14 +14,14 @@ returns : tie.Need-returns
 returns c =
     let test = c .before in
     let args = test .before .before .before .args in
-    outside-refused (args .n) (test .before .problem-length .result) (args .out .now) (test .is-outside .ensures) (c .if1 .taken)
+    outside-refused (args .n) (args .out .now) (test .is-outside .ensures) (c .if1 .taken)
 
 returns-2 : tie.Need-returns-2
 returns-2 c =
     let other = c .before in
     let test = other .before in
     let args = test .before .before .before .args in
-    short-refused (args .n) _ (args .out .now) (test .is-outside .ensures) (other .if1 .left) (test .before .problem-length .ensures)
+    short-refused (args .n) (args .out .now) _ (test .is-outside .ensures) (other .if1 .left) (test .before .problem-length .ensures)
     (c .if2 .taken)
 
 write-problem-requires : tie.Need-write-problem-requires
@@ -30,7 +30,7 @@ write-problem-requires c κs =
     let other = room .before in
     let test = other .before in
     let args = test .before .before .before .args in
-    problem-room (args .n) _ (args .out .now) (test .is-outside .ensures) (other .if1 .left) (test .before .problem-length .ensures)
+    problem-room (args .n) (args .out .now) _ (test .is-outside .ensures) (other .if1 .left) (test .before .problem-length .ensures)
     (room .if2 .left)
 
 same-length : tie.Need-same-length
@@ -43,7 +43,7 @@ returns-3 c =
     let other = room .before in
     let test = other .before in
     let args = test .before .before .before .args in
-    longest-written (args .n) _ (args .out .now) (test .is-outside .ensures) (other .if1 .left) (test .before .problem-length .ensures)
+    longest-written (args .n) (args .out .now) _ (test .is-outside .ensures) (other .if1 .left) (test .before .problem-length .ensures)
     (room .if2 .left) (w .write-problem .ensures)
 
 pub write-longest-spec : {M : Type 1} → statement M

@@ -2,7 +2,7 @@
 use borrow.Author.Needs.{needs}
 use native.Mathlib.Omega.{arith}
 use Prim.Native.Nat.{_-_}
-use Rattle.longest.proofs.WriteLaws.{Symbols, symbol-fits, symbol-room, symbols-begin, symbols-end, symbols-go}
+use Rattle.longest.proofs.WriteLaws.{Symbols, symbol-fits, symbol-room, symbol-start, symbols-begin, symbols-end, symbols-go}
 use Rattle.longest.proofs.write_symbols.Statement.{statement}
 use Rattle.longest.proofs.write_symbols.Tie as tie
 
@@ -25,16 +25,10 @@ mul-put c =
     omega (arith, symbol-room (loop .inv) (omega arith) (start .pre))
 
 sub-put : tie.Need-sub-put Inv-loop μ-loop
-sub-put c =
-    let loop = c .before .before .loop in
-    let start = c .before .before .before .before in
-    omega (arith, symbol-room (loop .inv) (omega arith) (start .pre))
+sub-put c = let loop = c .before .before in symbol-start (loop .loop .inv) (omega arith) (loop .before .before .pre)
 
 part-put-start : tie.Need-part-put-start Inv-loop μ-loop
-part-put-start c =
-    let loop = c .before .before .loop in
-    let start = c .before .before .before .before in
-    omega (arith, symbol-room (loop .inv) (omega arith) (start .pre))
+part-put-start c = let loop = c .before .before in symbol-start (loop .loop .inv) (omega arith) (loop .before .before .pre)
 
 part-put-end : tie.Need-part-put-end Inv-loop μ-loop
 part-put-end c = search needs
