@@ -79,5 +79,5 @@ longest-accepted (suc m) h =
     let few = h .few in
     record { within = within m few; checked = applied-checked (heaviest (suc m)) (let nodes = heaviest-size m in omega arith) }
 
-pub longest-read : (n : ℕ) → Nodes n → accept (longestBytes n) ≡ got (longestProblem n)
-longest-read n h = accepted-accept (longestProblem n) (longest-accepted n h)
+pub longest-accept : (n : ℕ) → Nodes n → accept (longestBytes n) ≡ got (longestProblem n)
+longest-accept n h = accepted-accept (longestProblem n) (longest-accepted n h)

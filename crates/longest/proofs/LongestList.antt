@@ -1,7 +1,7 @@
 -- T-13, for every n and whatever the depth of e: "It has 2^(n-1) + 1 solutions, and every other expression of n nodes in such a problem
 -- has at most as many."
---   applied-list   (P(X), e) has a full list, also where no input can hold e
---   list-most      with at most 2^(n-1) + 1 entries, where e has n nodes
+--   applied-list    (P(X), e) has a full list, also where no input can hold e
+--   list-most       with at most 2^(n-1) + 1 entries, where e has n nodes
 --   longest-count   that of T-13's problem has as many
 use mathlib.Core.Path.{_≡_, ap}
 use Prim.Native.Nat.{ℕ, zero, suc, _+_, _-_, _^_, _≤_}

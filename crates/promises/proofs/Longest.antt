@@ -19,8 +19,8 @@ use Rattle.meaning.proofs.ByteLaws.{got-is}
 use Rattle.meaning.proofs.ChoiceLaws.{rows-are}
 use Rattle.meaning.proofs.Proper.{Proper, accepted-proper}
 use Rattle.meaning.proofs.RowBodies.{row-only}
-use Rattle.longest.proofs.LongestList.{applied-list, heaviest-nodes, list-most, longest-count, heaviest-is-expression}
-use Rattle.longest.proofs.LongestAccepted.{longest-accepted, longest-read}
+use Rattle.longest.proofs.LongestList.{applied-list, heaviest-is-expression, heaviest-nodes, list-most, longest-count}
+use Rattle.longest.proofs.LongestAccepted.{longest-accept, longest-accepted}
 use Rattle.longest.proofs.CallLaws.{Delivered, delivered, roomy-writes}
 use Rattle.promises.specs.Promises.{Interface, LongestList, Owed}
 
@@ -56,7 +56,7 @@ module _ (host : Interface) (writes : (n : ℕ) (out out′ : Bytes) (a : Answer
   }
     where
       accepts : (n k : ℕ) (out′ : Bytes) → Delivered n k out′ → accept (take k out′) ≡ got (longestProblem n)
-      accepts n k out′ d = ap accept (d .front) ∙ longest-read n (d .nodes)
+      accepts n k out′ d = ap accept (d .front) ∙ longest-accept n (d .nodes)
 
       founds : (n k : ℕ) (out′ : Bytes) → Delivered n k out′ → (rows : List (host .Held)) (ended : Type 0) (allowances : ℕ)
           → Owed host (take k out′) rows ended allowances → ended → length rows ≡ 2 ^ (n - 1) + 1

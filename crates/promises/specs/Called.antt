@@ -2,8 +2,8 @@
 -- stands in the source, tells of it; that a call is told of means that it has returned.
 --   Lent        where what is lent lies, and for how long: nothing that a contract says depends on it
 --   ..Called    what is handed in, what comes back, and what each buffer holds before and after
---   Unasked     no contract asks anything of its caller: any bytes, places, rows, allowances, texts, numbers of
---               nodes and buffers may be handed in
+--   Unasked     no contract asks anything of its caller: any bytes, places, rows, allowances, texts, numbers of nodes and buffers may be
+--               handed in
 --   OpenContract   the same of `search_open`, and that what the page takes for its contract is what stands in the source
 --   Ends        each call ends, without a fault, and then its contract holds: the program logic's own statement of the compiled function
 use mathlib.Core.Path.{_≡_}

@@ -1,6 +1,7 @@
 -- How a program in C reads the numbers that it is answered, as `include/matcher.h` says: 0 or a number from 256 on is an answer, any other
 -- number is a refusal.
---   isRefusal      the numbers that refusals have where a problem is taken: 1 to 20 but for 12, 25 or 27; T-09: "Refusal 12 is withdrawn and its number stays unused"
+--   isRefusal      the numbers that refusals have where a problem is taken: 1 to 20 but for 12, 25 or 27; T-09: "Refusal 12 is withdrawn and
+--                  its number stays unused"
 --   writeAnswer    what `matcher_write` and `matcher_longest` say: 0 with the length that was written, or a refusal
 --   checkAnswer    what `matcher_check` says: 259 is yes and 260 no, or a refusal
 --   Refuses        a refusal has such a number

@@ -204,7 +204,7 @@ pub record ThirdDemand : Type 1 where
   pub exported : (s : Bytes) (words place : List ℕ) (cs : List CCall) → All Byte s → CStartCalled s words 0 place → CRun s place cs
       → Owed inC s (cFound cs) (CEnd cs) (cAllowed cs)
 
--- T-13
+-- T-13: "The longest list for a given length"
 pub record LongestList (host : Interface) : Type 1 where
   -- "For n from 1 to 256 the tool writes the problem (P(X), e)": wherever there is room for any problem; and what is written is accepted
   pub writes : (n : ℕ) (out out′ : Bytes) (a : Answer ℕ) → 1 ≤ n → n ≤ maxFaceNodes → largestProblem ≤ length out → host .Longest n out a out′
