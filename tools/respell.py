@@ -33,13 +33,13 @@ def antt():
 
 
 def declared():
-    """Names that specs/ and lemma files declare: signatures at the margin, and fields and constructors below a `record` or `data`."""
+    """Names that specs/ and lemma files declare: signatures, fields, constructors."""
     names = {}
     for path in antt():
         if path.name in ("Proof.antt", "Invariants.antt", "Answers.antt"):
             continue
         for line in code(path.read_text()).split("\n"):
-            m = SIGNATURE.match(line.strip() if line.startswith("    ") and "=" not in line and "→" not in line.split(":")[0] else line)
+            m = SIGNATURE.match(line.strip())
             if m:
                 names.setdefault(m[2], set()).add(path)
     return names
@@ -103,7 +103,13 @@ def together(names):
 
 
 def respelled(text, names):
-    return WORD.sub(lambda m: names.get(m[0], m[0]), text)
+    """A step of a function's proof, as `c.parts-of`, is named by the Rust function and not by a lemma."""
+
+    def one(m):
+        new = names.get(m[0], m[0])
+        return snake(m[0]) if new.endswith("_lem") and text[: m.start()].endswith(".") else new
+
+    return WORD.sub(one, text)
 
 
 def in_comment(text, names):

@@ -19,7 +19,7 @@ use Rattle.meaning.specs.Accept.{accept}
 use Rattle.meaning.proofs.ProblemReading.{read_within, accept_accepted}
 use Rattle.tokens.specs.Token.{pattern_tokens, expression_tokens, Table}
 use Rattle.tokens.proofs.TokenParts.{tokens_length}
-use Rattle.tokens.proofs.ProblemTokens.{nodes_few, pattern-table, expression-table}
+use Rattle.tokens.proofs.ProblemTokens.{nodes_few, pattern_table_lem, expression_table_lem}
 use Rattle.metavariables.specs.Survey.{Surveyed}
 use Rattle.metavariables.specs.declared.Occurring.{Occurring}
 use Rattle.faces.specs.Check.{CheckedBy}
@@ -53,34 +53,34 @@ module _ (s o p x y : List ℕ) (b : AreBytes s) (m n k : ℕ) (d : ProblemDone 
   within : WithinLimits tables.problem
   within = read_within s tables.problem b tables.reads
 
-  pattern-front : take m p ≡ pattern_tokens tables.problem
-  pattern-front = ap (take m) tables.pattern_table ∙ take_at (pattern_tokens tables.problem) (drop m o) m (sym tables.pattern_nodes)
+  pattern_front : take m p ≡ pattern_tokens tables.problem
+  pattern_front = ap (take m) tables.pattern_table ∙ take_at (pattern_tokens tables.problem) (drop m o) m (sym tables.pattern_nodes)
 
-  expression-front : take n y ≡ expression_tokens tables.problem
-  expression-front =
+  expression_front : take n y ≡ expression_tokens tables.problem
+  expression_front =
       ap (take n) tables.expression_table ∙ take_at (expression_tokens tables.problem) (drop n x) n (sym tables.expression_nodes)
 
   -- What `check` wants of them
-  pub pattern-ready : Table (take m p)
-  pattern-ready = rw pattern-front (pattern-table tables.problem within)
+  pub pattern_ready : Table (take m p)
+  pattern_ready = rw pattern_front (pattern_table_lem tables.problem within)
 
-  pub expression-ready : Table (take n y)
-  expression-ready = rw expression-front (expression-table tables.problem within)
+  pub expression_ready : Table (take n y)
+  expression_ready = rw expression_front (expression_table_lem tables.problem within)
 
   -- They lie in the tables, and the faces have room for one for each node of the patterns
-  pub patterns-inside : m ≤ length p
-  patterns-inside =
+  pub patterns_inside_lem : m ≤ length p
+  patterns_inside_lem =
       omega (arith, ap length tables.pattern_table, length-append (pattern_tokens tables.problem) (drop m o), tables.pattern_nodes)
 
-  pub expressions-inside : n ≤ length y
-  expressions-inside =
+  pub expressions_inside_lem : n ≤ length y
+  expressions_inside_lem =
       omega
       (arith, ap length tables.expression_table, length-append (expression_tokens tables.problem) (drop n x), tables.expression_nodes)
 
-  pub few-tokens : length (take m p) ≤ table_room
+  pub few_tokens : length (take m p) ≤ table_room
   unfolding pattern_tokens
-  few-tokens =
-      omega (arith, ap length pattern-front, tokens_length [] (named_patterns tables.problem), nodes_few tables.problem within)
+  few_tokens =
+      omega (arith, ap length pattern_front, tokens_length [] (named_patterns tables.problem), nodes_few tables.problem within)
 
 -- READING AND CHECKING IS ACCEPTANCE: c is what the checks answer on the fronts of the tables, where a problem was read
 pub reading_checking : (s o p x y : List ℕ) → AreBytes s → (r : Read) → ProblemDone (read_problem s) o p x y r
@@ -91,14 +91,14 @@ unfolding accept
 reading_checking s o p x y b (answers.Refused n) d old new c h = rw (read_refused s o p x y d)
 reading_checking s o p x y b (answers.Problem m n k) d old new c h =
     let t = tables s o p x y b m n k d in
-    let front = rw (pattern-front s o p x y b m n k d, expression-front s o p x y b m n k d) at (h m n k refl) in
+    let front = rw (pattern_front s o p x y b m n k d, expression_front s o p x y b m n k d) at (h m n k refl) in
     rw t.reads (check_answer_lem t.problem (within s o p x y b m n k d) old new c front)
 
 -- The returns of `checked`
 module _ (ps es old new : List ℕ) (f : Checked) (d : CheckedBy ps es old new f) where
-  pub checks-refused : (r : ℕ) → f ≡ checked.Refused r → Checks ps es old new (verdicts.Refused r)
+  pub checks_refused : (r : ℕ) → f ≡ checked.Refused r → Checks ps es old new (verdicts.Refused r)
   unfolding Checks
-  checks-refused r e = rw e at d
+  checks_refused r e = rw e at d
 
   module _ (s : Occurring) (v : Surveyed ps s) where
     abbrev pub standing : Bool → ℕ → Standing
@@ -118,9 +118,9 @@ module _ (q : Problem) (new : List ℕ) (n : ℕ) where
   passes true = refl
   passes false = refl
 
-  has-faces : (b : Bool) → Says q new (choose b (checked.Faces n) checked.NoRows) → b ≡ is_some (faces q)
-  has-faces true h = sym (ap is_some h.agree)
-  has-faces false h = sym (ap is_some h.1)
+  has_faces : (b : Bool) → Says q new (choose b (checked.Faces n) checked.NoRows) → b ≡ is_some (faces q)
+  has_faces true h = sym (ap is_some h.agree)
+  has_faces false h = sym (ap is_some h.1)
 
   recorded : (b : Bool) → Says q new (choose b (checked.Faces n) checked.NoRows) → (found : List Face) → faces q ≡ some found
       → (length found ≡ n) × Recorded q (take n new) found
@@ -141,12 +141,12 @@ module _ (s o p x y : List ℕ) (b : AreBytes s) (m n k : ℕ) (d : ProblemDone 
       (λ m' n' k' e. let em : m ≡ m' = cc in let en : n ≡ n' = cc in rw (← em, ← en) h)
       ∙ rw (tables s o p x y b m n k d).reads
 
-  pub accepts-checked : (r : Verdict) → Checks (take m p) (take n y) old new r → Accepts (accept s) o p x y new r
+  pub accepts_checked : (r : Verdict) → Checks (take m p) (take n y) old new r → Accepts (accept s) o p x y new r
   unfolding Checks Accepts
-  accepts-checked (verdicts.Refused r) h = rw (answered (checked.Refused r) h, Accepts)
-  accepts-checked (verdicts.Accepted a) h =
+  accepts_checked (verdicts.Refused r) h = rw (answered (checked.Refused r) h, Accepts)
+  accepts_checked (verdicts.Accepted a) h =
       let t = tables s o p x y b m n k d in
-      let front = rw (pattern-front s o p x y b m n k d, expression-front s o p x y b m n k d) at h in
+      let front = rw (pattern_front s o p x y b m n k d, expression_front s o p x y b m n k d) at h in
       let says = check_means t.problem (within s o p x y b m n k d) old new (checked_as a) front.check in
       rw (answered (checked_as a) h.check ∙ passes t.problem new a.faces a.rows, Accepts) (
         a,
@@ -159,7 +159,7 @@ module _ (s o p x y : List ℕ) (b : AreBytes s) (m n k : ℕ) (d : ProblemDone 
               t.expression_table
               ∙ ap (λ (i : ℕ). expression_tokens t.problem ++ drop i x) (t.expression_nodes ∙ sym front.expressions);
           survey = front.survey;
-          has_rows = has-faces t.problem new a.faces a.rows says;
+          has_rows = has_faces t.problem new a.faces a.rows says;
           none = front.none;
           recorded = recorded t.problem new a.faces a.rows says;
         },
@@ -167,19 +167,19 @@ module _ (s o p x y : List ℕ) (b : AreBytes s) (m n k : ℕ) (d : ProblemDone 
 
 -- What the answer tells a caller: a refusal is document 01's,
 module _ (s o p x y new : List ℕ) where
-  pub verdict-refused : (n : ℕ) → Accepts (accept s) o p x y new (verdicts.Refused n) → accept s ≡ refused n
+  pub verdict_refused : (n : ℕ) → Accepts (accept s) o p x y new (verdicts.Refused n) → accept s ≡ refused n
   unfolding Accepts
-  verdict-refused n h = go (accept s) h
+  verdict_refused n h = go (accept s) h
     where
       go : (a : Answer Problem) → Accepts a o p x y new (verdicts.Refused n) → a ≡ refused n
       go (refused k) e = cc
       go (got q) e = absurd (let w = e.1 in let z : ◌≡◌ {A = ℕ} 0 1 = cc in omega arith)
 
   -- ... and otherwise the problem that document 01 accepts stands in the tables
-  pub verdict-accepted : AreBytes s → (a : Standing) → Accepts (accept s) o p x y new (verdicts.Accepted a)
+  pub verdict_accepted : AreBytes s → (a : Standing) → Accepts (accept s) o p x y new (verdicts.Accepted a)
       → (q : Problem) × (accept s ≡ got q) × Accepted q × Stands q o p x y new a
   unfolding Accepts
-  verdict-accepted b a h = go (accept s) refl h
+  verdict_accepted b a h = go (accept s) refl h
     where
       go : (r : Answer Problem) → accept s ≡ r → Accepts r o p x y new (verdicts.Accepted a)
           → (q : Problem) × (accept s ≡ got q) × Accepted q × Stands q o p x y new a

@@ -1,4 +1,6 @@
 // Reading and checking in one. "Every entry point that takes a problem makes all checks down to the faces first": it calls this.
+#![tactic(auto)]
+
 ghost use Rattle.std.specs.Prelude.{◌≤◌, length};
 ghost use Rattle.meaning.specs.Accept.{accept};
 ghost use Rattle.tokens.specs.Token.{Table};

@@ -29,29 +29,29 @@ enough (suc m) (suc k) n h l =
     ]
 
 module _ (n : ℕ) where
-  pub decimal-last : n < 10 → decimal n ≡ (48 + n % 10) ∷ []
+  pub decimal_last : n < 10 → decimal n ≡ (48 + n % 10) ∷ []
   unfolding decimal
-  decimal-last h = one_digit n n h ∙ ap (λ (d : ℕ). (48 + d) ∷ []) (omega arith)
+  decimal_last h = one_digit n n h ∙ ap (λ (d : ℕ). (48 + d) ∷ []) (omega arith)
 
-  pub decimal-more : 10 ≤ n → decimal n ≡ decimal (n / 10) ++ ((48 + n % 10) ∷ [])
+  pub decimal_more : 10 ≤ n → decimal n ≡ decimal (n / 10) ++ ((48 + n % 10) ∷ [])
   unfolding decimal
-  decimal-more h = digits n n h ∙ ap (λ (l : Bytes). l ++ ((48 + n % 10) ∷ [])) (enough n (suc (n / 10)) (n / 10) (omega arith) (omega arith))
+  decimal_more h = digits n n h ∙ ap (λ (l : Bytes). l ++ ((48 + n % 10) ∷ [])) (enough n (suc (n / 10)) (n / 10) (omega arith) (omega arith))
 
-  pub last-length : n < 10 → length (decimal n) ≡ 1
-  last-length h = ap length (decimal-last h)
+  pub last_length : n < 10 → length (decimal n) ≡ 1
+  last_length h = ap length (decimal_last h)
 
-  pub more-length : 10 ≤ n → length (decimal n) ≡ length (decimal (n / 10)) + 1
-  more-length h = ap length (decimal-more h) ∙ length-append (decimal (n / 10)) ((48 + n % 10) ∷ [])
+  pub more_length : 10 ≤ n → length (decimal n) ≡ length (decimal (n / 10)) + 1
+  more_length h = ap length (decimal_more h) ∙ length-append (decimal (n / 10)) ((48 + n % 10) ∷ [])
 
 -- A number below a power of ten has no more digits
 few_digits : (k n : ℕ) → n < 10 ^ suc k → length (decimal n) ≤ suc k
-few_digits zero n h = omega (arith, last-length n (omega arith))
+few_digits zero n h = omega (arith, last_length n (omega arith))
 few_digits (suc k) n h =
     elim (dec_lt n 10) [
-      | yes few ↦ omega (arith, last-length n few)
+      | yes few ↦ omega (arith, last_length n few)
       | no more ↦
           let fewer = few_digits k (n / 10) (omega (arith, pow-suc 10 (suc k))) in
-          omega (arith, more-length n (omega arith), fewer)
+          omega (arith, more_length n (omega arith), fewer)
     ]
 
 pub decimal_short : (n : ℕ) → n < 4294967296 → length (decimal n) ≤ 10

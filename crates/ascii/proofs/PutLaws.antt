@@ -30,31 +30,31 @@ module _ {at : ℕ} {bytes before after : Bytes} {r : ℕ} (put : Put at bytes b
         front = next.front ∙ ap (λ (l : Bytes). l ++ more) put.front ∙ append_assoc (take at before) bytes more;
       }
 
-  pub put-till : {bytes' : Bytes} {r' : ℕ} → bytes ≡ bytes' → r ≡ r' → Put at bytes' before after r'
-  put-till {bytes'} {r'} e f = subst (λ (l : Bytes). Put at l before after r') e (subst (Put at bytes before after) f put)
+  pub put_till : {bytes' : Bytes} {r' : ℕ} → bytes ≡ bytes' → r ≡ r' → Put at bytes' before after r'
+  put_till {bytes'} {r'} e f = subst (λ (l : Bytes). Put at l before after r') e (subst (Put at bytes before after) f put)
 
 -- One byte more of a word
 module _ (word : Bytes) (i : ℕ) (h : i < length word) where
   abbrev byte : ℕ
   byte = get_or word i 0
 
-  next-byte : take i word ++ (byte ∷ []) ≡ take (i + 1) word
-  next-byte = sym (ap (λ (n : ℕ). take n word) (add-one i) ∙ take-suc word i 0 h)
+  next_byte : take i word ++ (byte ∷ []) ≡ take (i + 1) word
+  next_byte = sym (ap (λ (n : ℕ). take n word) (add-one i) ∙ take-suc word i 0 h)
 
   module _ {at : ℕ} {before out : Bytes} where
     pub word_more : Put at (take i word) before out (at + i) → at + i < length out
         → Put at (take (i + 1) word) before (set out (at + i) byte) (at + (i + 1))
-    word_more put l = put-till (put_one put byte l) next-byte (omega arith)
+    word_more put l = put_till (put_one put byte l) next_byte (omega arith)
 
   -- .. and of bytes in hexadecimal
-  next-digits : hexadecimal (take i word) ++ hexadecimal (byte ∷ []) ≡ hexadecimal (take (i + 1) word)
+  next_digits : hexadecimal (take i word) ++ hexadecimal (byte ∷ []) ≡ hexadecimal (take (i + 1) word)
   unfolding hexadecimal
-  next-digits = sym (each_append (λ b. hex_digit (b / 16) ∷ hex_digit (b % 16) ∷ []) (take i word) (byte ∷ [])) ∙ ap hexadecimal next-byte
+  next_digits = sym (each_append (λ b. hex_digit (b / 16) ∷ hex_digit (b % 16) ∷ []) (take i word) (byte ∷ [])) ∙ ap hexadecimal next_byte
 
   module _ {at : ℕ} {before out after : Bytes} {end next : ℕ} where
     pub bytes_more : Put at (hexadecimal (take i word)) before out end → Put end (hexadecimal (byte ∷ [])) out after next
         → Put at (hexadecimal (take (i + 1) word)) before after next
-    bytes_more put more = put-till (put_both put more) next-digits refl
+    bytes_more put more = put_till (put_both put more) next_digits refl
 
 -- The digits of no byte, of one, and of some
 pub hexadecimal_length : (bytes : Bytes) → length (hexadecimal bytes) ≡ 2 * length bytes
@@ -70,7 +70,7 @@ pub two_digits : (b : ℕ) {high low : ℕ} → high ≡ hex_digit (b / 16) → 
     → {at : ℕ} {out : Bytes} → at + 2 ≤ length out → Put at (hexadecimal (b ∷ [])) out (set (set out at high) (at + 1) low) (at + 2)
 unfolding hexadecimal
 two_digits b {high} {low} e f {at} {out} l =
-    put-till (put_one (put_one (put_none at out) high (omega arith)) low (omega (arith, length-set out at high))) (digits e f) (omega arith)
+    put_till (put_one (put_one (put_none at out) high (omega arith)) low (omega (arith, length-set out at high))) (digits e f) (omega arith)
   where
     digits : high ≡ hex_digit (b / 16) → low ≡ hex_digit (b % 16) → high ∷ low ∷ [] ≡ hexadecimal (b ∷ [])
     digits e f = rw (e, f)

@@ -1,5 +1,7 @@
 // Words, numbers and bytes as they are printed, put into a buffer one after the other: each function writes at a place and answers the place
 // after what it wrote.
+#![tactic(auto)]
+
 ghost use Rattle.std.specs.Prelude.{◌+◌, ◌*◌, ◌≤◌, ◌≡◌, [], ◌∷◌, length, take};
 ghost use Rattle.meaning.specs.Program.{decimal, hex_digit, hexadecimal};
 ghost use Rattle.ascii.specs.Put.{Put};

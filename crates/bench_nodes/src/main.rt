@@ -4,6 +4,8 @@
 //     n   numbers the nodes of the expressions, 20,000 times, and prints how many different numbers there are
 //     w   the same 500 times, for the worst problems
 //     r   reads and checks the problem, 20,000 times, and prints how many nodes its expressions have
+#![tactic(auto)]
+
 ghost use Rattle.std.specs.Prelude.{◌<◌, ◌≤◌, length, take};
 ghost use Rattle.table.specs.Whole.{table_room};
 ghost use Rattle.numbers.specs.Numbering.{Numerable, Rooms};

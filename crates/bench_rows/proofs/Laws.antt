@@ -16,7 +16,7 @@ use Rattle.accept.specs.declared.Standing.{Standing}
 use Rattle.accept.specs.declared.Verdict.TheVariants as verdicts
 use Rattle.prepare.specs.Prepared.{Prepares, Ready}
 use Rattle.prepare.specs.declared.Prepared.{Prepared}
-use Rattle.prepare.proofs.PreparedLaws.{prepared_accepted, ready-faced}
+use Rattle.prepare.proofs.PreparedLaws.{prepared_accepted, ready_faced}
 
 pub place_mem : (rs : List MaskRow) (r : MaskRow) → place_of rs ≡ at r → r ∈ rs
 place_mem [] r e = never (cc)
@@ -39,4 +39,4 @@ module _ (s ps es ns fs : List ℕ) (prepared : Prepared) (h : Prepares (accept 
   inside = (ready.laid.expressions_inside, ready.tabled.numbers_inside)
 
   pub steppable : a.rows ≡ true → Faced (take a.expressions es) (take a.expressions ns) prepared.firsts
-  steppable = ready-faced (accept s) ps es ns fs a prepared.firsts ready
+  steppable = ready_faced (accept s) ps es ns fs a prepared.firsts ready

@@ -3,6 +3,8 @@
 //     p   prepares the problem, 20,000 times, and prints how many functions its rows choose for
 // The problem of the test is one function against an application of 19 equal symbols. Its choices are the empty one, the application, and
 // every set of symbols that is not empty: 2^19 + 1 rows.
+#![tactic(auto)]
+
 ghost use Rattle.std.specs.Prelude.{◌≡◌, true};
 ghost use Rattle.meaning.specs.Search.{at, place_of};
 ghost use Rattle.masks.specs.Sets.{masks_in};

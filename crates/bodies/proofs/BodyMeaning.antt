@@ -28,13 +28,13 @@ use Rattle.tokens.specs.Key.{Held, Stands}
 use Rattle.tokens.proofs.TokenParts.{tokens_length}
 use Rattle.tokens.proofs.Levels.{enter_deep}
 use Rattle.tokens.proofs.Reaching.{closed_token}
-use Rattle.tokens.proofs.KeyLaws.{stands-depth, stands-part}
-use Rattle.tokens.proofs.ProblemTokens.{token_at, size-at, Room, room-depth, room-size, room-below, room-later}
-use Rattle.faces.proofs.NodeTokens.{AtNode, expression-node}
+use Rattle.tokens.proofs.KeyLaws.{stands_depth, stands_part}
+use Rattle.tokens.proofs.ProblemTokens.{token_at, size_at_lem, Room, room_depth, room_size, room_below, room_later}
+use Rattle.faces.proofs.NodeTokens.{AtNode, expression_node_lem}
 use Rattle.bodies.specs.Marked.{marked}
 use Rattle.bodies.specs.BodyClosed.{closed_from, body_closed_at}
 use Rattle.bodies.proofs.MarkLaws.{marked_left, punch_left}
-use Rattle.bodies.proofs.ClosedLaws.{closed_hole, closed_own, closed-skip}
+use Rattle.bodies.proofs.ClosedLaws.{closed_hole, closed_own, closed_skip}
 
 regroup : (a b c d : Bool) → a && (b && (c && d)) ≡ a && (b && c) && d
 regroup true b c d = sym (and_assoc b c d)
@@ -52,9 +52,9 @@ module _ (hole : ℕ → Bool) (ms : Marks) (told : (i : ℕ) → hole i ≡ is_
       node_hole e =
           let n : suc (size c) - 1 ≡ size c = omega arith in
           closed_hole hole d i (token_at sc l c) (tokens (enter l sc) c ++ xs) e
-          ∙ ap (λ (m : ℕ). closed_from hole d (m - 1) (suc i) (tokens (enter l sc) c ++ xs)) (size-at sc l c room small)
+          ∙ ap (λ (m : ℕ). closed_from hole d (m - 1) (suc i) (tokens (enter l sc) c ++ xs)) (size_at_lem sc l c room small)
           ∙ ap (λ (m : ℕ). closed_from hole d m (suc i) (tokens (enter l sc) c ++ xs)) n
-          ∙ closed-skip hole d (size c) (suc i) (tokens (enter l sc) c ++ xs)
+          ∙ closed_skip hole d (size c) (suc i) (tokens (enter l sc) c ++ xs)
           ∙ ap (flat (suc i + size c)) (drop_at (tokens (enter l sc) c) xs (size c) (tokens_length (enter l sc) c))
 
       abbrev l' : Nameless
@@ -88,13 +88,13 @@ module _ (hole : ℕ → Bool) (ms : Marks) (told : (i : ℕ) → hole i ≡ is_
         let n : suc i + size c + size s ≡ i + suc (size c + size s) = omega arith in
         let same : size (nameless (enter l sc) c) ≡ size c = relabel_size enter nameless_label (enter l sc) c in
         ap (λ (ys : List ℕ). flat i (token_at sc l c ∷ ys)) (append_assoc (tokens (enter l sc) c) (tokens sc s) xs)
-        ∙ closed_node i k sc l c (tokens sc s ++ xs) (room-depth levels sc l c s m) (room-size levels sc l c s m) ctx deep r.0
+        ∙ closed_node i k sc l c (tokens sc s ++ xs) (room_depth levels sc l c s m) (room_size levels sc l c s m) ctx deep r.0
         (punch (drop (suc i) ms) (nameless (enter l sc) c)) (punch (drop (suc i + size c) ms) (nameless sc s))
         (flat (i + suc (size c + size s)) xs)
         (closed_trees (suc i) (inner (nameless_label sc l) k) levels (context_below l ctx) (enter l sc) c (tokens sc s ++ xs)
         (enter_deep k d sc l deep) r.1
-        (room-below levels sc l c s m))
-        (closed_trees (suc i + size c) k (suc levels) ctx sc s xs deep r.2 (room-later levels sc l c s m)
+        (room_below levels sc l c s m))
+        (closed_trees (suc i + size c) k (suc levels) ctx sc s xs deep r.2 (room_later levels sc l c s m)
         ∙ ap (λ (j : ℕ). is_closed k (punch (drop (suc i + size c) ms) (nameless sc s)) && flat j xs) n)
         ∙ ap (λ (b : Terms). is_closed k b && flat (i + suc (size c + size s)) xs)
         (ap (λ (j : ℕ). punch_node (mark (drop i ms)) (nameless_label sc l) (punch (drop (suc i) ms) (nameless (enter l sc) c))
@@ -108,8 +108,8 @@ closed_stands : (levels : ℕ) (ctx : Context) (es : List ℕ) (f : ℕ) (sc : L
 unfolding body_closed_at closed_from
 closed_stands levels ctx es f sc t h s ms few =
     let hole : ℕ → Bool = marked (mask_of max_face_nodes ms) in
-    ap₂ (λ (d : ℕ) (xs : List ℕ). closed_from hole d 0 0 xs) (stands-depth levels ctx es f sc t h s)
-    (stands-part levels ctx es f sc t h s ∙ sym (append-nil (tokens sc (one t))))
+    ap₂ (λ (d : ℕ) (xs : List ℕ). closed_from hole d 0 0 xs) (stands_depth levels ctx es f sc t h s)
+    (stands_part levels ctx es f sc t h s ∙ sym (append-nil (tokens sc (one t))))
     ∙ closed_trees hole ms (λ i. marked_left ms i few) (length sc) 0 0 levels ctx sc (one t) [] (omega arith) h.readable
     (record { depths = h.depths; sizes = h.sizes })
     ∙ and-true (is_closed 0 (punch ms (one (nameless_term sc t))))
@@ -120,7 +120,7 @@ pub body_closed_means : (p : Problem) → WithinLimits p → (f : ℕ) (face : T
     → (ms : Marks) → length ms ≤ max_face_nodes
     → (body_closed_at (expression_tokens p) f (mask_of max_face_nodes ms) ≡ true) ↔ ClosedTerm (punch_term ms face)
 body_closed_means p w f face there ms few =
-    let n : AtNode (expression_tokens p) f face = expression-node p w f face there in
+    let n : AtNode (expression_tokens p) f face = expression_node_lem p w f face there in
     let e : body_closed_at (expression_tokens p) f (mask_of max_face_nodes ms) ≡ is_closed 0 (one (punch_term ms face)) =
     closed_stands n.levels n.context (expression_tokens p) f n.scope n.named n.held n.stands ms few
     ∙ ap (λ (t : Term). is_closed 0 (one (punch_term ms t))) (sym n.term) in

@@ -34,14 +34,14 @@ module _ (hole : ℕ → Bool) (d : ℕ) where
     unfolding closed_from
     closed_own e = choose_false _ _ e
 
-  pub closed-skip : (k i : ℕ) (xs : List ℕ) → closed_from hole d k i xs ≡ closed_from hole d 0 (i + k) (drop k xs)
+  pub closed_skip : (k i : ℕ) (xs : List ℕ) → closed_from hole d k i xs ≡ closed_from hole d 0 (i + k) (drop k xs)
   unfolding closed_from
-  closed-skip zero i [] = refl
-  closed-skip (suc k) i [] = refl
-  closed-skip zero i (x ∷ xs) = let e : i ≡ i + 0 = omega arith in ap (λ (j : ℕ). closed_from hole d 0 j (x ∷ xs)) e
-  closed-skip (suc k) i (x ∷ xs) =
+  closed_skip zero i [] = refl
+  closed_skip (suc k) i [] = refl
+  closed_skip zero i (x ∷ xs) = let e : i ≡ i + 0 = omega arith in ap (λ (j : ℕ). closed_from hole d 0 j (x ∷ xs)) e
+  closed_skip (suc k) i (x ∷ xs) =
       let e : suc i + k ≡ i + suc k = omega arith in
-      closed-skip k (suc i) xs ∙ ap (λ (j : ℕ). closed_from hole d 0 j (drop k xs)) e
+      closed_skip k (suc i) xs ∙ ap (λ (j : ℕ). closed_from hole d 0 j (drop k xs)) e
 
   -- What is left of a list
   abbrev pub left : List ℕ → ℕ → Bool
@@ -58,7 +58,7 @@ module _ (hole : ℕ → Bool) (d : ℕ) where
         let n : suc i + (m - 1) ≡ i + m = omega arith in
         ap (closed_from hole d 0 i) (drop-cons ps i 0 h)
         ∙ closed_hole i (at ps i) (drop (suc i) ps) e
-        ∙ closed-skip (m - 1) (suc i) (drop (suc i) ps)
+        ∙ closed_skip (m - 1) (suc i) (drop (suc i) ps)
         ∙ ap (closed_from hole d 0 (suc i + (m - 1))) (drop-drop (m - 1) (suc i) ps)
         ∙ ap (left ps) n
 
@@ -75,17 +75,17 @@ pub record Testing (es : List ℕ) (face mask n d i : ℕ) : Type 0 where
   pub whole : left (marked mask) d (part es face) i ≡ body_closed_at es face mask
 
 module _ {es : List ℕ} {face n d : ℕ} (mask : ℕ) where
-  pub closed-begins : Table es → Inside es face → n ≡ size_in (at es face) → d ≡ depth_in (at es face) → Testing es face mask n d 0
+  pub closed_begins : Table es → Inside es face → n ≡ size_in (at es face) → d ≡ depth_in (at es face) → Testing es face mask n d 0
   unfolding body_closed_at
-  closed-begins t h is-n is-d =
+  closed_begins t h is-n is-d =
       record { table = t; inside = h; is_size = is-n; whole = ap (λ (r : ℕ). closed_from (marked mask) r 0 0 (part es face)) is-d }
 
 module _ {es : List ℕ} {face mask n d i : ℕ} (w : Testing es face mask n d i) where
   long : length (part es face) ≡ n
   long = part_length es face w.inside ∙ sym w.is_size
 
-  pub closed-ends : n ≤ i → true ≡ body_closed_at es face mask
-  closed-ends h = sym (left_end (marked mask) d (part es face) i (omega (arith, long))) ∙ w.whole
+  pub closed_ends : n ≤ i → true ≡ body_closed_at es face mask
+  closed_ends h = sym (left_end (marked mask) d (part es face) i (omega (arith, long))) ∙ w.whole
 
   module _ (h : i < n) where
     here : at (part es face) i ≡ at es (face + i)

@@ -29,12 +29,12 @@ use Rattle.tokens.specs.Token.{tokens}
 use Rattle.tokens.specs.Key.{level_from, same_at, uses_at}
 use Rattle.tokens.proofs.TokenParts.{tokens_length}
 use Rattle.tokens.proofs.Levels.{enter_deep}
-use Rattle.tokens.proofs.KeyLaws.{uses-means, same_means}
+use Rattle.tokens.proofs.KeyLaws.{uses_means, same_means}
 use Rattle.tokens.proofs.Owners.{equal_levels}
-use Rattle.tokens.proofs.ProblemTokens.{Room, room-below, room-later}
+use Rattle.tokens.proofs.ProblemTokens.{Room, room_below, room_later}
 use Rattle.demands.specs.Demand.{lowered}
 use Rattle.numbers.specs.Tests.{Tests, Beneath, Tells}
-use Rattle.faces.proofs.NodeTokens.{AtNode, node-inside}
+use Rattle.faces.proofs.NodeTokens.{AtNode, node_inside}
 use Rattle.bodies.specs.Suits.{hole_fits}
 
 pub record Spotted (es : List ℕ) (d : ℕ) (h : Face) : Type 0 where
@@ -79,10 +79,10 @@ module _ (es : List ℕ) (d : ℕ) where
       (all_append (Spotted es d) y.inside y.later
       (spots (inner (own o) k) (suc n) levels (context_below l' ctx) c (enter l' sc) c' (tokens sc s' ++ rest)
       (split_below n sc l' c' s' rest split)
-      (enter_deep k d sc l' deep ∙ ap (λ (a : Nameless). inner a k + d) (sym e)) r.1 (room-below levels sc l' c' s' m) y.inside
+      (enter_deep k d sc l' deep ∙ ap (λ (a : Nameless). inner a k + d) (sym e)) r.1 (room_below levels sc l' c' s' m) y.inside
       y.are_inside)
       (spots k (suc n + size (nameless (enter l' sc) c')) (suc levels) ctx s sc s' rest
-      (ap (λ (a : ℕ). drop (suc n + a) es) z ∙ split_later n sc l' c' s' rest split) deep r.2 (room-later levels sc l' c' s' m)
+      (ap (λ (a : ℕ). drop (suc n + a) es) z ∙ split_later n sc l' c' s' rest split) deep r.2 (room_later levels sc l' c' s' m)
       y.later y.are_later))
   spots k n (suc levels) ctx (cons (slot z) c s) sc (cons l' c' s') rest split deep r m hs w =
       let y = walked_slot k n z c s (nameless_term sc (l', c')) (nameless sc s') hs w in
@@ -101,7 +101,7 @@ module _ (es : List ℕ) (d : ℕ) where
           deep = deep;
         },
         spots k (suc n + size (nameless (enter l' sc) c')) (suc levels) ctx s sc s' rest
-            (ap (λ (a : ℕ). drop (suc n + a) es) q ∙ split_later n sc l' c' s' rest split) deep r.2 (room-later levels sc l' c' s' m)
+            (ap (λ (a : ℕ). drop (suc n + a) es) q ∙ split_later n sc l' c' s' rest split) deep r.2 (room_later levels sc l' c' s' m)
             y.later y.are_later,
       )
 
@@ -124,8 +124,8 @@ seen_none h =
 seen_some : (h : Face) (t : Term) → lowered h ≡ some t → seen h ≡ view (owner_of []) (one t)
 seen_some h t e = lowered_view (binders h) h.term t (ap (λ (n : ℕ). lower_term n h.term) (count h) ∙ e)
 
-seen_free : (h : Face) (t : Term) → lowered h ≡ some t → uses_face (seen h) ≡ false
-seen_free h t e = by_test (uses_face (seen h)) (λ z. let q : none ≡ some t = sym ((seen_none h).1 z) ∙ e in never (cc)) (λ z. z)
+seen_free_lem : (h : Face) (t : Term) → lowered h ≡ some t → uses_face (seen h) ≡ false
+seen_free_lem h t e = by_test (uses_face (seen h)) (λ z. let q : none ≡ some t = sym ((seen_none h).1 z) ∙ e in never (cc)) (λ z. z)
 
 free_some : (h : Face) → uses_face (seen h) ≡ false → (t : Term) × (lowered h ≡ some t)
 free_some h e = go (lowered h) refl
@@ -136,17 +136,17 @@ free_some h e = go (lowered h) refl
 
 module _ (es : List ℕ) (d : ℕ) where
   -- The test of binders in between
-  uses-lowered : (h : Face) → Spotted es d h → (uses_at es h.node d ≡ true) ↔ (uses_face (seen h) ≡ true)
-  uses-lowered h s =
+  uses_lowered : (h : Face) → Spotted es d h → (uses_at es h.node d ≡ true) ↔ (uses_face (seen h) ≡ true)
+  uses_lowered h s =
       let n : AtNode es h.node h.term = s.there in
       let k : length n.scope - d ≡ h.under = omega (arith, s.deep) in
       let e : lower_term (length n.scope - d) (nameless_term n.scope n.named) ≡ lowered h =
       ap₂ lower_term k (sym n.term) in
-      let q = uses-means n.levels n.context es h.node n.scope n.named n.held n.stands d in
+      let q = uses_means n.levels n.context es h.node n.scope n.named n.held n.stands d in
       (λ z. (seen_none h).0 (sym e ∙ q.0 z), λ z. q.1 (e ∙ (seen_none h).1 z))
 
-  closed-there : (i : ℕ) (t : Term) (n : AtNode es i t) → Closed (length n.scope) (one t)
-  closed-there i t n =
+  closed_there : (i : ℕ) (t : Term) (n : AtNode es i t) → Closed (length n.scope) (one t)
+  closed_there i t n =
       subst (λ (u : Term). Closed (length n.scope) (one u)) (sym n.term) (nameless_closed n.scope (one n.named))
 
   -- The test of equality, where the first uses no binder in between
@@ -163,32 +163,32 @@ module _ (es : List ℕ) (d : ℕ) where
       let b =
       equal_levels d m.scope (binders h) n.scope (binders l) h.term l.term (omega (arith, r.deep, count h))
       (omega (arith, s.deep, count l))
-      (closed-there h.node h.term m) (closed-there l.node l.term n) free in
+      (closed_there h.node h.term m) (closed_there l.node l.term n) free in
       (λ e. b.1 (y ∙ a.0 e ∙ sym x), λ e. a.1 (sym y ∙ b.0 e ∙ x))
 
   -- What is asked of the nodes, as the table says it: the d binders lie above both
-  hole-told : (q : Tests) → Tells es q → (l h : Face) → Spotted es d l → Spotted es d h → Beneath es d h.node l.node
+  hole_told : (q : Tests) → Tells es q → (l h : Face) → Spotted es d l → Spotted es d h → Beneath es d h.node l.node
       → hole_fits q d l.node h.node ≡ not (uses_at es h.node d) && same_at es h.node l.node
   unfolding hole_fits
-  hole-told q tells l h s r beneath =
-      let small = node-inside es h.node h.term r.there in
-      let low = node-inside es l.node l.term s.there in
+  hole_told q tells l h s r beneath =
+      let small = node_inside es h.node h.term r.there in
+      let low = node_inside es l.node l.term s.there in
       ap (λ (b : Bool). not b && q.same h.node l.node) (tells.uses h.node d small)
       ∙ by_test (uses_at es h.node d) (λ e. rw e refl)
       (λ e. ap (λ (b : Bool). not (uses_at es h.node d) && b) (tells.same d h.node l.node small low beneath e))
 
   -- THE TEST OF A HOLE
-  pub hole-means : (q : Tests) → Tells es q → (l h : Face) → Spotted es d l → Spotted es d h → Beneath es d h.node l.node
+  pub hole_means : (q : Tests) → Tells es q → (l h : Face) → Spotted es d l → Spotted es d h → Beneath es d h.node l.node
       → (hole_fits q d l.node h.node ≡ true) ↔ ((t : Term) × (lowered h ≡ some t) × (lowered l ≡ some t))
-  hole-means q tells l h s r beneath =
-      let z = hole-told q tells l h s r beneath in
+  hole_means q tells l h s r beneath =
+      let z = hole_told q tells l h s r beneath in
       (λ e. there (sym z ∙ e), λ e. z ∙ back e)
     where
       there : not (uses_at es h.node d) && same_at es h.node l.node ≡ true → (t : Term) × (lowered h ≡ some t) × (lowered l ≡ some t)
       there e =
           let (a, b) = and_T (not (uses_at es h.node d)) (same_at es h.node l.node) (true_T e) in
           let f : uses_face (seen h) ≡ false =
-          by_test (uses_face (seen h)) (λ z. absurd (true≢false (sym (T_true a) ∙ ap not ((uses-lowered h r).1 z)))) (λ z. z) in
+          by_test (uses_face (seen h)) (λ z. absurd (true≢false (sym (T_true a) ∙ ap not ((uses_lowered h r).1 z)))) (λ z. z) in
           let i : seen h ≡ seen l = (same_seen l h s r f).0 (T_true b) in
           let (t, x) = free_some h f in
           let (u, y) = free_some l (sym (ap uses_face i) ∙ f) in
@@ -197,7 +197,7 @@ module _ (es : List ℕ) (d : ℕ) where
 
       back : (t : Term) × (lowered h ≡ some t) × (lowered l ≡ some t) → not (uses_at es h.node d) && same_at es h.node l.node ≡ true
       back (t, x, y) =
-          let f : uses_face (seen h) ≡ false = seen_free h t x in
+          let f : uses_face (seen h) ≡ false = seen_free_lem h t x in
           let u : uses_at es h.node d ≡ false =
-          by_test (uses_at es h.node d) (λ z. absurd (true≢false (sym ((uses-lowered h r).0 z) ∙ f))) (λ z. z) in
+          by_test (uses_at es h.node d) (λ z. absurd (true≢false (sym ((uses_lowered h r).0 z) ∙ f))) (λ z. z) in
           ap₂ (λ (a b : Bool). not a && b) u ((same_seen l h s r f).1 (seen_some h t x ∙ sym (seen_some l t y)))

@@ -46,36 +46,36 @@ clear_label (own (binder b x)) = true
 clear_label (slot z) = true
 
 module _ (root : List ℕ) (k : ℕ) where
-  clear-unseen : (v : Variable) → in_clear (see (level_from root) k v) ≡ true → unseen (see (level_from root) k v) ≡ v
+  clear_unseen : (v : Variable) → in_clear (see (level_from root) k v) ≡ true → unseen (see (level_from root) k v) ≡ v
   unfolding in_clear unseen
-  clear-unseen (free x) e = refl
-  clear-unseen (bound i) e = go (ltb i k) e
+  clear_unseen (free x) e = refl
+  clear_unseen (bound i) e = go (ltb i k) e
     where
       go : (b : Bool) → in_clear (choose b (inside i) (outside (level_from root (i - k)))) ≡ true
           → unseen (choose b (inside i) (outside (level_from root (i - k)))) ≡ bound i
       go true q = refl
       go false q = absurd (true≢false (sym q))
 
-  clear-label : (l : Nameless) → clear_label (seen_label root k l) ≡ true → with_variable unseen (seen_label root k l) ≡ l
+  clear_label_lem : (l : Nameless) → clear_label (seen_label root k l) ≡ true → with_variable unseen (seen_label root k l) ≡ l
   unfolding clear_label
-  clear-label (own (symbol n)) e = refl
-  clear-label (own (variable v)) e = ap (λ (w : Variable). own (variable w)) (clear-unseen v e)
-  clear-label (own (application n)) e = refl
-  clear-label (own (binder b x)) e = refl
-  clear-label (slot z) e = refl
+  clear_label_lem (own (symbol n)) e = refl
+  clear_label_lem (own (variable v)) e = ap (λ (w : Variable). own (variable w)) (clear_unseen v e)
+  clear_label_lem (own (application n)) e = refl
+  clear_label_lem (own (binder b x)) e = refl
+  clear_label_lem (slot z) e = refl
 
-  closed-seen : (v : Variable) → ClosedVariable k v → in_clear (see (level_from root) k v) ≡ true
+  closed_seen : (v : Variable) → ClosedVariable k v → in_clear (see (level_from root) k v) ≡ true
   unfolding in_clear
-  closed-seen (free x) h = refl
-  closed-seen (bound i) h = rw (ltb_yes i k h)
+  closed_seen (free x) h = refl
+  closed_seen (bound i) h = rw (ltb_yes i k h)
 
-  closed-clear : (l : Nameless) → ClosedLabel k l → clear_label (seen_label root k l) ≡ true
+  closed_clear : (l : Nameless) → ClosedLabel k l → clear_label (seen_label root k l) ≡ true
   unfolding clear_label
-  closed-clear (own (symbol n)) h = refl
-  closed-clear (own (variable v)) h = closed-seen v h
-  closed-clear (own (application n)) h = refl
-  closed-clear (own (binder b x)) h = refl
-  closed-clear (slot z) h = refl
+  closed_clear (own (symbol n)) h = refl
+  closed_clear (own (variable v)) h = closed_seen v h
+  closed_clear (own (application n)) h = refl
+  closed_clear (own (binder b x)) h = refl
+  closed_clear (slot z) h = refl
 
   own_coded : (l : Nameless) → OwnLabel l → Coded (seen_label root k l)
   own_coded (own (symbol n)) h = tt
@@ -125,9 +125,9 @@ codes_match root root' k l m h o o' = same_truth (eqb (code (seen_label root k l
     there e =
         let q : seen_label root k l ≡ seen_label root' k m =
         code_injective _ _ (own_coded root k l o) (own_coded root' k m o') (eqb_eq _ _ e) in
-        let c = closed-clear root k l h in
+        let c = closed_clear root k l h in
         let r : l ≡ m =
-        sym (clear-label root k l c) ∙ ap (with_variable unseen) q ∙ clear-label root' k m (ap clear_label (sym q) ∙ c) in
+        sym (clear_label_lem root k l c) ∙ ap (with_variable unseen) q ∙ clear_label_lem root' k m (ap clear_label (sym q) ∙ c) in
         ap (matches l) (sym r) ∙ matches_self l o
 
     back : matches l m ≡ true → eqb (code (seen_label root k l)) (code (seen_label root' k m)) ≡ true
@@ -159,17 +159,17 @@ guard_both false a c h = refl
 
 -- A punched node before what comes after it: t is what the marks make of that, b what they make of the children
 module _ (k j : ℕ) (l : Nameless) (b t : Terms) where
-  punched-alone : (m : Mark) → walk k j (punch_node m l b t) nil ≡ none
-  punched-alone none = refl
-  punched-alone (some h) = refl
+  punched_alone : (m : Mark) → walk k j (punch_node m l b t) nil ≡ none
+  punched_alone none = refl
+  punched_alone (some h) = refl
 
-  closed-later : (m : Mark) → Closed k (punch_node m l b t) → Closed k t
-  closed-later none h = h.2
-  closed-later (some i) h = h.2
+  closed_later : (m : Mark) → Closed k (punch_node m l b t) → Closed k t
+  closed_later none h = h.2
+  closed_later (some i) h = h.2
 
-  closed-below : (m : Mark) → m ≡ none → Closed k (punch_node m l b t) → ClosedLabel k l × Closed (inner l k) b
-  closed-below none e h = (h.0, h.1)
-  closed-below (some i) e h = never (cc)
+  closed_below : (m : Mark) → m ≡ none → Closed k (punch_node m l b t) → ClosedLabel k l × Closed (inner l k) b
+  closed_below none e h = (h.0, h.1)
+  closed_below (some i) e h = never (cc)
 
 module _ (stops : ℕ → Bool) (ms : Marks) (told : (i : ℕ) → stops i ≡ is_some (mark (drop i ms))) (root root' : List ℕ) where
   abbrev stop : SeenStop
@@ -220,16 +220,16 @@ module _ (stops : ℕ → Bool) (ms : Marks) (told : (i : ℕ) → stops i ≡ i
         go (some x) e h f = node_marked x e
 
   -- THE THEOREM
-  pub marked-walk : (i j k k' : ℕ) (u v : Terms) → k ≡ k' → IsExpression u → IsExpression v → Closed k (punch (drop i ms) u)
+  pub marked_walk : (i j k k' : ℕ) (u v : Terms) → k ≡ k' → IsExpression u → IsExpression v → Closed k (punch (drop i ms) u)
       → i + size u ≤ 65536
       → nodes_of (seen_walk stop i j (view_from root k u) (view_from root' k' v)) ≡ nodes_met (walk k j (punch (drop i ms) u) v)
   unfolding here
-  marked-walk i j k k' nil nil same x y h small = refl
-  marked-walk i j k k' nil (cons l' c' s') same x y h small = refl
-  marked-walk i j k k' (cons l c s) nil same x y h small =
+  marked_walk i j k k' nil nil same x y h small = refl
+  marked_walk i j k k' nil (cons l' c' s') same x y h small = refl
+  marked_walk i j k k' (cons l c s) nil same x y h small =
       sym (ap nodes_met (ap (λ (z : Terms). walk k j z nil) (punch_left ms i l c s)
-      ∙ punched-alone k j l (punch (drop (suc i) ms) c) (punch (drop (suc i + size c) ms) s) (mark (drop i ms))))
-  marked-walk i j k k' (cons l c s) (cons l' c' s') same x y h small =
+      ∙ punched_alone k j l (punch (drop (suc i) ms) c) (punch (drop (suc i + size c) ms) s) (mark (drop i ms))))
+  marked_walk i j k k' (cons l c s) (cons l' c' s') same x y h small =
       let b : Terms = punch (drop (suc i) ms) c in
       let t : Terms = punch (drop (suc i + size c) ms) s in
       let closed : Closed k (punch_node (mark (drop i ms)) l b t) = subst (Closed k) (punch_left ms i l c s) h in
@@ -241,10 +241,10 @@ module _ (stops : ℕ → Bool) (ms : Marks) (told : (i : ℕ) → stops i ≡ i
       (view_from root' k' s'))
       same x.0 y.0 (omega arith)
       (ap nodes_of (ap₂ (λ (a a' : ℕ). seen_walk stop (suc i + a) (suc j + a') (view_from root k s) (view_from root' k' s')) n n')
-      ∙ marked-walk (suc i + size c) (suc j + size c') k k' s s' same x.2 y.2 (closed-later k j l b t (mark (drop i ms)) closed)
+      ∙ marked_walk (suc i + size c) (suc j + size c') k k' s s' same x.2 y.2 (closed_later k j l b t (mark (drop i ms)) closed)
       (omega arith))
       closed
-      (λ e q. marked-walk (suc i) (suc j) (inner l k) (inner l' k') c c'
+      (λ e q. marked_walk (suc i) (suc j) (inner l k) (inner l' k') c c'
       (ap₂ (λ (m : Nameless) (z : ℕ). inner m z) (matches_eq l l' q) same) x.1 y.1
-      (closed-below k j l b t (mark (drop i ms)) e closed).1 (omega arith))
+      (closed_below k j l b t (mark (drop i ms)) e closed).1 (omega arith))
       ∙ ap (λ (z : Terms). nodes_met (walk k j z (cons l' c' s'))) (sym (punch_left ms i l c s))

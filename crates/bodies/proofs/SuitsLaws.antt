@@ -22,20 +22,20 @@ use Rattle.masks.proofs.Marks.{length_marks}
 use Rattle.masks.proofs.Nodes.{first_min}
 use Rattle.masks.proofs.Words.{first_le}
 use Rattle.lockstep.specs.Walk.{Stop, face_code, lockstep}
-use Rattle.lockstep.proofs.WalkLaws.{lockstep-end, lockstep-out, lockstep_differs, lockstep_same, lockstep_face, lockstep-skip}
+use Rattle.lockstep.proofs.WalkLaws.{lockstep_end, lockstep_out, lockstep_differs, lockstep_same, lockstep_face, lockstep_skip}
 use Rattle.bodies.specs.Marked.{marked, lowest_marked}
 use Rattle.bodies.specs.Suits.{hole_fits, at_marks, all_faced, suits_at}
 use Rattle.bodies.proofs.ClosedLaws.{part_length, part_at}
 
 -- The test of one hole
 module _ (q : Tests) (e lowest node : ℕ) where
-  pub hole-uses : q.uses node e ≡ true → false ≡ hole_fits q e lowest node
+  pub hole_uses : q.uses node e ≡ true → false ≡ hole_fits q e lowest node
   unfolding hole_fits
-  hole-uses h = sym (ap (λ (b : Bool). not b && q.same node lowest) h)
+  hole_uses h = sym (ap (λ (b : Bool). not b && q.same node lowest) h)
 
-  pub hole-same : q.uses node e ≡ false → q.same node lowest ≡ hole_fits q e lowest node
+  pub hole_same : q.uses node e ≡ false → q.same node lowest ≡ hole_fits q e lowest node
   unfolding hole_fits
-  hole-same h = sym (ap (λ (b : Bool). not b && q.same node lowest) h)
+  hole_same h = sym (ap (λ (b : Bool). not b && q.same node lowest) h)
 
 -- The lowest node of a mask
 pub lowest_room : (mask : ℕ) → lowest_marked mask ≤ 256
@@ -57,13 +57,13 @@ module _ (stop : Stop) (d e : ℕ) (ps es : List ℕ) where
 
   module _ (i j : ℕ) where
     from_end : length ps ≤ i → walk_from i j ≡ some []
-    from_end h = ap (λ (l : List ℕ). lockstep stop d e 0 i j l (drop j es)) (drop_of_length-le ps h) ∙ lockstep-end stop d e i j (drop j es)
+    from_end h = ap (λ (l : List ℕ). lockstep stop d e 0 i j l (drop j es)) (drop_of_length-le ps h) ∙ lockstep_end stop d e i j (drop j es)
 
     module _ (hi : i < length ps) where
       from_out : length es ≤ j → walk_from i j ≡ none
       from_out h =
           ap₂ (lockstep stop d e 0 i j) (drop-cons ps i 0 hi) (drop_of_length-le es h)
-          ∙ lockstep-out stop d e i j (at ps i) (drop (suc i) ps)
+          ∙ lockstep_out stop d e i j (at ps i) (drop (suc i) ps)
 
       module _ (hj : j < length es) where
         opened : walk_from i j ≡ lockstep stop d e 0 i j (at ps i ∷ drop (suc i) ps) (at es j ∷ drop (suc j) es)
@@ -85,7 +85,7 @@ module _ (stop : Stop) (d e : ℕ) (ps es : List ℕ) where
             opened
             ∙ lockstep_face stop d e i j (at ps i) (at es j) (drop (suc i) ps) (drop (suc j) es) f
             ∙ ap (join (some (face_code i j ∷ [])))
-            (lockstep-skip stop d e (m - 1) (suc i) (j + k) (drop (suc i) ps) (drop k (at es j ∷ drop (suc j) es))
+            (lockstep_skip stop d e (m - 1) (suc i) (j + k) (drop (suc i) ps) (drop k (at es j ∷ drop (suc j) es))
             ∙ ap₂ (λ (u v : List ℕ). lockstep stop d e 0 (suc i + (m - 1)) (j + k) u v)
             (drop-drop (m - 1) (suc i) ps)
             (ap (drop k) (sym (drop-cons es j 0 hj)) ∙ drop-drop k j es)
@@ -105,10 +105,10 @@ pub record Walking (q : Tests) (es : List ℕ) (face faced mask n d e low i j : 
   pub passed : lowest_marked mask < i → low < length es
 
 module _ {q : Tests} {es : List ℕ} {face n d e lowest : ℕ} (faced mask : ℕ) where
-  pub suits-begins : Table es → Inside es face → n ≡ size_in (at es face) → d ≡ depth_in (at es face) → e ≡ depth_in (at es faced)
+  pub suits_begins : Table es → Inside es face → n ≡ size_in (at es face) → d ≡ depth_in (at es face) → e ≡ depth_in (at es faced)
       → lowest ≡ lowest_marked mask → Walking q es face faced mask n d e (faced + lowest) 0 faced
   unfolding suits_at
-  suits-begins t h is-n is-d is-e is-low = record {
+  suits_begins t h is-n is-d is-e is-low = record {
     table = t;
     inside = h;
     is_size = is-n;
@@ -135,8 +135,8 @@ module _ {q : Tests} {es : List ℕ} {face faced mask n d e low i j : ℕ} (w : 
   answered : (o : Option (List ℕ)) → walk_left i j ≡ o → all_faced (hole_fits q e low) o ≡ suits_at q es face faced mask
   answered o h = sym (ap (all_faced (hole_fits q e low)) h) ∙ w.whole
 
-  pub suits-ends : n ≤ i → true ≡ suits_at q es face faced mask
-  suits-ends h = answered (some []) (from_end (at_marks mask) d e ps es i j (omega (arith, long)))
+  pub suits_ends : n ≤ i → true ≡ suits_at q es face faced mask
+  suits_ends h = answered (some []) (from_end (at_marks mask) d e ps es i j (omega (arith, long)))
 
   module _ (hi : i < n) where
     pub suits_out : length es ≤ j → false ≡ suits_at q es face faced mask

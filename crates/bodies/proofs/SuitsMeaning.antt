@@ -30,23 +30,23 @@ use Rattle.meaning.proofs.Sources.{lowest_is, lowest_there}
 use Rattle.tokens.specs.Token.{depth_in, expression_tokens}
 use Rattle.tokens.specs.Key.{at, part}
 use Rattle.tokens.proofs.Codes.{view_from}
-use Rattle.tokens.proofs.KeyLaws.{stands-depth, stands-part}
-use Rattle.tokens.proofs.Spots.{forest-deep}
+use Rattle.tokens.proofs.KeyLaws.{stands_depth, stands_part}
+use Rattle.tokens.proofs.Spots.{forest_deep}
 use Rattle.numbers.specs.Tests.{Tests, Beneath, Tells}
 use Rattle.demands.specs.Demand.{lowered}
 use Rattle.demands.specs.Fit.{Suits, SuitsWalked}
 use Rattle.demands.specs.LowestMark.{LowestMark}
 use Rattle.demands.proofs.LowestNode.{Unmarked, unmarked_walk, lowest_hole_lem}
-use Rattle.demands.proofs.SlotKinds.{body-face}
-use Rattle.demands.proofs.Suiting.{suits-walked}
+use Rattle.demands.proofs.SlotKinds.{body_face}
+use Rattle.demands.proofs.Suiting.{suits_walked}
 use Rattle.lockstep.specs.Walk.{expression_node, lockstep}
-use Rattle.lockstep.proofs.WalkTrees.{seen_walk, flat-trees}
-use Rattle.faces.proofs.NodeTokens.{AtNode, expression-node}
+use Rattle.lockstep.proofs.WalkTrees.{seen_walk, flat_trees}
+use Rattle.faces.proofs.NodeTokens.{AtNode, expression_node_lem}
 use Rattle.bodies.specs.Marked.{marked, lowest_marked}
 use Rattle.bodies.specs.Suits.{hole_fits, at_marks, all_faced, suits_at}
 use Rattle.bodies.proofs.MarkLaws.{marked_left, lowest_means, lowest_mark}
-use Rattle.bodies.proofs.MarkedWalk.{nodes_of, nodes_met, marked-walk}
-use Rattle.bodies.proofs.HoleTests.{Spotted, spots, hole-means}
+use Rattle.bodies.proofs.MarkedWalk.{nodes_of, nodes_met, marked_walk}
+use Rattle.bodies.proofs.HoleTests.{Spotted, spots, hole_means}
 
 -- A subterm of an expression is one
 stands_expression : {n : ℕ} {u : Terms} {t : Term} → Stands n u t → IsExpression u → IsExpression (one t)
@@ -64,22 +64,22 @@ module _ (test : ℕ → Bool) where
   every_map g [] = refl
   every_map g (x ∷ xs) = ap (λ (b : Bool). test (g x) && b) (every_map g xs)
 
-  faced-nodes : (o : Option (List ℕ)) → all_faced test o ≡ all_nodes (nodes_of o)
-  faced-nodes none = refl
-  faced-nodes (some xs) = sym (every_map expression_node xs)
+  faced_nodes : (o : Option (List ℕ)) → all_faced test o ≡ all_nodes (nodes_of o)
+  faced_nodes none = refl
+  faced_nodes (some xs) = sym (every_map expression_node xs)
 
-  met-in : (o : Option (List Face)) → all_nodes (nodes_met o) ≡ true
+  met_in : (o : Option (List Face)) → all_nodes (nodes_met o) ≡ true
       → (hs : List Face) × (o ≡ some hs) × ((h : Face) → h ∈ hs → test h.node ≡ true)
-  met-in none e = absurd (false≢true e)
-  met-in (some hs) e = (
+  met_in none e = absurd (false≢true e)
+  met_in (some hs) e = (
     hs,
     refl,
     λ h q. all_mem (λ (x : Face). test x.node ≡ true) h hs
         (every_all (λ (x : Face). test x.node) hs (true_T (sym (every_map (λ (x : Face). x.node) hs) ∙ e))) q,
   )
 
-  met-out : (hs : List Face) → ((h : Face) → h ∈ hs → test h.node ≡ true) → all_nodes (nodes_met (some hs)) ≡ true
-  met-out hs f =
+  met_out : (hs : List Face) → ((h : Face) → h ∈ hs → test h.node ≡ true) → all_nodes (nodes_met (some hs)) ≡ true
+  met_out hs f =
       every_map (λ (x : Face). x.node) hs
       ∙ T_true (all_every (λ (x : Face). test x.node) hs (mem_all (λ (x : Face). test x.node ≡ true) hs f))
 
@@ -97,10 +97,10 @@ module _ (p : Problem) (w : WithinLimits p) (f n : ℕ) (face e : Term) (at_f : 
   body = punch_term ms face
 
   F : AtNode es f face
-  F = expression-node p w f face at_f
+  F = expression_node_lem p w f face at_f
 
   E : AtNode es n e
-  E = expression-node p w n e at_n
+  E = expression_node_lem p w n e at_n
 
   whole : IsExpression (expressions p)
   whole = readable_expression max_depth [] (named_expressions p) (expressions_readable p w)
@@ -124,7 +124,7 @@ module _ (p : Problem) (w : WithinLimits p) (f n : ℕ) (face e : Term) (at_f : 
 
   depth : depth_in (at es n) ≡ d
   unfolding d
-  depth = stands-depth E.levels E.context es n E.scope E.named E.held E.stands
+  depth = stands_depth E.levels E.context es n E.scope E.named E.held E.stands
 
   abbrev tokens_walk : Option (List ℕ)
   tokens_walk = lockstep (at_marks mask) (depth_in (at es f)) (depth_in (at es n)) 0 0 n (part es f) (drop n es)
@@ -134,10 +134,10 @@ module _ (p : Problem) (w : WithinLimits p) (f n : ℕ) (face e : Term) (at_f : 
   unfolding d
   flat =
       ap₂ (λ (x y : ℕ). lockstep (at_marks mask) x y 0 0 n (part es f) (drop n es))
-      (stands-depth F.levels F.context es f F.scope F.named F.held F.stands) depth
+      (stands_depth F.levels F.context es f F.scope F.named F.held F.stands) depth
       ∙ ap₂ (lockstep (at_marks mask) (length F.scope) (length E.scope) 0 0 n)
-      (stands-part F.levels F.context es f F.scope F.named F.held F.stands) E.stands.split
-      ∙ flat-trees (at_marks mask) (λ i l. marked mask i) F.scope E.scope (λ i k sc l c r s. refl) 0 n F.levels E.levels
+      (stands_part F.levels F.context es f F.scope F.named F.held F.stands) E.stands.split
+      ∙ flat_trees (at_marks mask) (λ i l. marked mask i) F.scope E.scope (λ i k sc l c r s. refl) 0 n F.levels E.levels
       F.context E.context
       (one F.named) (one E.named) E.stands.after F.held.readable E.held.readable
       (record { depths = F.held.depths; sizes = F.held.sizes }) (record { depths = E.held.depths; sizes = E.held.sizes }) refl
@@ -149,7 +149,7 @@ module _ (p : Problem) (w : WithinLimits p) (f n : ℕ) (face e : Term) (at_f : 
   unfolding max_face_nodes
   walked =
       ap nodes_of flat
-      ∙ marked-walk (marked mask) ms (λ i. marked_left ms i fits) F.scope E.scope 0 n 0 0 (one face) (one e) refl is_face is_faced
+      ∙ marked_walk (marked mask) ms (λ i. marked_left ms i fits) F.scope E.scope 0 n 0 0 (one face) (one e) refl is_face is_faced
       (subst (Closed 0) (punch_one ms face) closed) (omega (arith, few))
       ∙ ap (λ (u : Terms). nodes_met (walk 0 n u (one e))) (sym (punch_one ms face))
 
@@ -158,7 +158,7 @@ module _ (p : Problem) (w : WithinLimits p) (f n : ℕ) (face e : Term) (at_f : 
 
   tested : suits_at q es f n mask ≡ all_nodes test (nodes_met (walk 0 n (one body) (one e)))
   unfolding suits_at
-  tested = faced-nodes test tokens_walk ∙ ap (all_nodes test) walked
+  tested = faced_nodes test tokens_walk ∙ ap (all_nodes test) walked
 
   module _ (hs : List Face) (found : walk 0 n (one body) (one e) ≡ some hs) where
     spotted : (h : Face) → h ∈ hs → Spotted es d h
@@ -180,13 +180,13 @@ module _ (p : Problem) (w : WithinLimits p) (f n : ℕ) (face e : Term) (at_f : 
     beneath h l m k y from to =
         let long : size (one e) ≡ size (one E.named) =
         ap (λ (t : Term). size (one t)) E.term ∙ relabel_size enter nameless_label E.scope (one E.named) in
-        forest-deep E.levels E.context E.scope (one E.named) E.held.readable E.held.depths es n E.stands.after
+        forest_deep E.levels E.context E.scope (one E.named) E.held.readable E.held.depths es n E.stands.after
         E.stands.split y (omega (arith, (within h m).0, (within l k).0)) (omega (arith, (within h m).1, (within l k).1, long))
 
     -- There is one place
     single : (h : Face) (i : ℕ) → h ∈ hs → h.what ≡ hole i → i ≡ 0
     single h i q z =
-        let (j, y, small) = body-face 0 n (one body) (one e) hs found h q 1 is_body in
+        let (j, y, small) = body_face 0 n (one body) (one e) hs found h q 1 is_body in
         let same : i ≡ j = cc in
         omega arith
 
@@ -216,25 +216,25 @@ module _ (p : Problem) (w : WithinLimits p) (f n : ℕ) (face e : Term) (at_f : 
         let z : test h.node ≡ hole_fits q d l.node h.node =
         ap₂ (λ (x y : ℕ). hole_fits q x y h.node) depth (sym (lowest_node i l low)) in
         let k = (lowest_is i hs l low).0 in
-        let t = hole-means es d q tells l h (spotted l k) (spotted h m) (beneath h l m k) in
+        let t = hole_means es d q tells l h (spotted l k) (spotted h m) (beneath h l m k) in
         (λ x. t.0 (sym z ∙ x), λ x. z ∙ t.1 x)
 
-  suits-in : suits_at q es f n mask ≡ true → SuitsWalked n body e
-  suits-in t =
-      let (hs, found, good) = met-in test (walk 0 n (one body) (one e)) (sym tested ∙ t) in
+  suits_in : suits_at q es f n mask ≡ true → SuitsWalked n body e
+  suits_in t =
+      let (hs, found, good) = met_in test (walk 0 n (one body) (one e)) (sym tested ∙ t) in
       record { holes = hs; found = found; same = λ i h l m z low. (test_means hs found i h l m low).0 (good h m) }
 
   suits_out : SuitsWalked n body e → suits_at q es f n mask ≡ true
-  suits_out s = tested ∙ ap (λ (o : Option (List Face)). all_nodes test (nodes_met o)) s.found ∙ met-out test s.holes good
+  suits_out s = tested ∙ ap (λ (o : Option (List Face)). all_nodes test (nodes_met o)) s.found ∙ met_out test s.holes good
     where
       good : (h : Face) → h ∈ s.holes → test h.node ≡ true
       good h m =
-          let (i, z, small) = body-face 0 n (one body) (one e) s.holes s.found h m 1 is_body in
+          let (i, z, small) = body_face 0 n (one body) (one e) s.holes s.found h m 1 is_body in
           let (l, low) = lowest_there i s.holes h m z in
           (test_means s.holes s.found i h l m low).1 (s.same i h l m z low)
 
   -- THE BODY SUITS: "Filling m(t) puts the filled t in each hole of m's body"
-  pub suits-means : (suits_at q es f n mask ≡ true) ↔ Suits body e
-  suits-means =
-      let s = suits-walked 1 n body e is_body in
-      (λ t. s.1 (suits-in t), λ t. suits_out (s.0 t))
+  pub suits_means : (suits_at q es f n mask ≡ true) ↔ Suits body e
+  suits_means =
+      let s = suits_walked 1 n body e is_body in
+      (λ t. s.1 (suits_in t), λ t. suits_out (s.0 t))

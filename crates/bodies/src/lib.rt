@@ -1,6 +1,8 @@
 // One function with its set of nodes by itself: whether the body that the set makes of its face is closed, and whether it suits what an
 // application faces. Everything is looked up in the token table of the expressions, except what stands across a hole: there the numbers of
 // the nodes are asked. What the answers mean is proofs/BodyMeaning and proofs/SuitsMeaning.
+#![tactic(auto)]
+
 ghost use Rattle.std.specs.Prelude.{◌≡◌, ◌<◌, length};
 ghost use Rattle.masks.specs.Sets.{mask};
 ghost use Rattle.tokens.specs.Token.{Table};

@@ -38,14 +38,14 @@ use Rattle.calls.specs.declared.Ran.{Ran}
 -- The answers of `call`
 module _ (s : Bytes) (at : Progress) (n : ℕ) (before : List ℕ) (searched : Searched) (h : Answers s at.place n searched) (r : Progress)
     (place : r.place ≡ searched.place) where
-  reply-is : (a : code.Answer) → searched.answer ≡ a → host_reply searched ≡ reply_with a (masks_in searched.row) (value_of searched.place)
-  reply-is a e = ap (λ (x : code.Answer). reply_with x (masks_in searched.row) (value_of searched.place)) e
+  reply_is : (a : code.Answer) → searched.answer ≡ a → host_reply searched ≡ reply_with a (masks_in searched.row) (value_of searched.place)
+  reply_is a e = ap (λ (x : code.Answer). reply_with x (masks_in searched.row) (value_of searched.place)) e
 
-  pub call-found : (now : List ℕ) → searched.answer ≡ answers.Found → PutRow (row_words * at.found) (masks_in searched.row) before now
+  pub call_found : (now : List ℕ) → searched.answer ≡ answers.Found → PutRow (row_words * at.found) (masks_in searched.row) before now
       → r.found ≡ at.found + 1 → r.ended ≡ at.ended → Called s at n before now r
   unfolding max_functions
-  call-found now e row count flag =
-      let q = reply-is answers.Found e in
+  call_found now e row count flag =
+      let q = reply_is answers.Found e in
       let one : found_in (host_reply searched) ≡ record { masks = masks_in searched.row; is_past = false } ∷ [] = ap found_in q in
       let far : row_words * at.found + row_words ≡ row_words * r.found = omega (arith, count) in
       record {
@@ -72,18 +72,18 @@ module _ (s : Bytes) (at : Progress) (n : ℕ) (before : List ℕ) (searched : S
         rows = rw (none, count) (nothing_put (row_words * at.found) before);
       }
 
-  pub call-end : searched.answer ≡ answers.End → r.found ≡ at.found → r.ended ≡ true → Called s at n before before r
-  call-end e count flag = let q = reply-is answers.End e in still (ap found_in q) count (λ t. inr (_, q), λ t. flag)
+  pub call_end : searched.answer ≡ answers.End → r.found ≡ at.found → r.ended ≡ true → Called s at n before before r
+  call_end e count flag = let q = reply_is answers.End e in still (ap found_in q) count (λ t. inr (_, q), λ t. flag)
 
-  pub call-paused : searched.answer ≡ answers.Paused → r.found ≡ at.found → r.ended ≡ at.ended → Called s at n before before r
-  call-paused e count flag =
-      let q = reply-is answers.Paused e in
+  pub call_paused : searched.answer ≡ answers.Paused → r.found ≡ at.found → r.ended ≡ at.ended → Called s at n before before r
+  call_paused e count flag =
+      let q = reply_is answers.Paused e in
       still (ap found_in q) count (λ t. inl (sym flag ∙ t), ⊎_elim (λ t. flag ∙ t) (λ t. never (let z = sym q ∙ t.1 in cc)))
 
-  pub call-refused : (number : ℕ) → searched.answer ≡ answers.Refused number → r.found ≡ at.found → r.ended ≡ at.ended
+  pub call_refused : (number : ℕ) → searched.answer ≡ answers.Refused number → r.found ≡ at.found → r.ended ≡ at.ended
       → Called s at n before before r
-  call-refused number e count flag =
-      let q = reply-is (answers.Refused number) e in
+  call_refused number e count flag =
+      let q = reply_is (answers.Refused number) e in
       still (ap found_in q) count (λ t. inl (sym flag ∙ t), ⊎_elim (λ t. flag ∙ t) (λ t. never (let z = sym q ∙ t.1 in cc)))
 
 -- One call more at the end of a list of calls
@@ -146,13 +146,13 @@ no_calls s at before e f =
     }
 
 module _ (s : Bytes) (place : Place) (ns before mid : List ℕ) (at : Progress) (h : FromPlace s place ns before mid at) where
-  pub few-found : at.found ≤ length ns
-  few-found =
+  pub few_found : at.found ≤ length ns
+  few_found =
       omega (arith, h.found, founds_few h.calls, ap length h.allowances, length-map h.calls (λ (c : HostCall). c.allowance))
 
-  one-call-more : (n : ℕ) (now : List ℕ) (r : Progress) → Called s at n mid now r → FromPlace s place (ns ++ (n ∷ [])) before now r
+  one_call_more : (n : ℕ) (now : List ℕ) (r : Progress) → Called s at n mid now r → FromPlace s place (ns ++ (n ∷ [])) before now r
   unfolding max_functions
-  one-call-more n now r k =
+  one_call_more n now r k =
       let cs = h.calls in
       let c : HostCall = record { allowance = n; reply = k.reply } in
       let F : List ℕ = words_of_rows (founds cs) in
@@ -183,15 +183,15 @@ module _ (s : Bytes) (place : Place) (ns before mid : List ℕ) (at : Progress) 
 -- ... for the allowances so far
 module _ (s : Bytes) (place : Place) (ns before mid : List ℕ) (i : ℕ) (at : Progress)
     (h : FromPlace s place (take i ns) before mid at) where
-  pub next-call : (now : List ℕ) (r : Progress) → i < length ns → Called s at (get_or ns i 0) mid now r
+  pub next_call : (now : List ℕ) (r : Progress) → i < length ns → Called s at (get_or ns i 0) mid now r
       → FromPlace s place (take (i + 1) ns) before now r
-  next-call now r l k =
+  next_call now r l k =
       let one : i + 1 ≡ suc i = omega arith in
       let more : take (i + 1) ns ≡ take i ns ++ (get_or ns i 0 ∷ []) = ap (λ (n : ℕ). take n ns) one ∙ take-suc ns i 0 l in
-      rw more (one-call-more s place (take i ns) before mid at h (get_or ns i 0) now r k)
+      rw more (one_call_more s place (take i ns) before mid at h (get_or ns i 0) now r k)
 
-  pub all-calls : length ns ≤ i → FromPlace s place ns before mid at
-  all-calls l = subst (λ (x : List ℕ). FromPlace s place x before mid at) (take_all i ns l) h
+  pub all_calls : length ns ≤ i → FromPlace s place ns before mid at
+  all_calls l = subst (λ (x : List ℕ). FromPlace s place x before mid at) (take_all i ns l) h
 
 -- The answers of `run`
 module _ (s : Bytes) (ns before : List ℕ) (started : Started) (r : Ran) where
@@ -201,10 +201,10 @@ module _ (s : Bytes) (ns before : List ℕ) (started : Started) (r : Ran) where
   refused_as number (refused n) h e q = (q ∙ sym e ∙ h, refl)
   refused_as number (got p) h e q = never (let z = sym h.0 ∙ e in cc)
 
-  pub run-refused : (number : ℕ) → Starts (start_call s) started → started.answer ≡ starts.Refused number
+  pub run_refused : (number : ℕ) → Starts (start_call s) started → started.answer ≡ starts.Refused number
       → r.answer ≡ starts.Refused number → Runs (accept s) s ns before before r
   unfolding start_call
-  run-refused number h e q = refused_as number (accept s) h e q
+  run_refused number h e q = refused_as number (accept s) h e q
 
   module _ (now : List ℕ) (at : Progress) (bytes : All Byte s) (e : started.answer ≡ starts.Begins) (q : r.answer ≡ starts.Begins)
       (count : r.found ≡ at.found) (flag : r.ended ≡ at.ended) (k : FromPlace s started.place ns before now at) where

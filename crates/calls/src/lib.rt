@@ -1,5 +1,7 @@
 // Lists of calls: one search call for each allowance, from the start of a problem on, each at the place that the call before it left. What
 // `run` promises is document 01's third demand itself, so that a caller has no theorem to add.
+#![tactic(auto)]
+
 ghost use Rattle.std.specs.Prelude.{◌+◌, ◌*◌, ◌≤◌, length};
 ghost use Rattle.meaning.specs.Accept.{accept};
 ghost use Rattle.words.specs.Words.{row_words};

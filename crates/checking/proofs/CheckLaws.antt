@@ -18,16 +18,16 @@ use Rattle.meaning.specs.Text.{Item, read_text, said}
 use Rattle.meaning.specs.Passing.{kinds, known, meets, open_unneeded, passes, unneeded_open}
 use Rattle.meaning.specs.Entry.{check_call, check_on}
 use Rattle.meaning.proofs.Lists.{by_test, is_some_lem}
-use Rattle.meaning.proofs.OneWay.{faces-one-way, faces-walk, walk-faces}
+use Rattle.meaning.proofs.OneWay.{faces_one_way, faces_walk, walk_faces}
 use Rattle.tokens.specs.Token.{Table}
-use Rattle.tokens.proofs.ProblemTokens.{pattern-table}
+use Rattle.tokens.proofs.ProblemTokens.{pattern_table_lem}
 use Rattle.metavariables.specs.declared.Occurring.{Occurring}
 use Rattle.accept.specs.Acceptance.{Accepts, Stands}
 use Rattle.accept.specs.declared.Standing.{Standing}
 use Rattle.accept.specs.declared.Verdict.{Verdict}
 use Rattle.accept.specs.declared.Verdict.TheVariants as verdicts
 use Rattle.prepare.specs.Prepared.{Ground}
-use Rattle.prepare.proofs.PreparedLaws.{accepts-ground, stands-laid}
+use Rattle.prepare.proofs.PreparedLaws.{accepts_ground, stands_laid}
 use Rattle.said.specs.Said.{SaidBy}
 use Rattle.said.specs.declared.Said.{Said}
 use Rattle.entries.specs.Sets.{SetOf}
@@ -48,14 +48,14 @@ use Rattle.checking.specs.declared.Checked.TheVariants as answers
 
 -- What `needed` requires
 pub told_table : (p : Problem) (is : List Item) (ps ts : List ℕ) (o : Occurring) (s : Said) → Told p is ps ts o s → Table ps
-told_table p is ps ts o s t = subst Table (sym t.patterns) (pattern-table p t.accepted.within)
+told_table p is ps ts o s t = subst Table (sym t.patterns) (pattern_table_lem p t.accepted.within)
 
 -- Open just where no value is needed
 module _ (ps ts : List ℕ) (o : Occurring) (s : Said) (holed : ℕ) (is_holed : SetOf (holed_at ts s) holed) (needed : ℕ)
     (is_needed : SetOf (needed_at ps holed) needed) where
-  needed-in : (p : Problem) (is : List Item) (t : Told p is ps ts o s)
+  needed_in : (p : Problem) (is : List Item) (t : Told p is ps ts o s)
       → (open_unneeded_at s needed ≡ open_unneeded p (said is)) × (unneeded_open_at s o.plain needed ≡ unneeded_open p (said is))
-  needed-in p is t =
+  needed_in p is t =
       let own = subst (λ (x : List ℕ). SetOf (needed_at x holed) needed) t.patterns is_needed in (
         open_unneeded_means p t.accepted ts is s t.says holed is_holed needed own,
         unneeded_open_means p t.accepted ts is s t.says holed is_holed needed own o t.survey,
@@ -65,14 +65,14 @@ module _ (ps ts : List ℕ) (o : Occurring) (s : Said) (holed : ℕ) (is_holed :
     pub open_needed : not found ≡ true → OpenJudged ps ts o s false
     open_needed q = record {
       judged = λ p is t.
-          sym (ap (λ (b : Bool). b && unneeded_open p (said is)) (sym (needed-in p is t).0 ∙ sym is_found ∙ not-true found q));
+          sym (ap (λ (b : Bool). b && unneeded_open p (said is)) (sym (needed_in p is t).0 ∙ sym is_found ∙ not-true found q));
     }
 
     pub open_judged : (r : Bool) → not found ≡ false → r ≡ unneeded_open_at s o.plain needed → OpenJudged ps ts o s r
     open_judged r q e = record {
       judged = λ p is t.
-          e ∙ (needed-in p is t).1
-          ∙ sym (ap (λ (b : Bool). b && unneeded_open p (said is)) (sym (needed-in p is t).0 ∙ sym is_found ∙ not-false found q));
+          e ∙ (needed_in p is t).1
+          ∙ sym (ap (λ (b : Bool). b && unneeded_open p (said is)) (sym (needed_in p is t).0 ∙ sym is_found ∙ not-false found q));
     }
 
 -- The fields
@@ -83,8 +83,8 @@ module _ (ps ts : List ℕ) (o : Occurring) (s : Said) (found : Bool) (is_found 
       ap (λ (b : Bool). b && (kinds p (said is) && (open_unneeded p (said is) && unneeded_open p (said is))))
       (sym (is_found ∙ known_means p t.accepted ts is s t.says o t.survey))
 
-  pub fields-foreign : not found ≡ true → FieldsJudged ps ts o s false
-  fields-foreign q = record {
+  pub fields_foreign : not found ≡ true → FieldsJudged ps ts o s false
+  fields_foreign q = record {
     judged = λ p is t.
         sym (known_in p is t
         ∙ ap (λ (b : Bool). b && (kinds p (said is) && (open_unneeded p (said is) && unneeded_open p (said is)))) (not-true found q));
@@ -124,11 +124,11 @@ faceless : (p : Problem) (σ : Filling) → faces p ≡ none → not (both_ways 
 faceless p σ e =
     by_test (both_ways p)
     (λ b. ap (λ (x : Bool). not x && meets p σ) b)
-    (λ b. ap (λ (x : Bool). not x && meets p σ) b ∙ meets_disagree p σ (sym (walk-faces p b) ∙ e))
+    (λ b. ap (λ (x : Bool). not x && meets p σ) b ∙ meets_disagree p σ (sym (walk_faces p b) ∙ e))
 
 module _ (ps es fs ts : List ℕ) (a : Standing) (s : Said) where
-  pub met-never : not a.rows ≡ true → Met ps es fs ts a s false
-  met-never q = record {
+  pub met_never : not a.rows ≡ true → Met ps es fs ts a s false
+  met_never q = record {
     judged = λ p is d.
         sym (faceless p (said is) (is_none (faces p) (sym d.laid.has_rows ∙ not-true a.rows q)));
   }
@@ -146,7 +146,7 @@ module _ (ps es fs ts : List ℕ) (a : Standing) (s : Said) where
           patterns = laid.patterns;
           expressions = laid.expressions;
           found = found;
-          agree = faces-walk d.problem found shapes;
+          agree = faces_walk d.problem found shapes;
           recorded = laid.recorded found shapes;
           items = d.items;
           says = d.decided.says;
@@ -161,9 +161,9 @@ module _ (ps es fs ts : List ℕ) (a : Standing) (s : Said) where
           let laid = d.laid in
           let (found, shapes) = is_some_lem (faces p) (sym laid.has_rows ∙ not-false a.rows some-rows) in
           e ∙ ap₂ (λ (x y : List ℕ). filled_at x y (take a.faces fs) ts s) laid.patterns laid.expressions
-          ∙ filled_means p laid.accepted (take a.faces fs) found (faces-walk p found shapes) (laid.recorded found shapes) ts is s
+          ∙ filled_means p laid.accepted (take a.faces fs) found (faces_walk p found shapes) (laid.recorded found shapes) ts is s
           d.says
-          ∙ sym (ap (λ (b : Bool). not b && meets p (said is)) (faces-one-way p (ap is_some shapes)));
+          ∙ sym (ap (λ (b : Bool). not b && meets p (said is)) (faces_one_way p (ap is_some shapes)));
     }
 
   -- The whole decision
@@ -178,21 +178,21 @@ module _ (ps es fs ts : List ℕ) (a : Standing) (s : Said) where
   regroup true false b c d e = refl
   regroup false a b c d e = sym (and-false (a && (b && (c && d))))
 
-  decided-told : (p : Problem) (is : List Item) → Decided p is ps es fs ts a s → Told p is (take a.patterns ps) ts a.occurring s
-  decided-told p is d =
+  decided_told : (p : Problem) (is : List Item) → Decided p is ps es fs ts a s → Told p is (take a.patterns ps) ts a.occurring s
+  decided_told p is d =
       record { accepted = d.laid.accepted; patterns = d.laid.patterns; survey = d.laid.survey; says = d.says }
 
   -- What `fields_right` requires
-  pub decidable-told : (holes scratch : List ℕ) → (d : Decidable ps es fs ts a s holes scratch)
+  pub decidable_told : (holes scratch : List ℕ) → (d : Decidable ps es fs ts a s holes scratch)
       → Told d.problem d.items (take a.patterns ps) ts a.occurring s
-  decidable-told holes scratch d = decided-told d.problem d.items d.decided
+  decidable_told holes scratch d = decided_told d.problem d.items d.decided
 
   module _ (found : Bool) (h : FieldsJudged (take a.patterns ps) ts a.occurring s found) where
     parts : (p : Problem) (is : List Item) → Decided p is ps es fs ts a s → passes p is ≡ found && constraints_pass p is
     unfolding passes
     parts p is d =
         regroup (not (both_ways p)) (known p is) (kinds p (said is)) (open_unneeded p (said is)) (unneeded_open p (said is)) (meets p (said is))
-        ∙ ap (λ (b : Bool). b && constraints_pass p is) (sym (h.judged p is (decided-told p is d)))
+        ∙ ap (λ (b : Bool). b && constraints_pass p is) (sym (h.judged p is (decided_told p is d)))
 
     pub passed_never : not found ≡ true → Passed ps es fs ts a s false
     passed_never q = record {
@@ -243,8 +243,8 @@ module _ (text : Bytes) (table : List ℕ) (read : TextRead) (h : TextDone (read
       go (refused m) t = let same : m ≡ n = cc in ap refused same
       go (got is) t = absurd (let r = t.1 in let z : ◌≡◌ {A = ℕ} 0 1 = cc in omega arith)
 
-  pub text-inside : (used : ℕ) → read.answer ≡ reads.Read used → used ≤ length table
-  text-inside used e = (read_as used e).inside
+  pub text_inside : (used : ℕ) → read.answer ≡ reads.Read used → used ≤ length table
+  text_inside used e = (read_as used e).inside
 
   module _ (ps es fs : List ℕ) (a : Standing) where
     -- 19, 20 and 27
@@ -278,9 +278,9 @@ module _ (text : Bytes) (table : List ℕ) (read : TextRead) (h : TextDone (read
 
 -- The problem, accepted or not
 module _ (s text ps ps' es es' fs' : List ℕ) (v : Verdict) (h : Accepts (accept s) ps ps' es es' fs' v) where
-  pub check-refused : (n : ℕ) → v ≡ verdicts.Refused n → answer_of (answers.Refused n) ≡ check_call s text
+  pub check_refused : (n : ℕ) → v ≡ verdicts.Refused n → answer_of (answers.Refused n) ≡ check_call s text
   unfolding Accepts check_call
-  check-refused n q = go (accept s) refl (subst (Accepts (accept s) ps ps' es es' fs') q h)
+  check_refused n q = go (accept s) refl (subst (Accepts (accept s) ps ps' es es' fs') q h)
     where
       go : (x : Answer Problem) → accept s ≡ x → Accepts x ps ps' es es' fs' (verdicts.Refused n)
           → answer_of (answers.Refused n) ≡ check_call s text
@@ -290,7 +290,7 @@ module _ (s text ps ps' es es' fs' : List ℕ) (v : Verdict) (h : Accepts (accep
   module _ (bytes : All (λ b. b < 256) s) (a : Standing) (q : v ≡ verdicts.Accepted a) where
     -- What `check_text` requires
     pub check_ground : Ground ps' es' fs' a
-    check_ground = accepts-ground s ps ps' es es' fs' bytes a (subst (Accepts (accept s) ps ps' es es' fs') q h)
+    check_ground = accepts_ground s ps ps' es es' fs' bytes a (subst (Accepts (accept s) ps ps' es es' fs') q h)
 
     pub check_accepted : (r : Checked) → CheckedText ps' es' fs' a text r → answer_of r ≡ check_call s text
     unfolding Accepts check_call
@@ -300,4 +300,4 @@ module _ (s text ps ps' es es' fs' : List ℕ) (v : Verdict) (h : Accepts (accep
         go (refused m) e u = absurd (let z : ◌≡◌ {A = ℕ} 0 1 = cc in omega arith)
         go (got p) e u =
             let same : u.0 ≡ a = let k = u.1 in cc in
-            rw e (t.answer p (stands-laid s ps ps' es es' fs' bytes p a e (subst (Stands p ps ps' es es' fs') same u.2)))
+            rw e (t.answer p (stands_laid s ps ps' es es' fs' bytes p a e (subst (Stands p ps ps' es es' fs') same u.2)))

@@ -1,6 +1,8 @@
 // The checker: "takes a problem and a text, .. bound names free, and says yes or no". Each part of the decision is a function of its own:
 // no metavariable that does not occur, the right kind of field for each, open just where no value is needed, and, if the problem has rows,
 // each filled pattern equal to its expression.
+#![tactic(auto)]
+
 ghost use Rattle.std.specs.Prelude.{◌≡◌, ◌≤◌, length};
 ghost use Rattle.meaning.specs.Entry.{check_call};
 ghost use Rattle.table.specs.Whole.{table_room};

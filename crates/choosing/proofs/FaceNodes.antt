@@ -25,14 +25,14 @@ use Rattle.meaning.proofs.ChoiceLaws.{length_views}
 use Rattle.meaning.proofs.Lowered.{lowered_none}
 use Rattle.tokens.specs.Token.{depth_in, size_in}
 use Rattle.tokens.specs.Key.{at, same_at, uses_at, Held, Stands}
-use Rattle.tokens.proofs.KeyLaws.{stands-depth, stands_size, stands-inside, uses-means, same_means}
-use Rattle.tokens.proofs.Spots.{Spot, spot, forest-deep}
+use Rattle.tokens.proofs.KeyLaws.{stands_depth, stands_size, stands_inside, uses_means, same_means}
+use Rattle.tokens.proofs.Spots.{Spot, spot, forest_deep}
 use Rattle.tokens.proofs.Owners.{equal_levels}
 use Rattle.numbers.specs.Tests.{Beneath, Tells, told}
 use Rattle.masks.proofs.Cases.{same_truth}
 use Rattle.paths.specs.Paths as node
 use Rattle.paths.specs.Paths.{class_at, paths, size_at, unset}
-use Rattle.paths.proofs.PathLaws.{paths-choices}
+use Rattle.paths.proofs.PathLaws.{paths_choices}
 use Rattle.choosing.proofs.Lists.{at_low}
 use Rattle.choosing.specs.FaceNodes.{FaceAt, Whole, class_from, node_from, nodes_from, size_from}
 
@@ -53,20 +53,20 @@ made_at g h first later f k (suc n) (suc i) l =
     later (f k) (map f (count_from (suc k) n)) i ∙ made_at g h first later f (suc k) n i (omega arith) ∙ ap (λ (j : ℕ). h (f j)) z
 
 module _ (ns es : List ℕ) (root : ℕ) where
-  pub nodes-long : length (nodes_from ns es root) ≡ size_from es root
+  pub nodes_long_lem : length (nodes_from ns es root) ≡ size_from es root
   unfolding nodes_from
-  nodes-long = made_long (node_from ns es root) 0 (size_from es root)
+  nodes_long_lem = made_long (node_from ns es root) 0 (size_from es root)
 
-  pub nodes-size : (i : ℕ) → i < size_from es root → size_at (nodes_from ns es root) i ≡ size_in (at es (root + i))
+  pub nodes_size : (i : ℕ) → i < size_from es root → size_at (nodes_from ns es root) i ≡ size_in (at es (root + i))
   unfolding nodes_from
-  nodes-size i l =
+  nodes_size i l =
       let z : 0 + i ≡ i = omega arith in
       made_at size_at (λ x. x.size) (λ x xs. refl) (λ x xs j. refl) (node_from ns es root) 0 (size_from es root) i l
       ∙ ap (λ (j : ℕ). size_in (at es (root + j))) z
 
-  pub nodes-class : (i : ℕ) → i < size_from es root → class_at (nodes_from ns es root) i ≡ class_from ns es root i
+  pub nodes_class : (i : ℕ) → i < size_from es root → class_at (nodes_from ns es root) i ≡ class_from ns es root i
   unfolding nodes_from
-  nodes-class i l =
+  nodes_class i l =
       let z : 0 + i ≡ i = omega arith in
       made_at class_at (λ x. x.class) (λ x xs. refl) (λ x xs j. refl) (node_from ns es root) 0 (size_from es root) i l
       ∙ ap (class_from ns es root) z
@@ -89,8 +89,8 @@ module _ (es : List ℕ) (root : ℕ) (face : Term) (h : FaceAt es root face) wh
   abbrev Node : ℕ → Type 0
   Node i = Spot above (size (one h.named)) (drop root es) i (drop root es) (views face) (one face) i
 
-  face-size : size (one face) ≡ size (one h.named)
-  face-size = ap (λ (t : Term). size (one t)) (sym h.is) ∙ relabel_size enter nameless_label h.scope (one h.named)
+  face_size : size (one face) ≡ size (one h.named)
+  face_size = ap (λ (t : Term). size (one t)) (sym h.is) ∙ relabel_size enter nameless_label h.scope (one h.named)
 
   node_of : (i : ℕ) → i < size (one face) → Node i
   node_of i l = subst (λ (t : Term). Spot above (size (one h.named)) (drop root es) i (drop root es) (views t) (one t) i) h.is here
@@ -99,7 +99,7 @@ module _ (es : List ℕ) (root : ℕ) (face : Term) (h : FaceAt es root face) wh
           (one (nameless_term h.scope h.named)) i
       here =
           rw h.stands.split
-          (spot above h.levels h.ctx h.scope [] 0 (one h.named) h.stands.after _ i i (omega arith) (omega (arith, face-size))
+          (spot above h.levels h.ctx h.scope [] 0 (one h.named) h.stands.after _ i i (omega arith) (omega (arith, face_size))
           h.held.readable h.held.depths (omega arith) refl tt)
 
   module _ (i : ℕ) (s : Node i) where
@@ -128,15 +128,15 @@ module _ (es : List ℕ) (root : ℕ) (face : Term) (h : FaceAt es root face) wh
     node_uses : uses_at es (root + i) above ≡ uses_face seen_at
     node_uses =
         let n : length s.scope - above ≡ length s.binders = omega (arith, s.deep) in
-        let m = uses-means s.levels s.ctx es (root + i) s.scope s.named node_held node_stands above in
+        let m = uses_means s.levels s.ctx es (root + i) s.scope s.named node_held node_stands above in
         let l = lowered_none s.binders term in
         same_truth (uses_at es (root + i) above) (uses_face seen_at)
         (λ e. l.0 (ap (λ (k : ℕ). lower_term k term) (sym n) ∙ m.0 e)) (λ e. m.1 (ap (λ (k : ℕ). lower_term k term) n ∙ l.1 e))
 
   -- the table's test of equality too, for a node that may be in a choice
-  node-same : (i j : ℕ) (s : Node i) (r : Node j) → uses_face (seen_at i s) ≡ false
+  node_same : (i j : ℕ) (s : Node i) (r : Node j) → uses_face (seen_at i s) ≡ false
       → (same_at es (root + i) (root + j) ≡ true) ↔ Equal (owner_of s.binders) (owner_of r.binders) (term i s) (term j r)
-  node-same i j s r f =
+  node_same i j s r f =
       let m = same_means s.levels r.levels s.ctx r.ctx es (root + i) (root + j) s.scope r.scope s.named r.named
       (node_held i s) (node_held j r) (node_stands i s) (node_stands j r) in
       let e =
@@ -144,24 +144,24 @@ module _ (es : List ℕ) (root : ℕ) (face : Term) (h : FaceAt es root face) wh
       (node_closed j r) f in
       (λ q. e.1 (m.0 q), λ q. m.1 (e.0 q))
 
-  root-depth : depth_in (at es root) ≡ above
-  root-depth = stands-depth h.levels h.ctx es root h.scope h.named h.held h.stands
+  root_depth : depth_in (at es root) ≡ above
+  root_depth = stands_depth h.levels h.ctx es root h.scope h.named h.held h.stands
 
-  root-size : size_from es root ≡ size (one face)
-  root-size = stands_size h.levels h.ctx es root h.scope h.named h.held h.stands ∙ sym face-size
+  root_size : size_from es root ≡ size (one face)
+  root_size = stands_size h.levels h.ctx es root h.scope h.named h.held h.stands ∙ sym face_size
 
   root_ends : root + size (one face) ≤ length es
-  root_ends = omega (arith, (stands-inside h.levels h.ctx es root h.scope h.named h.held h.stands).ends, root-size)
+  root_ends = omega (arith, (stands_inside h.levels h.ctx es root h.scope h.named h.held h.stands).ends, root_size)
 
   -- No node of the face is less deep than its root
-  nodes-deep : (i j : ℕ) → i < size (one face) → j < size (one face) → Beneath es above (root + i) (root + j)
-  nodes-deep i j l g y p q =
-      forest-deep h.levels h.ctx h.scope (one h.named) h.held.readable h.held.depths es root h.stands.after
-      h.stands.split y (omega arith) (omega (arith, face-size))
+  nodes_deep : (i j : ℕ) → i < size (one face) → j < size (one face) → Beneath es above (root + i) (root + j)
+  nodes_deep i j l g y p q =
+      forest_deep h.levels h.ctx h.scope (one h.named) h.held.readable h.held.depths es root h.stands.after
+      h.stands.split y (omega arith) (omega (arith, face_size))
 
   module _ (ns : List ℕ) (tells : Tells es (told ns)) where
     asked_uses : (i : ℕ) → i < size (one face) → (told ns).uses (root + i) (depth_in (at es root)) ≡ uses_at es (root + i) above
-    asked_uses i l = ap ((told ns).uses (root + i)) root-depth ∙ tells.uses (root + i) above (omega (arith, root_ends))
+    asked_uses i l = ap ((told ns).uses (root + i)) root_depth ∙ tells.uses (root + i) above (omega (arith, root_ends))
 
     -- A view of the face, and the node that it is of
     abbrev Seen : ℕ → View Owner → Type 0
@@ -181,7 +181,7 @@ module _ (es : List ℕ) (root : ℕ) (face : Term) (h : FaceAt es root face) wh
         → class_at (nodes_from ns es root) i ≡ choose (uses_face u) none (some (at ns (root + i)))
     unfolding class_from
     class_seen i u e =
-        nodes-class ns es root i (omega (arith, low i u e, root-size))
+        nodes_class ns es root i (omega (arith, low i u e, root_size))
         ∙ ap (λ (b : Bool). choose b none (some (at ns (root + i)))) (uses_seen i u e)
 
     -- equal numbers, of a node that may be in a choice and another: equal views
@@ -192,17 +192,17 @@ module _ (es : List ℕ) (root : ℕ) (face : Term) (h : FaceAt es root face) wh
         let r = node_of j (low j v e) in
         let p = is_seen i u d in
         let q = is_seen j v e in
-        let m = node-same i j s r (ap uses_face p ∙ f) in
+        let m = node_same i j s r (ap uses_face p ∙ f) in
         let t =
         tells.same above (root + i) (root + j) (omega (arith, low i u d, root_ends)) (omega (arith, low j v e, root_ends))
-        (nodes-deep i j (low i u d) (low j v e)) (node_uses i s ∙ ap uses_face p ∙ f) in
+        (nodes_deep i j (low i u d) (low j v e)) (node_uses i s ∙ ap uses_face p ∙ f) in
         (λ z. sym p ∙ m.0 (sym t ∙ z) ∙ q, λ z. t ∙ m.1 (p ∙ z ∙ sym q))
 
     -- THE NODES TELL THE FACE
     pub face_nodes : node.Tells (views face) (nodes_from ns es root)
     face_nodes = record {
-      long = nodes-long ns es root ∙ root-size ∙ sym (length_views [] 0 (one face));
-      sizes = λ k u e. nodes-size ns es root k (omega (arith, low k u e, root-size)) ∙ node_size k (node_of k (low k u e)) ∙ ap size (is_seen k u e);
+      long = nodes_long_lem ns es root ∙ root_size ∙ sym (length_views [] 0 (one face));
+      sizes = λ k u e. nodes_size ns es root k (omega (arith, low k u e, root_size)) ∙ node_size k (node_of k (low k u e)) ∙ ap size (is_seen k u e);
       usable = λ k u e. ap is_some (class_seen k u e) ∙ class_some (uses_face u) (at ns (root + k));
       same = same;
     }
@@ -222,11 +222,11 @@ module _ (es : List ℕ) (root : ℕ) (face : Term) (h : FaceAt es root face) wh
 
     -- SO THE PATHS THROUGH THEM ARE ITS CHOICES
     pub face_paths : paths (unset 1) (nodes_from ns es root) ≡ choices 1 face
-    face_paths = paths-choices 1 face (nodes_from ns es root) face_nodes
+    face_paths = paths_choices 1 face (nodes_from ns es root) face_nodes
 
 -- A face that stands at a node, and is not too large, can be gone through.
 pub face_whole : (es : List ℕ) (root : ℕ) (face : Term) → FaceAt es root face → size (one face) ≤ max_face_nodes → Whole es root
 face_whole es root face h fits =
-    let e = root-size es root face h in
-    let inside = stands-inside h.levels h.ctx es root h.scope h.named h.held h.stands in
+    let e = root_size es root face h in
+    let inside = stands_inside h.levels h.ctx es root h.scope h.named h.held h.stands in
     record { starts = inside.starts; fits = omega arith; ends = inside.ends }

@@ -14,14 +14,14 @@ use Rattle.masks.specs.Mask.{join}
 use Rattle.masks.specs.Sets.{width, mask, nodes}
 use Rattle.masks.specs.declared.NodeSet.{NodeSet}
 use Rattle.paths.specs.Paths.{first_path, one_place}
-use Rattle.paths.proofs.OnePlace.{first-at-end}
+use Rattle.paths.proofs.OnePlace.{first_at_end}
 use Rattle.choosing.specs.FaceNodes.{size_from, nodes_from}
 use Rattle.choosing.specs.Rows.{first_from}
 use Rattle.choosing.specs.Walk.{Begun, Filled, HoledAt, Marked, class_of, opens_at, state_of}
 use Rattle.choosing.specs.declared.Walk.{Walk}
-use Rattle.choosing.proofs.FaceNodes.{nodes-long}
-use Rattle.choosing.proofs.SetMarks.{same_room, mask-marked, marked-mask, marked_passed, marked_holed}
-use Rattle.choosing.proofs.WalkLaws.{first-opened, first-passed}
+use Rattle.choosing.proofs.FaceNodes.{nodes_long_lem}
+use Rattle.choosing.proofs.SetMarks.{same_room, mask_marked, marked_mask, marked_passed, marked_holed}
+use Rattle.choosing.proofs.WalkLaws.{first_opened, first_passed}
 
 -- The marks before node i, of which the set has just the marked ones; with the first path from there on they are all marks
 pub record Marking (all : Marks) (ns es : List ℕ) (root : ℕ) (s : NodeSet) (w : Walk) (i : ℕ) : Type 0 where
@@ -37,9 +37,9 @@ Filling ns es root s₀ w₀ from s w i =
     → Marking (ms ++ first_path (state_of w₀ from) (drop from (nodes_from ns es root))) ns es root s w i
 
 module _ (ns es : List ℕ) (root : ℕ) (s₀ : NodeSet) (w₀ : Walk) (from : ℕ) where
-  pub filling-begun : Filling ns es root s₀ w₀ from s₀ w₀ from
+  pub filling_begun : Filling ns es root s₀ w₀ from s₀ w₀ from
   unfolding Filling
-  filling-begun ms l m = record { front = ms; long = l; marked = m; whole = refl }
+  filling_begun ms l m = record { front = ms; long = l; marked = m; whole = refl }
 
   -- One mark more, at a node of the face
   module _ (fits : size_from es root ≤ max_face_nodes) (s : NodeSet) (w : Walk) (i : ℕ) (h : i < size_from es root) where
@@ -65,7 +65,7 @@ module _ (ns es : List ℕ) (root : ℕ) (s₀ : NodeSet) (w₀ : Walk) (from : 
           front = b.front ++ (some 0 ∷ []);
           long = longer b.front (some 0) b.long;
           marked = marked_holed s r b.front i (sym b.long) (subst (λ (n : ℕ). n < width) (sym b.long) room) b.marked j;
-          whole = more _ b.front (some 0) u b.whole (first-opened ns es root i w h u o g);
+          whole = more _ b.front (some 0) u b.whole (first_opened ns es root i w h u o g);
         }
 
     pub filling_passed : Filling ns es root s₀ w₀ from s w i → opens_at ns es root w i ≡ false → Filling ns es root s₀ w₀ from s w (suc i)
@@ -76,17 +76,17 @@ module _ (ns es : List ℕ) (root : ℕ) (s₀ : NodeSet) (w₀ : Walk) (from : 
           front = b.front ++ (none ∷ []);
           long = longer b.front none b.long;
           marked = marked_passed s b.front (subst (λ (n : ℕ). n < width) (sym b.long) room) b.marked;
-          whole = more _ b.front none w b.whole (first-passed ns es root i w h o);
+          whole = more _ b.front none w b.whole (first_passed ns es root i w h o);
         }
 
   -- Past the last node
-  pub filling-done : size_from es root ≤ max_face_nodes → (s : NodeSet) (w : Walk) (i : ℕ) → i ≡ size_from es root
+  pub filling_done : size_from es root ≤ max_face_nodes → (s : NodeSet) (w : Walk) (i : ℕ) → i ≡ size_from es root
       → Filling ns es root s₀ w₀ from s w i → Filled ns es root s₀ w₀ from s
   unfolding Filling Filled
-  filling-done fits s w i e f ms l m =
+  filling_done fits s w i e f ms l m =
       let b = f ms l m in
-      let none_left = first-at-end (nodes_from ns es root) i w.end (class_of w) (omega (arith, e, nodes-long ns es root)) in
-      marked-mask s b.front (omega (arith, b.long, e, fits)) b.marked
+      let none_left = first_at_end (nodes_from ns es root) i w.end (class_of w) (omega (arith, e, nodes_long_lem ns es root)) in
+      marked_mask s b.front (omega (arith, b.long, e, fits)) b.marked
       ∙ ap (mask_of max_face_nodes) (sym (b.whole ∙ ap (λ (r : Marks). b.front ++ r) none_left ∙ append-nil b.front))
 
 -- From the first node on, with no hole so far
@@ -95,5 +95,5 @@ pub first_is : (ns es : List ℕ) (root : ℕ) (s : NodeSet) (w : Walk) (r : Nod
 unfolding Filled mask_of
 first_is ns es root s w r e b f =
     let z : w.end - 0 ≡ 0 = omega (arith, b.end) in
-    f [] refl (mask-marked s [] (omega arith) e)
+    f [] refl (mask_marked s [] (omega arith) e)
     ∙ ap₂ (λ (k : ℕ) (t : Bool). mask_of max_face_nodes (first_path (one_place k (choose t (some w.class) none)) (nodes_from ns es root))) z b.holes

@@ -35,9 +35,9 @@ use Rattle.choosing.specs.Rows.{choices_from, Next}
 use Rattle.choosing.specs.Walk.{Begun, Ending, Filled, Last, LeftAt, Marked, class_of}
 use Rattle.choosing.specs.declared.Walk.{Walk}
 use Rattle.choosing.proofs.Lists.{at_low, low_at}
-use Rattle.choosing.proofs.FaceNodes.{nodes-long, nodes-class}
-use Rattle.choosing.proofs.RowSteps.{choice-path, choices_next, path-place}
-use Rattle.choosing.proofs.SetMarks.{same_room, mask-marked, marked_passed}
+use Rattle.choosing.proofs.FaceNodes.{nodes_long_lem, nodes_class}
+use Rattle.choosing.proofs.RowSteps.{choice_path, choices_next, path_place}
+use Rattle.choosing.proofs.SetMarks.{same_room, mask_marked, marked_passed}
 
 -- One node down
 pub none_down : (l : List Bool) (i : ℕ) → 0 < i → ((k : ℕ) → i ≤ k → get_or l k false ≡ false) → get_or l (i - 1) false ≡ false
@@ -113,22 +113,22 @@ module _ (ns es : List ℕ) (root : ℕ) (fits : size_from es root ≤ max_face_
   xs = nodes_from ns es root
 
   abbrev us : Marks
-  us = (choice-path ns es root (mask s) here).0
+  us = (choice_path ns es root (mask s) here).0
 
   path : T (accepts next (unset 1) xs us)
-  path = (choice-path ns es root (mask s) here).1
+  path = (choice_path ns es root (mask s) here).1
 
   is : mask s ≡ mask_of max_face_nodes us
-  is = (choice-path ns es root (mask s) here).2
+  is = (choice_path ns es root (mask s) here).2
 
   long : length us ≡ size_from es root
-  long = ((accepted_walked (unset 1) xs us).0 path).0 ∙ nodes-long ns es root
+  long = ((accepted_walked (unset 1) xs us).0 path).0 ∙ nodes_long_lem ns es root
 
   room : size_from es root ≤ width
   room = subst (λ (n : ℕ). size_from es root ≤ n) same_room fits
 
   marked : Marked s us
-  marked = mask-marked s us (omega (arith, long, fits)) is
+  marked = mask_marked s us (omega (arith, long, fits)) is
 
   -- What the set says of a node is what its marks say
   node : (k : ℕ) (m : Mark) → get_elem? us k ≡ some m → get_or (nodes s) k false ≡ is_some m
@@ -162,7 +162,7 @@ module _ (ns es : List ℕ) (root : ℕ) (fits : size_from es root ≤ max_face_
 
     mark_some : (k : ℕ) (m : Mark) → get_elem? us k ≡ some m → is_some m ≡ true → m ≡ some 0
     mark_some k none e h = absurd (false≢true h)
-    mark_some k (some q) e h = ap {B = Mark} (λ (j : ℕ). some j) (path-place ns es root us path k q e)
+    mark_some k (some q) e h = ap {B = Mark} (λ (j : ℕ). some j) (path_place ns es root us path k q e)
 
     found : (m : Mark) × (get_elem? us i ≡ some m)
     found = low_at us i (omega (arith, long))
@@ -206,7 +206,7 @@ module _ (ns es : List ℕ) (root : ℕ) (fits : size_from es root ≤ max_face_
       unfolding class_from
       class_here =
           let (c, e, t) = ((accepted_walked (unset 1) xs us).0 path).1.classed i 0 last_here in
-          go ((told ns).uses (root + i) (depth_in (table.at es root))) (nodes-class ns es root i low) (sym (nodes-class ns es root i low) ∙ e)
+          go ((told ns).uses (root + i) (depth_in (table.at es root))) (nodes_class ns es root i low) (sym (nodes_class ns es root i low) ∙ e)
         where
           go : (b : Bool) → class_at xs i ≡ choose b none (some (table.at ns (root + i))) → {c : ℕ}
               → choose b none (some (table.at ns (root + i))) ≡ some c

@@ -28,8 +28,8 @@ use Rattle.faces.specs.Verdict.{FirstsAt}
 use Rattle.choosing.specs.Rows.{MaskRow, choices_from, choices_at, mask_rows, Leads, Steps}
 use Rattle.choosing.proofs.Lists.{at_low, product_map, product_padded}
 use Rattle.choosing.proofs.FaceNodes.{face_paths}
-use Rattle.choosing.proofs.RowSteps.{choices-there, choices-absent}
-use Rattle.choosing.proofs.ProblemFaces.{functions-counted, face-at}
+use Rattle.choosing.proofs.RowSteps.{choices_there, choices_absent}
+use Rattle.choosing.proofs.ProblemFaces.{functions_counted, face_at_lem}
 
 -- ---- the lists of choices, function by function
 
@@ -87,30 +87,30 @@ module _ (p : Problem) (a : Accepted p) (xs : List Face) (agree : faces p ≡ so
   meant f = map (mask_of max_face_nodes) (choices (places_of p f) (face_of p f))
 
   long : length (functions p) ≡ count
-  long = functions-counted p a xs agree nodes count few room firsts
+  long = functions_counted p a xs agree nodes count few room firsts
 
-  function-choices : (k f : ℕ) → get_elem? (functions p) k ≡ some f → choices_at ns (expression_tokens p) nodes count k ≡ meant f
+  function_choices : (k f : ℕ) → get_elem? (functions p) k ≡ some f → choices_at ns (expression_tokens p) nodes count k ≡ meant f
   unfolding choices_from
-  function-choices k f e =
+  function_choices k f e =
       let single : 1 ≡ places_of p f = sym (one_place p a.within f (functions_applied p f (at_mem (functions p) k f e))) in
       let h : k < count = subst (λ (n : ℕ). k < n) long (at_low (functions p) k f e) in
-      choices-there ns (expression_tokens p) nodes count k h
+      choices_there ns (expression_tokens p) nodes count k h
       ∙ ap (map (mask_of max_face_nodes))
-      (face_paths (expression_tokens p) (table.at nodes k) (face_of p f) (face-at p a xs agree nodes count few room firsts k f e) ns tells
+      (face_paths (expression_tokens p) (table.at nodes k) (face_of p f) (face_at_lem p a xs agree nodes count few room firsts k f e) ns tells
       ∙ ap (λ (n : ℕ). choices n (face_of p f)) single)
 
-  all-choices : map (choices_at ns (expression_tokens p) nodes count) (up_to max_functions)
+  all_choices : map (choices_at ns (expression_tokens p) nodes count) (up_to max_functions)
       ≡ map meant (functions p) ++ replicate (max_functions - length (functions p)) (0 ∷ [])
-  all-choices =
+  all_choices =
       counted (choices_at ns (expression_tokens p) nodes count) meant (0 ∷ []) 0 max_functions (functions p) (omega (arith, long))
-      (λ i f k e q. let z : i ≡ k = omega arith in function-choices k f (rw z at q))
-      (λ i k e q. choices-absent ns (expression_tokens p) nodes count k (omega (arith, long)))
+      (λ i f k e q. let z : i ≡ k = omega arith in function_choices k f (rw z at q))
+      (λ i k e q. choices_absent ns (expression_tokens p) nodes count k (omega (arith, long)))
 
   -- THE MASK ROWS are the masks of the problem's rows, in their order
-  pub rows-listed : mask_rows ns (expression_tokens p) nodes count ≡ map masks_of (rows p)
+  pub rows_listed : mask_rows ns (expression_tokens p) nodes count ≡ map masks_of (rows p)
   unfolding mask_rows masks_of
-  rows-listed =
-      ap product all-choices
+  rows_listed =
+      ap product all_choices
       ∙ product_padded 0 rest (map meant (functions p))
       ∙ ap (λ (xss : List (List ℕ)). map padded (product xss))
       (sym (map-map (map mask) (λ f. choices (places_of p f) (face_of p f)) (functions p)))
@@ -141,16 +141,16 @@ module _ (p : Problem) (ns es nodes : List ℕ) (count : ℕ) (listed : mask_row
   row_masks row = (λ m. map_mem masks_of row (rows p) (rw listed at m), λ q. rw (listed, q.2) (mem_map masks_of q.1))
 
   -- What the first mask row is: the masks of the first row.
-  pub first-row-of : (row : MaskRow) → place_of (mask_rows ns es nodes count) ≡ at row → record { masks = row; is_past = false } ≡ place_value (start p)
-  first-row-of row e =
+  pub first_row_of : (row : MaskRow) → place_of (mask_rows ns es nodes count) ≡ at row → record { masks = row; is_past = false } ≡ place_value (start p)
+  first_row_of row e =
       value_place (rows p) true row
       (record { goes = λ q. ap place_of (sym listed) ∙ e; ends = λ q. absurd (true≢false q) })
 
   -- What a step gives after the masks of a row: those of the row after it, or past the last.
-  pub next-row-of : (before later : List Row) (r : Row) (more : Bool) (next : MaskRow) → rows p ≡ before ++ (r ∷ later)
+  pub next_row_of : (before later : List Row) (r : Row) (more : Bool) (next : MaskRow) → rows p ≡ before ++ (r ∷ later)
       → Steps ns es nodes count (masks_of r) more next
       → choose more (record { masks = next; is_past = false }) (place_value past) ≡ place_value (place_of later)
   unfolding Steps
-  next-row-of before later r more next e h =
+  next_row_of before later r more next e h =
       value_place later more next
       (h (map masks_of before) (map masks_of later) (listed ∙ ap (map masks_of) e ∙ map-append masks_of before (r ∷ later)))

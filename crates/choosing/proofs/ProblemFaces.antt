@@ -17,7 +17,7 @@ use Rattle.meaning.proofs.PlaceLaws.{small_faces}
 use Rattle.tokens.specs.Token.{expression_tokens}
 use Rattle.tokens.specs.Key.{at}
 use Rattle.faces.specs.Verdict.{FirstAt, FirstsAt}
-use Rattle.faces.proofs.NodeTokens.{expression-node}
+use Rattle.faces.proofs.NodeTokens.{expression_node_lem}
 use Rattle.choosing.specs.FaceNodes.{FaceAt, Faces, Whole}
 use Rattle.choosing.proofs.Lists.{at_low, low_at}
 use Rattle.choosing.proofs.FaceNodes.{face_whole}
@@ -37,18 +37,18 @@ firsts_at p xs (g ∷ fs) (j ∷ js) h (suc k) f e = firsts_at p xs fs js h.1 k 
 
 module _ (p : Problem) (a : Accepted p) (xs : List Face) (agree : faces p ≡ some xs) (nodes : List ℕ) (count : ℕ)
     (few : count ≤ max_functions) (room : length nodes ≡ max_functions) (firsts : FirstsAt p xs (functions p) (take count nodes)) where
-  pub functions-counted : length (functions p) ≡ count
-  functions-counted = firsts_length p xs (functions p) (take count nodes) firsts ∙ length-take-le count nodes (omega arith)
+  pub functions_counted : length (functions p) ≡ count
+  functions_counted = firsts_length p xs (functions p) (take count nodes) firsts ∙ length-take-le count nodes (omega arith)
 
   first : (k f : ℕ) → get_elem? (functions p) k ≡ some f → FirstAt p xs f (at nodes k)
   first k f e =
-      let h : k < count = subst (λ (n : ℕ). k < n) functions-counted (at_low (functions p) k f e) in
+      let h : k < count = subst (λ (n : ℕ). k < n) functions_counted (at_low (functions p) k f e) in
       subst (FirstAt p xs f) (get_or-take count nodes k 0 h) (firsts_at p xs (functions p) (take count nodes) firsts k f e)
 
   -- The function's face stands at the node
-  pub face-at : (k f : ℕ) → get_elem? (functions p) k ≡ some f → FaceAt (expression_tokens p) (at nodes k) (face_of p f)
-  face-at k f e =
-      let n = expression-node p a.within (at nodes k) (face_of p f) (first k f e).term in
+  pub face_at_lem : (k f : ℕ) → get_elem? (functions p) k ≡ some f → FaceAt (expression_tokens p) (at nodes k) (face_of p f)
+  face_at_lem k f e =
+      let n = expression_node_lem p a.within (at nodes k) (face_of p f) (first k f e).term in
       record {
         levels = n.levels;
         ctx = n.context;
@@ -60,11 +60,11 @@ module _ (p : Problem) (a : Accepted p) (xs : List Face) (agree : faces p ≡ so
       }
 
   -- THE CODE CAN GO THROUGH THEM
-  pub problem-faces : Faces (expression_tokens p) nodes count
-  problem-faces =
-      record { few = few; whole = λ k h. whole k (low_at (functions p) k (subst (λ (n : ℕ). k < n) (sym functions-counted) h)) }
+  pub problem_faces : Faces (expression_tokens p) nodes count
+  problem_faces =
+      record { few = few; whole = λ k h. whole k (low_at (functions p) k (subst (λ (n : ℕ). k < n) (sym functions_counted) h)) }
     where
       whole : (k : ℕ) → (f : ℕ) × (get_elem? (functions p) k ≡ some f) → Whole (expression_tokens p) (at nodes k)
       whole k e =
-          face_whole (expression_tokens p) (at nodes k) (face_of p e.0) (face-at k e.0 e.1)
+          face_whole (expression_tokens p) (at nodes k) (face_of p e.0) (face_at_lem k e.0 e.1)
           (small_faces p a (ap is_some agree) e.0 (at_mem (functions p) k e.0 e.1))

@@ -23,12 +23,12 @@ use Rattle.paths.specs.Words.{accepts}
 use Rattle.paths.specs.Paths.{first_path, next, next_path, paths, unset}
 use Rattle.paths.proofs.Walking.{accepted_walked, takes_low}
 use Rattle.paths.proofs.PathLaws.{paths_are, paths_distinct}
-use Rattle.paths.proofs.PathOrder.{paths-first, paths-last, paths-next}
+use Rattle.paths.proofs.PathOrder.{paths_first, paths_last, paths_next}
 use Rattle.choosing.specs.FaceNodes.{Faces, nodes_from, size_from}
 use Rattle.choosing.specs.Rows.{MaskRow, Steps, behind, choices_at, choices_from, first_at, first_from, mask_rows}
-use Rattle.choosing.proofs.FaceNodes.{nodes-long}
-use Rattle.choosing.proofs.Stepping.{Carried, Fresh, all_are, all_once, all_from, behind_is, carried-end, carried_step, first-of-all}
-use Rattle.choosing.proofs.Stepping.{firsts_at, firsts_from, fresh-all, rows-after, rows_after}
+use Rattle.choosing.proofs.FaceNodes.{nodes_long_lem}
+use Rattle.choosing.proofs.Stepping.{Carried, Fresh, all_are, all_once, all_from, behind_is, carried_end, carried_step, first_of_all}
+use Rattle.choosing.proofs.Stepping.{firsts_at, firsts_from, fresh_all, rows_after_lem, rows_after}
 
 mask_clear : (w n : ℕ) → mask_of w (replicate n none) ≡ 0
 unfolding mask_of
@@ -48,21 +48,21 @@ module _ (ns es : List ℕ) (root : ℕ) where
   marked ms = mask_of max_face_nodes ms
 
   -- A CHOICE is the mask of a path
-  pub choice-path : (m : ℕ) → m ∈ choices_from ns es root → (ms : Marks) × T (accepts next (unset 1) (nodes_from ns es root) ms) × (m ≡ marked ms)
+  pub choice_path : (m : ℕ) → m ∈ choices_from ns es root → (ms : Marks) × T (accepts next (unset 1) (nodes_from ns es root) ms) × (m ≡ marked ms)
   unfolding choices_from
-  choice-path m h =
+  choice_path m h =
       let (ms, i, e) = map_mem marked m (paths (unset 1) (nodes_from ns es root)) h in
       (ms, (paths_are (unset 1) (nodes_from ns es root) ms).0 i, e)
 
-  pub path-choice : (ms : Marks) → T (accepts next (unset 1) (nodes_from ns es root) ms) → marked ms ∈ choices_from ns es root
+  pub path_choice : (ms : Marks) → T (accepts next (unset 1) (nodes_from ns es root) ms) → marked ms ∈ choices_from ns es root
   unfolding choices_from
-  path-choice ms t = mem_map marked ((paths_are (unset 1) (nodes_from ns es root) ms).1 t)
+  path_choice ms t = mem_map marked ((paths_are (unset 1) (nodes_from ns es root) ms).1 t)
 
-  path-long : (ms : Marks) → T (accepts next (unset 1) (nodes_from ns es root) ms) → length ms ≡ size_from es root
-  path-long ms t = ((accepted_walked (unset 1) (nodes_from ns es root) ms).0 t).0 ∙ nodes-long ns es root
+  path_long : (ms : Marks) → T (accepts next (unset 1) (nodes_from ns es root) ms) → length ms ≡ size_from es root
+  path_long ms t = ((accepted_walked (unset 1) (nodes_from ns es root) ms).0 t).0 ∙ nodes_long_lem ns es root
 
-  pub path-place : (ms : Marks) → T (accepts next (unset 1) (nodes_from ns es root) ms) → OnePlace ms
-  path-place ms t k i e =
+  pub path_place : (ms : Marks) → T (accepts next (unset 1) (nodes_from ns es root) ms) → OnePlace ms
+  path_place ms t k i e =
       let (c, h, g) = ((accepted_walked (unset 1) (nodes_from ns es root) ms).0 t).1.classed k i e in
       let l = takes_low (none ∷ []) i c g in
       omega arith
@@ -73,8 +73,8 @@ module _ (ns es : List ℕ) (root : ℕ) where
         → marked ms ≡ marked us
         → ms ≡ us
     path_mask ms us s t e =
-        mask_injective max_face_nodes ms us (omega (arith, path-long ms s)) (path-long ms s ∙ sym (path-long us t)) (path-place ms s)
-        (path-place us t) e
+        mask_injective max_face_nodes ms us (omega (arith, path_long ms s)) (path_long ms s ∙ sym (path_long us t)) (path_place ms s)
+        (path_place us t) e
 
     pub choices_once : Distinct (choices_from ns es root)
     unfolding choices_from
@@ -96,7 +96,7 @@ module _ (ns es : List ℕ) (root : ℕ) where
     unfolding choices_from
     choices_first =
         let first : Marks = first_path (unset 1) (nodes_from ns es root) in
-        let (ys, e) = begins (paths (unset 1) (nodes_from ns es root)) first (paths-first (unset 1) (nodes_from ns es root)) in
+        let (ys, e) = begins (paths (unset 1) (nodes_from ns es root)) first (paths_first (unset 1) (nodes_from ns es root)) in
         ap (map marked) e ∙ ap {B = List ℕ} (λ (zs : List ℕ). marked first ∷ zs) (sym (split_choices [] ys first e))
 
     -- THE CHOICE AFTER A CHOICE, and the last
@@ -104,7 +104,7 @@ module _ (ns es : List ℕ) (root : ℕ) where
         → next_path (unset 1) (nodes_from ns es root) ms ≡ some us
         → behind (choices_from ns es root) (marked ms) ≡ marked us ∷ behind (choices_from ns es root) (marked us)
     choices_next ms us t e =
-        let s = paths-next (unset 1) (nodes_from ns es root) ms t in
+        let s = paths_next (unset 1) (nodes_from ns es root) ms t in
         let (ys, d) = begins s.after us (s.is_next ∙ e) in
         let whole : paths (unset 1) (nodes_from ns es root) ≡ (s.before ++ (ms ∷ [])) ++ (us ∷ ys) =
         s.whole ∙ ap (λ (zs : List Marks). s.before ++ (ms ∷ zs)) d ∙ sym (append_assoc s.before (ms ∷ []) (us ∷ ys)) in
@@ -113,7 +113,7 @@ module _ (ns es : List ℕ) (root : ℕ) where
 
     pub choices_last : behind (choices_from ns es root) 0 ≡ []
     choices_last =
-        let (mss, e) = paths-last (unset 1) (nodes_from ns es root) in
+        let (mss, e) = paths_last (unset 1) (nodes_from ns es root) in
         let none_marked = replicate (length (nodes_from ns es root)) none in
         ap (behind (choices_from ns es root)) (sym (mask_clear max_face_nodes (length (nodes_from ns es root))))
         ∙ split_choices mss [] none_marked e
@@ -127,13 +127,13 @@ module _ (ns es nodes : List ℕ) (count : ℕ) where
   abbrev first : ℕ → ℕ
   first = first_at ns es nodes count
 
-  pub choices-there : (k : ℕ) → k < count → choices_at ns es nodes count k ≡ choices_from ns es (table.at nodes k)
+  pub choices_there : (k : ℕ) → k < count → choices_at ns es nodes count k ≡ choices_from ns es (table.at nodes k)
   unfolding choices_at
-  choices-there k h = choose_true (choices_from ns es (table.at nodes k)) (0 ∷ []) (lt-ltb k count h)
+  choices_there k h = choose_true (choices_from ns es (table.at nodes k)) (0 ∷ []) (lt-ltb k count h)
 
-  pub choices-absent : (k : ℕ) → count ≤ k → choices_at ns es nodes count k ≡ 0 ∷ []
+  pub choices_absent : (k : ℕ) → count ≤ k → choices_at ns es nodes count k ≡ 0 ∷ []
   unfolding choices_at
-  choices-absent k h = choose_false (choices_from ns es (table.at nodes k)) (0 ∷ []) (le-ltb k count h)
+  choices_absent k h = choose_false (choices_from ns es (table.at nodes k)) (0 ∷ []) (le-ltb k count h)
 
   pub first_there : (k : ℕ) → k < count → first_at ns es nodes count k ≡ first_from ns es (table.at nodes k)
   unfolding first_at
@@ -148,36 +148,36 @@ module _ (ns es nodes : List ℕ) (count : ℕ) where
   all_rows_lem = refl
 
   -- A ROW is in the list just when each of its masks is a choice of its function.
-  pub row-mem : (row : MaskRow) → row ∈ mask_rows ns es nodes count → (k : ℕ) → k < max_functions → get_or row k 0 ∈ choices_at ns es nodes count k
-  row-mem row m k h = ((all_are cs 0 max_functions row).0 (rw all_rows_lem at m)).choice k k (omega arith) h
+  pub row_mem : (row : MaskRow) → row ∈ mask_rows ns es nodes count → (k : ℕ) → k < max_functions → get_or row k 0 ∈ choices_at ns es nodes count k
+  row_mem row m k h = ((all_are cs 0 max_functions row).0 (rw all_rows_lem at m)).choice k k (omega arith) h
 
-  pub row-length : (row : MaskRow) → row ∈ mask_rows ns es nodes count → length row ≡ max_functions
-  row-length row m = ((all_are cs 0 max_functions row).0 (rw all_rows_lem at m)).long
+  pub row_length : (row : MaskRow) → row ∈ mask_rows ns es nodes count → length row ≡ max_functions
+  row_length row m = ((all_are cs 0 max_functions row).0 (rw all_rows_lem at m)).long
 
-  pub mem-row : (row : MaskRow) → length row ≡ max_functions → ((k : ℕ) → k < max_functions → get_or row k 0 ∈ choices_at ns es nodes count k)
+  pub mem_row : (row : MaskRow) → length row ≡ max_functions → ((k : ℕ) → k < max_functions → get_or row k 0 ∈ choices_at ns es nodes count k)
       → row ∈ mask_rows ns es nodes count
-  mem-row row l c =
+  mem_row row l c =
       rw all_rows_lem
       ((all_are cs 0 max_functions row).1 (record { long = l; choice = λ k j e h. let z : j ≡ k = omega arith in rw z (c k h) }))
 
   module _ (fs : Faces es nodes count) where
     at_once : (k : ℕ) → Distinct (cs k)
     at_once k =
-        ⊎_elim (λ h. rw (choices-there k h) (choices_once ns es (table.at nodes k) (fs.whole k h).fits))
-        (λ h. rw (choices-absent k h) (λ m. Memᴰ.not-nil m, tt)) (lt_or_ge k count)
+        ⊎_elim (λ h. rw (choices_there k h) (choices_once ns es (table.at nodes k) (fs.whole k h).fits))
+        (λ h. rw (choices_absent k h) (λ m. Memᴰ.not-nil m, tt)) (lt_or_ge k count)
 
     at_first : (k : ℕ) → cs k ≡ first k ∷ behind (cs k) (first k)
     unfolding behind
     at_first k =
-        ⊎_elim (λ h. rw (choices-there k h, first_there k h) (choices_first ns es (table.at nodes k) (fs.whole k h).fits))
-        (λ h. rw (choices-absent k h, first_absent k h) refl) (lt_or_ge k count)
+        ⊎_elim (λ h. rw (choices_there k h, first_there k h) (choices_first ns es (table.at nodes k) (fs.whole k h).fits))
+        (λ h. rw (choices_absent k h, first_absent k h) refl) (lt_or_ge k count)
 
     -- After the empty choice no other comes, of whatever function.
     pub empty_last : (k : ℕ) → behind (choices_at ns es nodes count k) 0 ≡ []
     unfolding behind
     empty_last k =
-        ⊎_elim (λ h. rw (choices-there k h) (choices_last ns es (table.at nodes k) (fs.whole k h).fits))
-        (λ h. rw (choices-absent k h) refl) (lt_or_ge k count)
+        ⊎_elim (λ h. rw (choices_there k h) (choices_last ns es (table.at nodes k) (fs.whole k h).fits))
+        (λ h. rw (choices_absent k h) refl) (lt_or_ge k count)
 
     -- Each row stands in the list once.
     pub mask_rows_once : Distinct (mask_rows ns es nodes count)
@@ -185,19 +185,19 @@ module _ (ns es nodes : List ℕ) (count : ℕ) where
 
     -- THE FIRST ROW is the row of all first choices,
     pub first_row : (row : MaskRow) → Fresh first max_functions row 0 → place_of (mask_rows ns es nodes count) ≡ at row
-    first_row row w = ap place_of (all_rows_lem ∙ first-of-all cs first max_functions (λ f h. at_first f) row w)
+    first_row row w = ap place_of (all_rows_lem ∙ first_of_all cs first max_functions (λ f h. at_first f) row w)
 
     -- so that whatever row is the first has the first choice of each function.
     pub first_at_lem : (row : MaskRow) → place_of (mask_rows ns es nodes count) ≡ at row → (k : ℕ) → k < max_functions
         → get_or row k 0 ≡ first_at ns es nodes count k
     first_at_lem row e k h =
-        let d = first_row (firsts_from first max_functions 0 max_functions) (fresh-all first max_functions) in
+        let d = first_row (firsts_from first max_functions 0 max_functions) (fresh_all first max_functions) in
         let q : row ≡ firsts_from first max_functions 0 max_functions = cc in
         let z : 0 + k ≡ k = omega arith in
         ap (λ (x : MaskRow). get_or x k 0) q ∙ firsts_at first max_functions 0 max_functions k h ∙ ap first z
 
     after : (before later : List MaskRow) (row : MaskRow) → mask_rows ns es nodes count ≡ before ++ (row ∷ later) → later ≡ rows_after cs 0 row
-    after before later row e = rows-after cs at_once 0 max_functions before later row (sym all_rows_lem ∙ e)
+    after before later row e = rows_after_lem cs at_once 0 max_functions before later row (sym all_rows_lem ∙ e)
 
     -- THE NEXT ROW: the step is made at the last function with a choice left, and the later functions start anew.
     pub steps_on : (old row : MaskRow) (j x : ℕ) → j < max_functions → Carried cs first max_functions old row (suc j)
@@ -214,5 +214,5 @@ module _ (ns es nodes : List ℕ) (count : ℕ) where
     steps_past old row next w before later e =
         record {
           goes = λ q. absurd (false≢true q);
-          ends = λ q. ap place_of (after before later old e ∙ carried-end cs first max_functions old row w);
+          ends = λ q. ap place_of (after before later old e ∙ carried_end cs first max_functions old row w);
         }

@@ -56,13 +56,13 @@ module _ (s : NodeSet) (ms : Marks) (h : length ms ≤ max_face_nodes) where
   wide : mask_of max_face_nodes ms ≡ value (padded width ms)
   wide = ap (λ (n : ℕ). mask_of n ms) same_room ∙ mask_value width ms short
 
-  pub marked-mask : Marked s ms → mask s ≡ mask_of max_face_nodes ms
+  pub marked_mask : Marked s ms → mask s ≡ mask_of max_face_nodes ms
   unfolding Marked
-  marked-mask e = mask_nodes s ∙ ap value e ∙ sym wide
+  marked_mask e = mask_nodes s ∙ ap value e ∙ sym wide
 
-  pub mask-marked : mask s ≡ mask_of max_face_nodes ms → Marked s ms
+  pub mask_marked : mask s ≡ mask_of max_face_nodes ms → Marked s ms
   unfolding Marked
-  mask-marked e =
+  mask_marked e =
       ap (marks width) (e ∙ wide) ∙ ap (λ (n : ℕ). marks n (value (padded width ms))) (sym (length_padded width ms short))
       ∙ marks_value (padded width ms)
 

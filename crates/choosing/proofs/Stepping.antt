@@ -58,8 +58,8 @@ pub record Masks (cs : ℕ → List ℕ) (f n : ℕ) (row : MaskRow) : Type 0 wh
   pub choice : (k j : ℕ) → j ≡ f + k → k < n → get_or row k 0 ∈ cs j
 
 module _ (cs : ℕ → List ℕ) where
-  masks-front : (f n m : ℕ) (row : MaskRow) → m ∈ cs f → Masks cs (suc f) n row → Masks cs f (suc n) (m ∷ row)
-  masks-front f n m row h q = record { long = ap suc q.long; choice = choice }
+  masks_front : (f n m : ℕ) (row : MaskRow) → m ∈ cs f → Masks cs (suc f) n row → Masks cs f (suc n) (m ∷ row)
+  masks_front f n m row h q = record { long = ap suc q.long; choice = choice }
     where
       choice : (k j : ℕ) → j ≡ f + k → k < suc n → get_or (m ∷ row) k 0 ∈ cs j
       choice zero j d l = let z : j ≡ f = omega arith in rw z h
@@ -68,22 +68,22 @@ module _ (cs : ℕ → List ℕ) where
   masks_back : (f n m : ℕ) (row : MaskRow) → Masks cs f (suc n) (m ∷ row) → Masks cs (suc f) n row
   masks_back f n m row q = record { long = omega (arith, q.long); choice = λ k j d l. q.choice (suc k) j (omega arith) (omega arith) }
 
-  each-masks : (f n : ℕ) (row : MaskRow) → OneOfEach (map cs (count_from f n)) row → Masks cs f n row
-  each-masks f zero [] h = record { long = refl; choice = λ k j d l. absurd (omega arith) }
-  each-masks f zero (m ∷ row) h = absurd h
-  each-masks f (suc n) [] h = absurd h
-  each-masks f (suc n) (m ∷ row) h = masks-front f n m row h.0 (each-masks (suc f) n row h.1)
+  each_masks : (f n : ℕ) (row : MaskRow) → OneOfEach (map cs (count_from f n)) row → Masks cs f n row
+  each_masks f zero [] h = record { long = refl; choice = λ k j d l. absurd (omega arith) }
+  each_masks f zero (m ∷ row) h = absurd h
+  each_masks f (suc n) [] h = absurd h
+  each_masks f (suc n) (m ∷ row) h = masks_front f n m row h.0 (each_masks (suc f) n row h.1)
 
-  masks-each : (f n : ℕ) (row : MaskRow) → Masks cs f n row → OneOfEach (map cs (count_from f n)) row
-  masks-each f zero [] q = tt
-  masks-each f zero (m ∷ row) q = absurd (omega (arith, q.long))
-  masks-each f (suc n) [] q = absurd (omega (arith, q.long))
-  masks-each f (suc n) (m ∷ row) q = (q.choice 0 f (omega arith) (omega arith), masks-each (suc f) n row (masks_back f n m row q))
+  masks_each : (f n : ℕ) (row : MaskRow) → Masks cs f n row → OneOfEach (map cs (count_from f n)) row
+  masks_each f zero [] q = tt
+  masks_each f zero (m ∷ row) q = absurd (omega (arith, q.long))
+  masks_each f (suc n) [] q = absurd (omega (arith, q.long))
+  masks_each f (suc n) (m ∷ row) q = (q.choice 0 f (omega arith) (omega arith), masks_each (suc f) n row (masks_back f n m row q))
 
   pub all_are : (f n : ℕ) (row : MaskRow) → (row ∈ all_from cs f n) ↔ Masks cs f n row
   all_are f n row =
       let q = product_are (map cs (count_from f n)) row in
-      (λ m. each-masks f n row (q.0 m), λ h. q.1 (masks-each f n row h))
+      (λ m. each_masks f n row (q.0 m), λ h. q.1 (masks_each f n row h))
 
 -- ---- the rows after a row
 
@@ -119,9 +119,9 @@ module _ (cs : ℕ → List ℕ) where
       (spread rs xs ++ map (λ r. m ∷ r) b, ap (spread rs) d ∙ spread_split rs b (rows_after cs (suc f) ms) ms m xs (behind (cs f) m) e)
 
   -- So what follows a row in the list is the list of the rows after it.
-  pub rows-after : ((k : ℕ) → Distinct (cs k)) → (f n : ℕ) (before later : List MaskRow) (row : MaskRow) → all_from cs f n ≡ before ++ (row ∷ later)
+  pub rows_after_lem : ((k : ℕ) → Distinct (cs k)) → (f n : ℕ) (before later : List MaskRow) (row : MaskRow) → all_from cs f n ≡ before ++ (row ∷ later)
       → later ≡ rows_after cs f row
-  rows-after once f n before later row e =
+  rows_after_lem once f n before later row e =
       let m : row ∈ all_from cs f n = rw e (Memᴰ.append_right before (Memᴰ.head refl)) in
       let q : Masks cs f n row = (all_are cs f n row).0 m in
       let l : n ≡ length row = sym q.long in
@@ -139,32 +139,32 @@ module _ (cs : ℕ → List ℕ) where
   StepsTo f ms r = rows_after cs f ms ≡ r ∷ rows_after cs f r
 
   -- one more function before: its mask stays
-  step-keep : (f m : ℕ) (ms r : MaskRow) → length r ≡ length ms → StepsTo (suc f) ms r → StepsTo f (m ∷ ms) (m ∷ r)
+  step_keep : (f m : ℕ) (ms r : MaskRow) → length r ≡ length ms → StepsTo (suc f) ms r → StepsTo f (m ∷ ms) (m ∷ r)
   unfolding rows_after
-  step-keep f m ms r n e =
+  step_keep f m ms r n e =
       ap₂ {C = List MaskRow} (λ x (y : ℕ). map (λ s. m ∷ s) x ++ spread (all_from cs (suc f) y) (behind (cs f) m)) e (sym n)
 
   -- the later functions start anew
-  step-carry : (f m x : ℕ) (ms r : MaskRow) → length r ≡ length ms → rows_after cs (suc f) ms ≡ [] → behind (cs f) m ≡ x ∷ behind (cs f) x
+  step_carry : (f m x : ℕ) (ms r : MaskRow) → length r ≡ length ms → rows_after cs (suc f) ms ≡ [] → behind (cs f) m ≡ x ∷ behind (cs f) x
       → all_from cs (suc f) (length ms) ≡ r ∷ rows_after cs (suc f) r → StepsTo f (m ∷ ms) (x ∷ r)
   unfolding rows_after
-  step-carry f m x ms r n e b a =
+  step_carry f m x ms r n e b a =
       ap₂ {C = List MaskRow} (λ u v. map (λ s. m ∷ s) u ++ spread (all_from cs (suc f) (length ms)) v) e b
       ∙ ap (λ (y : List MaskRow). map (λ s. x ∷ s) y ++ spread (all_from cs (suc f) (length ms)) (behind (cs f) x)) a
       ∙ ap (λ (y : ℕ). (x ∷ r) ∷ (map (λ s. x ∷ s) (rows_after cs (suc f) r) ++ spread (all_from cs (suc f) y) (behind (cs f) x))) (sym n)
 
   -- no row is left where no later one is, and the mask is the last
-  step-done : (f m : ℕ) (ms : MaskRow) → rows_after cs (suc f) ms ≡ [] → behind (cs f) m ≡ [] → rows_after cs f (m ∷ ms) ≡ []
+  step_done : (f m : ℕ) (ms : MaskRow) → rows_after cs (suc f) ms ≡ [] → behind (cs f) m ≡ [] → rows_after cs f (m ∷ ms) ≡ []
   unfolding rows_after
-  step-done f m ms e b =
+  step_done f m ms e b =
       ap₂ {C = List MaskRow} (λ u v. map (λ s. m ∷ s) u ++ spread (all_from cs (suc f) (length ms)) v) e b
 
   -- several functions before keep theirs
-  steps-under : (xs ms r : MaskRow) (f : ℕ) → length r ≡ length ms → StepsTo (f + length xs) ms r → StepsTo f (xs ++ ms) (xs ++ r)
-  steps-under [] ms r f n e = rw (← add-zero f) e
-  steps-under (x ∷ xs) ms r f n e =
-      step-keep f x (xs ++ ms) (xs ++ r) (simp length-append (omega arith))
-      (steps-under xs ms r (suc f) n (rw (suc-add f (length xs), ← add-suc f (length xs)) e))
+  steps_under : (xs ms r : MaskRow) (f : ℕ) → length r ≡ length ms → StepsTo (f + length xs) ms r → StepsTo f (xs ++ ms) (xs ++ r)
+  steps_under [] ms r f n e = rw (← add-zero f) e
+  steps_under (x ∷ xs) ms r f n e =
+      step_keep f x (xs ++ ms) (xs ++ r) (simp length-append (omega arith))
+      (steps_under xs ms r (suc f) n (rw (suc-add f (length xs), ← add-suc f (length xs)) e))
 
 -- ---- the first row, and the loop that steps
 
@@ -179,9 +179,9 @@ module _ (first : ℕ → ℕ) (n : ℕ) where
   abbrev pub firsts_from : ℕ → ℕ → MaskRow
   firsts_from f k = map first (count_from f k)
 
-  length-firsts : (f k : ℕ) → length (firsts_from f k) ≡ k
-  length-firsts f zero = refl
-  length-firsts f (suc k) = ap suc (length-firsts (suc f) k)
+  length_firsts : (f k : ℕ) → length (firsts_from f k) ≡ k
+  length_firsts f zero = refl
+  length_firsts f (suc k) = ap suc (length_firsts (suc f) k)
 
   pub firsts_at : (f k i : ℕ) → i < k → get_or (firsts_from f k) i 0 ≡ first (f + i)
   firsts_at f zero i h = absurd (omega arith)
@@ -193,16 +193,16 @@ module _ (first : ℕ → ℕ) (n : ℕ) where
     pub long : length row ≡ n
     pub firsts : drop i row ≡ firsts_from i (n - i)
 
-  pub fresh-all : Fresh (firsts_from 0 n) 0
-  fresh-all = let z : n ≡ n - 0 = omega arith in record { long = length-firsts 0 n; firsts = ap (firsts_from 0) z }
+  pub fresh_all : Fresh (firsts_from 0 n) 0
+  fresh_all = let z : n ≡ n - 0 = omega arith in record { long = length_firsts 0 n; firsts = ap (firsts_from 0) z }
 
-  pub fresh-none : (row : MaskRow) → length row ≡ n → Fresh row n
-  fresh-none row e =
+  pub fresh_none : (row : MaskRow) → length row ≡ n → Fresh row n
+  fresh_none row e =
       let z : n - n ≡ 0 = omega arith in
       record { long = e; firsts = rw z (drop_of_length-le row {i = n} (omega arith)) }
 
-  pub fresh-more : (row : MaskRow) (j : ℕ) → j < n → Fresh row (suc j) → Fresh (set row j (first j)) j
-  fresh-more row j h w =
+  pub fresh_more : (row : MaskRow) (j : ℕ) → j < n → Fresh row (suc j) → Fresh (set row j (first j)) j
+  fresh_more row j h w =
       let e : n - j ≡ suc (n - suc j) = omega arith in
       record {
         long = length-set row j (first j) ∙ w.long;
@@ -223,34 +223,34 @@ module _ (cs : ℕ → List ℕ) (first : ℕ → ℕ) (n : ℕ) where
   carried_none row e = record {
     was = e;
     kept = refl;
-    fresh = fresh-none first n row e;
+    fresh = fresh_none first n row e;
     done = ap (rows_after cs n) (drop_of_length-le row {i = n} (omega arith));
   }
 
   -- the mask of function j is still the given one
-  pub carried-at : (old row : MaskRow) (j : ℕ) → j < n → Carried old row (suc j) → get_or old j 0 ≡ get_or row j 0
-  carried-at old row j h w =
+  pub carried_at : (old row : MaskRow) (j : ℕ) → j < n → Carried old row (suc j) → get_or old j 0 ≡ get_or row j 0
+  carried_at old row j h w =
       sym (get_or-take (suc j) old j 0 (omega arith)) ∙ ap (λ (l : List ℕ). get_or l j 0) (sym w.kept)
       ∙ get_or-take (suc j) row j 0 (omega arith)
 
-  carried-kept : (old row : MaskRow) (j : ℕ) → Carried old row (suc j) → take j row ≡ take j old
-  carried-kept old row j w = sym (take-take j (suc j) row (omega arith)) ∙ ap (take j) w.kept ∙ take-take j (suc j) old (omega arith)
+  carried_kept : (old row : MaskRow) (j : ℕ) → Carried old row (suc j) → take j row ≡ take j old
+  carried_kept old row j w = sym (take-take j (suc j) row (omega arith)) ∙ ap (take j) w.kept ∙ take-take j (suc j) old (omega arith)
 
   -- The last choice of function j: it starts anew, and the step is made further to the front.
-  pub carried-more : (old row : MaskRow) (j : ℕ) → j < n → Carried old row (suc j) → behind (cs j) (get_or row j 0) ≡ []
+  pub carried_more : (old row : MaskRow) (j : ℕ) → j < n → Carried old row (suc j) → behind (cs j) (get_or row j 0) ≡ []
       → Carried old (set row j (first j)) j
-  carried-more old row j h w z =
+  carried_more old row j h w z =
       let l : j < length old = omega (arith, w.was) in
       record {
         was = w.was;
-        kept = take-set-le j row j (first j) (omega arith) ∙ carried-kept old row j w;
-        fresh = fresh-more first n row j h w.fresh;
-        done = rw (drop-cons old j 0 l, carried-at old row j h w) (step-done cs j (get_or row j 0) (drop (suc j) old) w.done z);
+        kept = take-set-le j row j (first j) (omega arith) ∙ carried_kept old row j w;
+        fresh = fresh_more first n row j h w.fresh;
+        done = rw (drop-cons old j 0 l, carried_at old row j h w) (step_done cs j (get_or row j 0) (drop (suc j) old) w.done z);
       }
 
   -- No row is left when every function had its last choice.
-  pub carried-end : (old row : MaskRow) → Carried old row 0 → rows_after cs 0 old ≡ []
-  carried-end old row w = w.done
+  pub carried_end : (old row : MaskRow) → Carried old row 0 → rows_after cs 0 old ≡ []
+  carried_end old row w = w.done
 
 module _ (cs : ℕ → List ℕ) (first : ℕ → ℕ) (n : ℕ)
     (starts : (f : ℕ) → f < n → cs f ≡ first f ∷ behind (cs f) (first f)) where
@@ -264,11 +264,11 @@ module _ (cs : ℕ → List ℕ) (first : ℕ → ℕ) (n : ℕ)
       ∙ ap (λ (y : List MaskRow). map (λ s. x ∷ s) y ++ spread (all_from cs (suc f) k) (behind (cs f) x))
       (all_firsts k (suc f) (omega arith))
       ∙ ap (λ (y : ℕ). (x ∷ r) ∷ (map (λ s. x ∷ s) (rows_after cs (suc f) r) ++ spread (all_from cs (suc f) y) (behind (cs f) x)))
-      (sym (length-firsts first n (suc f) k))
+      (sym (length_firsts first n (suc f) k))
 
   -- The first of all rows.
-  pub first-of-all : (row : MaskRow) → Fresh first n row 0 → all_from cs 0 n ≡ row ∷ rows_after cs 0 row
-  first-of-all row w =
+  pub first_of_all : (row : MaskRow) → Fresh first n row 0 → all_from cs 0 n ≡ row ∷ rows_after cs 0 row
+  first_of_all row w =
       let z : n - 0 ≡ n = omega arith in
       let e : row ≡ firsts_from first n 0 n = rw z at w.firsts in
       all_firsts n 0 (omega arith) ∙ ap (λ (q : MaskRow). q ∷ rows_after cs 0 q) (sym e)
@@ -281,16 +281,16 @@ module _ (cs : ℕ → List ℕ) (first : ℕ → ℕ) (n : ℕ)
       let l : j < length old = omega (arith, w.was) in
       let k : ℕ = n - suc j in
       let r : MaskRow = firsts_from first n (suc j) k in
-      let lr : length r ≡ k = length-firsts first n (suc j) k in
+      let lr : length r ≡ k = length_firsts first n (suc j) k in
       let ld : length (drop (suc j) old) ≡ k = length-drop (suc j) old ∙ ap (λ (m : ℕ). m - suc j) w.was in
       let lt : 0 + length (take j old) ≡ j = omega (arith, length-take-le j old (omega arith)) in
       let here : StepsTo cs j (get_or old j 0 ∷ drop (suc j) old) (x ∷ r) =
-      step-carry cs j (get_or old j 0) x (drop (suc j) old) r (lr ∙ sym ld) w.done (rw (carried-at cs first n old row j h w) b)
+      step_carry cs j (get_or old j 0) x (drop (suc j) old) r (lr ∙ sym ld) w.done (rw (carried_at cs first n old row j h w) b)
       (rw ld (all_firsts k (suc j) (omega arith))) in
       let under : StepsTo cs 0 (take j old ++ get_or old j 0 ∷ drop (suc j) old) (take j old ++ x ∷ r) =
-      steps-under cs (take j old) (get_or old j 0 ∷ drop (suc j) old) (x ∷ r) 0 (ap suc (lr ∙ sym ld)) (rw lt here) in
+      steps_under cs (take j old) (get_or old j 0 ∷ drop (suc j) old) (x ∷ r) 0 (ap suc (lr ∙ sym ld)) (rw lt here) in
       let a : old ≡ take j old ++ get_or old j 0 ∷ drop (suc j) old = split_at old j 0 l in
       let c : set row j x ≡ take j old ++ x ∷ r =
       set_split row j x (omega (arith, w.fresh.long))
-      ∙ ap₂ {C = List ℕ} (λ u v. u ++ x ∷ v) (carried-kept cs first n old row j w) w.fresh.firsts in
+      ∙ ap₂ {C = List ℕ} (λ u v. u ++ x ∷ v) (carried_kept cs first n old row j w) w.fresh.firsts in
       ap (rows_after cs 0) a ∙ under ∙ ap (λ (q : MaskRow). q ∷ rows_after cs 0 q) (sym c)

@@ -33,9 +33,9 @@ use Rattle.choosing.specs.FaceNodes.{size_from, class_from, nodes_from}
 use Rattle.choosing.specs.Rows.{choices_from}
 use Rattle.choosing.specs.Walk.{Begun, HoledAt, Marked, class_of, opens_at, state_of}
 use Rattle.choosing.specs.declared.Walk.{Walk}
-use Rattle.choosing.proofs.FaceNodes.{nodes-long, nodes-size, nodes-class}
-use Rattle.choosing.proofs.RowSteps.{choice-path, path-choice}
-use Rattle.choosing.proofs.SetMarks.{same_room, mask-marked, marked-mask}
+use Rattle.choosing.proofs.FaceNodes.{nodes_long_lem, nodes_size, nodes_class}
+use Rattle.choosing.proofs.RowSteps.{choice_path, path_choice}
+use Rattle.choosing.proofs.SetMarks.{same_room, mask_marked, marked_mask}
 use Rattle.choosing.proofs.WalkLaws.{opening}
 
 -- ---- truth values and marks
@@ -79,8 +79,8 @@ module _ (s : NodeSet) (n : ℕ) (fits : n ≤ width) where
   length_to : length (marks_to s n) ≡ n
   length_to = length-map (take n (nodes s)) to_mark ∙ length_front
 
-  mark-to : (k : ℕ) → k < n → get_elem? (marks_to s n) k ≡ some (to_mark (get_or (nodes s) k false))
-  mark-to k h =
+  mark_to : (k : ℕ) → k < n → get_elem? (marks_to s n) k ≡ some (to_mark (get_or (nodes s) k false))
+  mark_to k h =
       mark_at (take n (nodes s)) k (omega (arith, length_front))
       ∙ ap (λ (b : Bool). some (to_mark b)) (get_or-take n (nodes s) k false h)
 
@@ -116,16 +116,16 @@ module _ (ns es : List ℕ) (root : ℕ) (fits : size_from es root ≤ max_face_
   narrow = subst (λ (k : ℕ). n ≤ k) same_room fits
 
   long : length ms ≡ length xs
-  long = length_to s n narrow ∙ sym (nodes-long ns es root)
+  long = length_to s n narrow ∙ sym (nodes_long_lem ns es root)
 
   -- A set that is a choice, by its marks
   record Chosen : Type 0 where
     accepted : T (accepts next (unset 1) xs ms)
     all : trues (take n (nodes s)) ≡ trues (nodes s)
 
-  chosen-choice : Chosen → mask s ∈ choices_from ns es root
+  chosen_choice : Chosen → mask s ∈ choices_from ns es root
   unfolding Marked
-  chosen-choice h = subst (λ (m : ℕ). m ∈ choices_from ns es root) (sym is) (path-choice ns es root ms h.accepted)
+  chosen_choice h = subst (λ (m : ℕ). m ∈ choices_from ns es root) (sym is) (path_choice ns es root ms h.accepted)
     where
       rest : drop n (nodes s) ≡ empty (width - length ms)
       rest =
@@ -138,16 +138,16 @@ module _ (ns es : List ℕ) (root : ℕ) (fits : size_from es root ≤ max_face_
           ∙ ap₂ (λ (a b : List Bool). a ++ b) (sym (marks_back (take n (nodes s)))) rest
 
       is : mask s ≡ mask_of max_face_nodes ms
-      is = marked-mask s ms (omega (arith, length_to s n narrow, fits)) marked
+      is = marked_mask s ms (omega (arith, length_to s n narrow, fits)) marked
 
-  choice-chosen : mask s ∈ choices_from ns es root → Chosen
+  choice_chosen : mask s ∈ choices_from ns es root → Chosen
   unfolding Marked
-  choice-chosen m = go (choice-path ns es root (mask s) m)
+  choice_chosen m = go (choice_path ns es root (mask s) m)
     where
       go : (us : Marks) × T (accepts next (unset 1) xs us) × (mask s ≡ mask_of max_face_nodes us) → Chosen
       go (us, t, e) =
-          let l : length us ≡ n = ((accepted_walked (unset 1) xs us).0 t).0 ∙ nodes-long ns es root in
-          let marked = mask-marked s us (omega (arith, l, fits)) e in
+          let l : length us ≡ n = ((accepted_walked (unset 1) xs us).0 t).0 ∙ nodes_long_lem ns es root in
+          let marked = mask_marked s us (omega (arith, l, fits)) e in
           let front : take n (nodes s) ≡ map is_some us =
           ap (take n) marked ∙ take_at (map is_some us) (empty (width - length us)) n (length-map us is_some ∙ l) in
           let same : ms ≡ us = ap as_marks front ∙ marks_one us (accepted_placed (unset 1) xs us t) in
@@ -168,9 +168,9 @@ module _ (ns es : List ℕ) (root : ℕ) (fits : size_from es root ≤ max_face_
     pub walked : accepts next (unset 1) xs ms ≡ accepts next (state_of w i) (drop i xs) (drop i ms)
     pub count : met ≡ trues (take i (nodes s))
 
-  pub tested-begun : (w : Walk) → Begun w → Tested w 0 0
+  pub tested_begun : (w : Walk) → Begun w → Tested w 0 0
   unfolding trues
-  tested-begun w b =
+  tested_begun w b =
       let z : w.end - 0 ≡ 0 = omega (arith, b.end) in
       record {
         walked = sym (ap₂ (λ (k : ℕ) (t : Bool). accepts next (one_place k (choose t (some w.class) none)) xs ms) z b.holes);
@@ -179,7 +179,7 @@ module _ (ns es : List ℕ) (root : ℕ) (fits : size_from es root ≤ max_face_
 
   module _ (w : Walk) (met i : ℕ) (h : i < n) (t : Tested w met i) where
     inside : i < length xs
-    inside = omega (arith, nodes-long ns es root)
+    inside = omega (arith, nodes_long_lem ns es root)
 
     more : (b : Bool) → get_or (nodes s) i false ≡ b → trues (take (suc i) (nodes s)) ≡ met + trues (b ∷ [])
     more b e =
@@ -189,13 +189,13 @@ module _ (ns es : List ℕ) (root : ℕ) (fits : size_from es root ≤ max_face_
     pub tested_none : get_or (nodes s) i false ≡ false → Tested w met (suc i)
     unfolding trues
     tested_none e = record {
-      walked = t.walked ∙ walk_none xs ms i w.end (class_of w) inside (mark-to s n narrow i h ∙ ap (λ (b : Bool). some (to_mark b)) e);
+      walked = t.walked ∙ walk_none xs ms i w.end (class_of w) inside (mark_to s n narrow i h ∙ ap (λ (b : Bool). some (to_mark b)) e);
       count = omega (arith, more false e);
     }
 
     module _ (e : get_or (nodes s) i false ≡ true) where
       marked_here : get_elem? ms i ≡ some (some 0)
-      marked_here = mark-to s n narrow i h ∙ ap (λ (b : Bool). some (to_mark b)) e
+      marked_here = mark_to s n narrow i h ∙ ap (λ (b : Bool). some (to_mark b)) e
 
       pub tested_hole : (r : Walk) → opens_at ns es root w i ≡ true → HoledAt ns es root i r → Tested r (suc met) (suc i)
       unfolding trues
@@ -203,34 +203,34 @@ module _ (ns es : List ℕ) (root : ℕ) (fits : size_from es root ≤ max_face_
           let q = opening ns es root i w o in
           record {
             walked = t.walked
-                ∙ walk_hole xs ms i w.end (class_of w) inside marked_here q.past (at ns (root + i)) (nodes-class ns es root i h ∙ q.class)
+                ∙ walk_hole xs ms i w.end (class_of w) inside marked_here q.past (at ns (root + i)) (nodes_class ns es root i h ∙ q.class)
                 q.taken
                 ∙ ap₂ (λ (k : ℕ) (c : Option ℕ). accepts next (one_place (k - suc i) c) (drop (suc i) xs) (drop (suc i) ms))
-                (sym (g.end ∙ ap (λ (k : ℕ). i + k) (sym (nodes-size ns es root i h)))) (sym g.class);
+                (sym (g.end ∙ ap (λ (k : ℕ). i + k) (sym (nodes_size ns es root i h)))) (sym g.class);
             count = omega (arith, more true e);
           }
 
       -- A node of the set that may not become a hole: the set is no choice
       pub tested_refused : opens_at ns es root w i ≡ false → mask s ∈ choices_from ns es root → ⊥
       unfolding opens_at
-      tested_refused o m = true≢false (sym (T_true (choice-chosen m).accepted) ∙ t.walked ∙ go (leb w.end i) refl o)
+      tested_refused o m = true≢false (sym (T_true (choice_chosen m).accepted) ∙ t.walked ∙ go (leb w.end i) refl o)
         where
           go : (b : Bool) → leb w.end i ≡ b → b && holds (takes (some (class_of w))) (class_from ns es root i) ≡ false
               → accepts next (state_of w i) (drop i xs) (drop i ms) ≡ false
           go true p f =
               walk_refused xs ms i w.end (class_of w) inside marked_here (leb-true w.end i p)
-              (ap (holds (takes (some (class_of w)))) (nodes-class ns es root i h) ∙ f)
+              (ap (holds (takes (some (class_of w)))) (nodes_class ns es root i h) ∙ f)
           go false p f = walk_below xs ms i w.end (class_of w) inside marked_here (leb-false w.end i p)
 
   -- Past the last node: the set is a choice exactly when the walk came to all of its nodes
-  pub tested-done : (w : Walk) (met i holes : ℕ) → i ≡ n → Tested w met i → holes ≡ trues (nodes s)
+  pub tested_done : (w : Walk) (met i holes : ℕ) → i ≡ n → Tested w met i → holes ≡ trues (nodes s)
       → (eqb met holes ≡ true) ↔ (mask s ∈ choices_from ns es root)
-  tested-done w met i holes e t c =
+  tested_done w met i holes e t c =
       let count : met ≡ trues (take n (nodes s)) = t.count ∙ ap (λ (k : ℕ). trues (take k (nodes s))) e in (
-        λ q. chosen-choice
+        λ q. chosen_choice
             (record {
-              accepted = true_T (t.walked ∙ walk_end xs ms i w.end (class_of w) long (omega (arith, nodes-long ns es root)));
+              accepted = true_T (t.walked ∙ walk_end xs ms i w.end (class_of w) long (omega (arith, nodes_long_lem ns es root)));
               all = sym count ∙ eqb-true met holes q ∙ c;
             }),
-        λ m. eq-eqb met holes (count ∙ (choice-chosen m).all ∙ sym c),
+        λ m. eq-eqb met holes (count ∙ (choice_chosen m).all ∙ sym c),
       )

@@ -19,7 +19,7 @@ use Rattle.paths.proofs.OnePlace.{first_at_below, first_at_hole, first_at_none}
 use Rattle.choosing.specs.FaceNodes.{size_from, class_from, nodes_from}
 use Rattle.choosing.specs.Walk.{class_of, state_of, opens_at, HoledAt}
 use Rattle.choosing.specs.declared.Walk.{Walk}
-use Rattle.choosing.proofs.FaceNodes.{nodes-long, nodes-size, nodes-class}
+use Rattle.choosing.proofs.FaceNodes.{nodes_long_lem, nodes_size, nodes_class}
 
 -- The test of a node that the code asks for
 pub used : (ns : List ℕ) (a d e : ℕ) (r : Bool) → d ≡ e → r ≡ (told ns).uses a d → r ≡ (told ns).uses a e
@@ -28,9 +28,9 @@ used ns a d e r q h = h ∙ ap ((told ns).uses a) q
 module _ (ns es : List ℕ) (root i : ℕ) (w : Walk) where
   -- ---- whether a node may become a hole: a law for each answer
 
-  pub opens-below : i < w.end → false ≡ opens_at ns es root w i
+  pub opens_below : i < w.end → false ≡ opens_at ns es root w i
   unfolding opens_at
-  opens-below h = sym (ap (λ (b : Bool). b && holds (takes (some (class_of w))) (class_from ns es root i)) (lt-leb w.end i h))
+  opens_below h = sym (ap (λ (b : Bool). b && holds (takes (some (class_of w))) (class_from ns es root i)) (lt-leb w.end i h))
 
   module _ (h : w.end ≤ i) where
     here : (b : Bool) → b ≡ holds (takes (some (class_of w))) (class_from ns es root i) → b ≡ opens_at ns es root w i
@@ -84,24 +84,24 @@ module _ (ns es : List ℕ) (root i : ℕ) (w : Walk) (h : i < size_from es root
   xs = nodes_from ns es root
 
   inside : i < length xs
-  inside = subst (λ (n : ℕ). i < n) (sym (nodes-long ns es root)) h
+  inside = subst (λ (n : ℕ). i < n) (sym (nodes_long_lem ns es root)) h
 
-  pub first-opened : (r : Walk) → opens_at ns es root w i ≡ true → HoledAt ns es root i r
+  pub first_opened : (r : Walk) → opens_at ns es root w i ≡ true → HoledAt ns es root i r
       → first_path (state_of w i) (drop i xs) ≡ some 0 ∷ first_path (state_of r (suc i)) (drop (suc i) xs)
-  first-opened r e g =
+  first_opened r e g =
       let o = opening ns es root i w e in
-      first_at_hole xs i w.end (class_of w) inside o.past (at ns (root + i)) (nodes-class ns es root i h ∙ o.class) o.taken
+      first_at_hole xs i w.end (class_of w) inside o.past (at ns (root + i)) (nodes_class ns es root i h ∙ o.class) o.taken
       ∙ ap₂ {C = Marks} (λ (n : ℕ) (c : Option ℕ). some 0 ∷ first_path (one_place (n - suc i) c) (drop (suc i) xs))
-      (sym (g.end ∙ ap (λ (n : ℕ). i + n) (sym (nodes-size ns es root i h)))) (sym g.class)
+      (sym (g.end ∙ ap (λ (n : ℕ). i + n) (sym (nodes_size ns es root i h)))) (sym g.class)
 
-  pub first-passed : opens_at ns es root w i ≡ false
+  pub first_passed : opens_at ns es root w i ≡ false
       → first_path (state_of w i) (drop i xs) ≡ none ∷ first_path (state_of w (suc i)) (drop (suc i) xs)
   unfolding opens_at
-  first-passed e = go (leb w.end i) refl e
+  first_passed e = go (leb w.end i) refl e
     where
       go : (b : Bool) → leb w.end i ≡ b → b && holds (takes (some (class_of w))) (class_from ns es root i) ≡ false
           → first_path (state_of w i) (drop i xs) ≡ none ∷ first_path (state_of w (suc i)) (drop (suc i) xs)
       go true p f =
           first_at_none xs i w.end (class_of w) inside (leb-true w.end i p)
-          (ap (holds (takes (some (class_of w)))) (nodes-class ns es root i h) ∙ f)
+          (ap (holds (takes (some (class_of w)))) (nodes_class ns es root i h) ∙ f)
       go false p f = first_at_below xs i w.end (class_of w) inside (leb-false w.end i p)

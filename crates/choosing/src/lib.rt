@@ -1,6 +1,8 @@
 // The choices of one function as paths through the nodes of its face, by their numbers: is this a choice, the first one, the next one. What
 // a path is stands in crate `paths`, and what the nodes of a face tell in specs/FaceNodes; that paths are document 01's choices, and rows
 // of them its rows, is proofs/Problem.
+#![tactic(auto)]
+
 ghost use Rattle.std.specs.Prelude.{◌≡◌, ◌↔◌, true, ◌+◌, ◌<◌, ◌≤◌, length};
 ghost use Rattle.std.proofs.Math.Option.{none};
 ghost use Rattle.meaning.specs.Basics.{◌∈◌};

@@ -54,8 +54,8 @@ pub record Tells (t : List ℕ) (a r s x : ℕ) (o : OwnerLabel) : Type 0 where
 
 module _ (t : List ℕ) (a b s : ℕ) (shared : Shared t a b s) where
   -- A binder that lies above both is shared
-  pub shared-deep : (x : ℕ) → (x < a) × Over t x (suc a) → (x < b) × Over t x (suc b) → suc (depth_at t x) ≤ s
-  shared-deep x p q =
+  pub shared_deep : (x : ℕ) → (x < a) × Over t x (suc a) → (x < b) × Over t x (suc b) → suc (depth_at t x) ≤ s
+  shared_deep x p q =
       let y = shared.node in
       let h : depth_at t x < depth_at t y =
       elim (dec_lt y (suc a)) [
@@ -65,8 +65,8 @@ module _ (t : List ℕ) (a b s : ℕ) (shared : Shared t a b s) where
       omega (arith, shared.reached)
 
   -- A shared level belongs to one binder
-  shared-one : (x y : ℕ) → (x < a) × Over t x (suc a) → (y < b) × Over t y (suc b) → depth_at t x ≡ depth_at t y → depth_at t x < s → x ≡ y
-  shared-one x y p q e h = go (dec_lt x y) (dec_lt y x)
+  shared_one : (x y : ℕ) → (x < a) × Over t x (suc a) → (y < b) × Over t y (suc b) → depth_at t x ≡ depth_at t y → depth_at t x < s → x ≡ y
+  shared_one x y p q e h = go (dec_lt x y) (dec_lt y x)
     where
       first : x < y → ⊥
       first g = elim (dec_lt y (suc a)) [
@@ -98,25 +98,25 @@ module _ (t : List ℕ) (a b s : ℕ) (shared : Shared t a b s) where
   seen_same (outside (node_of_face x)) (inside j) p q d e = never (cc)
   seen_same (outside (node_of_face x)) (outside (node_of_face y)) p q d e =
       let z : suc (depth_at t x) ≡ suc (depth_at t y) = cc in
-      ap (λ (n : ℕ). outside (node_of_face n)) (shared-one x y p q (omega arith) (omega (arith, ltb-false s (suc (depth_at t x)) d)))
+      ap (λ (n : ℕ). outside (node_of_face n)) (shared_one x y p q (omega arith) (omega (arith, ltb-false s (suc (depth_at t x)) d)))
   seen_same (outside (above_face i)) w p q d e = absurd p
   seen_same (seen_free x) (outside (above_face j)) p q d e = absurd q
   seen_same (inside i) (outside (above_face j)) p q d e = absurd q
   seen_same (outside (node_of_face x)) (outside (above_face j)) p q d e = absurd q
 
-  over-or : (c : ℕ) (o : OwnerLabel) → AllOf (SeenOver t c) (variable_of o) → SeenOver t c (variable_or (seen_free 0) o)
-  over-or c (own (symbol n)) p = tt
-  over-or c (own (variable v)) p = p
-  over-or c (own (application n)) p = tt
-  over-or c (own (binder n x)) p = tt
-  over-or c (slot z) p = tt
+  over_or : (c : ℕ) (o : OwnerLabel) → AllOf (SeenOver t c) (variable_of o) → SeenOver t c (variable_or (seen_free 0) o)
+  over_or c (own (symbol n)) p = tt
+  over_or c (own (variable v)) p = p
+  over_or c (own (application n)) p = tt
+  over_or c (own (binder n x)) p = tt
+  over_or c (slot z) p = tt
 
-  deep-or : (o : OwnerLabel) → deep_label s (levelled t o) ≡ false → deep_seen s (level_of_seen t (variable_or (seen_free 0) o)) ≡ false
-  deep-or (own (symbol n)) d = refl
-  deep-or (own (variable v)) d = d
-  deep-or (own (application n)) d = refl
-  deep-or (own (binder n x)) d = refl
-  deep-or (slot z) d = refl
+  deep_or : (o : OwnerLabel) → deep_label s (levelled t o) ≡ false → deep_seen s (level_of_seen t (variable_or (seen_free 0) o)) ≡ false
+  deep_or (own (symbol n)) d = refl
+  deep_or (own (variable v)) d = d
+  deep_or (own (application n)) d = refl
+  deep_or (own (binder n x)) d = refl
+  deep_or (slot z) d = refl
 
   label_same : (o o' : OwnerLabel) → AllOf (SeenOver t a) (variable_of o) → AllOf (SeenOver t b) (variable_of o')
       → deep_label s (levelled t o) ≡ false → levelled t o ≡ levelled t o' → o ≡ o'
@@ -125,23 +125,23 @@ module _ (t : List ℕ) (a b s : ℕ) (shared : Shared t a b s) where
       let w = variable_or (seen_free 0) o' in
       let h : level_of_seen t v ≡ level_of_seen t w =
       sym (variable_with (seen_free 0) (level_of_seen t) o) ∙ ap (variable_or (seen_free 0)) e ∙ variable_with (seen_free 0) (level_of_seen t) o' in
-      let z : v ≡ w = seen_same v w (over-or a o p) (over-or b o' q) (deep-or o d) h in
+      let z : v ≡ w = seen_same v w (over_or a o p) (over_or b o' q) (deep_or o d) h in
       sym (rebuilt (seen_free 0) (level_of_seen t) o)
       ∙ ap₂ (λ (x : Seen Owner) (l : Label (Seen ℕ) (Unit {0})). with_variable (λ y. x) l) z e ∙ rebuilt (seen_free 0) (level_of_seen t) o'
 
-  seen-shallow : (v : Seen Owner) → SeenOver t a v → SeenOver t b v → deep_seen s (level_of_seen t v) ≡ false
-  seen-shallow (seen_free x) p q = refl
-  seen-shallow (inside i) p q = refl
-  seen-shallow (outside (node_of_face x)) p q = le-ltb s (suc (depth_at t x)) (shared-deep x p q)
-  seen-shallow (outside (above_face j)) p q = absurd p
+  seen_shallow : (v : Seen Owner) → SeenOver t a v → SeenOver t b v → deep_seen s (level_of_seen t v) ≡ false
+  seen_shallow (seen_free x) p q = refl
+  seen_shallow (inside i) p q = refl
+  seen_shallow (outside (node_of_face x)) p q = le-ltb s (suc (depth_at t x)) (shared_deep x p q)
+  seen_shallow (outside (above_face j)) p q = absurd p
 
-  label-shallow : (o : OwnerLabel) → AllOf (SeenOver t a) (variable_of o) → AllOf (SeenOver t b) (variable_of o)
+  label_shallow : (o : OwnerLabel) → AllOf (SeenOver t a) (variable_of o) → AllOf (SeenOver t b) (variable_of o)
       → deep_label s (levelled t o) ≡ false
-  label-shallow (own (symbol n)) p q = refl
-  label-shallow (own (variable v)) p q = seen-shallow v p q
-  label-shallow (own (application n)) p q = refl
-  label-shallow (own (binder n x)) p q = refl
-  label-shallow (slot z) p q = refl
+  label_shallow (own (symbol n)) p q = refl
+  label_shallow (own (variable v)) p q = seen_shallow v p q
+  label_shallow (own (application n)) p q = refl
+  label_shallow (own (binder n x)) p q = refl
+  label_shallow (slot z) p q = refl
 
   -- Main theorem of this file: the test of two tokens is the test of the labels
   module _ (r r' x y : ℕ) (o o' : OwnerLabel) (h : Tells t a r s x o) (g : Tells t b r' s y o') where
@@ -151,7 +151,7 @@ module _ (t : List ℕ) (a b s : ℕ) (shared : Shared t a b s) where
         let z : o ≡ o' = (agree_equal o o').0 e in
         let k : key_of r x ≡ key_of r' y = h.key ∙ ap (λ (l : OwnerLabel). code (levelled t l)) z ∙ sym g.key in
         let q : AllOf (SeenOver t b) (variable_of o) = subst (λ (l : OwnerLabel). AllOf (SeenOver t b) (variable_of l)) (sym z) g.over in
-        ap₂ (λ (c d : Bool). c && not d) (eq-eqb (key_of r x) (key_of r' y) k) (h.reach ∙ label-shallow o h.over q)
+        ap₂ (λ (c d : Bool). c && not d) (eq-eqb (key_of r x) (key_of r' y) k) (h.reach ∙ label_shallow o h.over q)
 
     told : agree_under s r r' x y ≡ true → agree o o' ≡ true
     unfolding agree_under

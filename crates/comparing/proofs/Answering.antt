@@ -18,29 +18,29 @@ use Rattle.accept.specs.Acceptance.{Accepts, Stands}
 use Rattle.accept.specs.declared.Standing.{Standing}
 use Rattle.accept.specs.declared.Verdict.{Verdict}
 use Rattle.accept.specs.declared.Verdict.TheVariants as verdicts
-use Rattle.accept.proofs.AcceptanceLaws.{verdict-refused, verdict-accepted}
+use Rattle.accept.proofs.AcceptanceLaws.{verdict_refused, verdict_accepted}
 use Rattle.comparing.specs.Comparing.{Nested, Present, Compares}
 use Rattle.comparing.specs.NumberedNodes.{NumbersMade, NumbersNodes}
 use Rattle.comparing.specs.declared.Pair.{Pair}
 use Rattle.comparing.specs.declared.Pair.TheVariants as pairs
 use Rattle.comparing.specs.declared.Numbering.{Numbering}
 use Rattle.comparing.specs.declared.Numbering.TheVariants as numberings
-use Rattle.comparing.proofs.Meaning.{table-nested, compared-means}
-use Rattle.comparing.proofs.NumberMeaning.{front-means}
+use Rattle.comparing.proofs.Meaning.{table_nested, compared_means}
+use Rattle.comparing.proofs.NumberMeaning.{front_means}
 
 -- s are the bytes; x and y the table of expressions before and after
 module _ (s o p x y new : List ℕ) (bytes : All (λ b. b < 256) s) (v : Verdict) (done : Accepts (accept s) o p x y new v) where
   pub answers_refused : (a b r : ℕ) → v ≡ verdicts.Refused r → Compares (accept s) a b (pairs.Refused r)
   unfolding Compares
-  answers_refused a b r e = rw (verdict-refused s o p x y new r (subst (Accepts (accept s) o p x y new) e done), Compares)
+  answers_refused a b r e = rw (verdict_refused s o p x y new r (subst (Accepts (accept s) o p x y new) e done), Compares)
 
-  pub numbers-refused : (ns : List ℕ) (r : ℕ) → v ≡ verdicts.Refused r → NumbersNodes (accept s) ns (numberings.Refused r)
+  pub numbers_refused : (ns : List ℕ) (r : ℕ) → v ≡ verdicts.Refused r → NumbersNodes (accept s) ns (numberings.Refused r)
   unfolding NumbersNodes
-  numbers-refused ns r e = rw (verdict-refused s o p x y new r (subst (Accepts (accept s) o p x y new) e done), NumbersNodes)
+  numbers_refused ns r e = rw (verdict_refused s o p x y new r (subst (Accepts (accept s) o p x y new) e done), NumbersNodes)
 
   module _ (st : Standing) (e : v ≡ verdicts.Accepted st) where
     accepted : (q : Problem) × (accept s ≡ got q) × Accepted q × Stands q o p x y new st
-    accepted = verdict-accepted s o p x y new bytes st (subst (Accepts (accept s) o p x y new) e done)
+    accepted = verdict_accepted s o p x y new bytes st (subst (Accepts (accept s) o p x y new) e done)
 
     front : take st.expressions y ≡ expression_tokens accepted.0
     front =
@@ -54,16 +54,16 @@ module _ (s o p x y new : List ℕ) (bytes : All (λ b. b < 256) s) (v : Verdict
         omega (arith, h.expressions, ap length h.expression_table, length-append (expression_tokens accepted.0) (drop st.expressions x))
 
     pub table_ready : Nested (take st.expressions y)
-    table_ready = subst Nested (sym front) (table-nested accepted.0 accepted.2.within)
+    table_ready = subst Nested (sym front) (table_nested accepted.0 accepted.2.within)
 
     pub answers_compared : (a b : ℕ) (r : Pair) → Present (take st.expressions y) a b r → Compares (accept s) a b r
     unfolding Compares
     answers_compared a b r h =
         let there = subst (λ (t : List ℕ). Present t a b r) front h in
-        rw (accepted.1, Compares) (compared-means accepted.0 accepted.2.within a b r there)
+        rw (accepted.1, Compares) (compared_means accepted.0 accepted.2.within a b r there)
 
     pub table_numbers : Numerable (take st.expressions y)
-    table_numbers = subst Numerable (sym front) (problem.table-numerable accepted.0 accepted.2.within)
+    table_numbers = subst Numerable (sym front) (problem.table_numerable accepted.0 accepted.2.within)
 
     pub table_short : st.expressions < table_room
     table_short = omega (arith, accepted.3.expressions, problem.table_short accepted.0 accepted.2.within)
@@ -78,5 +78,5 @@ module _ (s o p x y new : List ℕ) (bytes : All (λ b. b < 256) s) (v : Verdict
           st.expressions,
           h.answer,
           few,
-          front-means accepted.0 accepted.2.within ns st.expressions accepted.3.expressions few made,
+          front_means accepted.0 accepted.2.within ns st.expressions accepted.3.expressions few made,
         )

@@ -23,9 +23,9 @@ use Rattle.meaning.proofs.CompareLaws.{RankedTerm, alike_equal, subexpressions_r
 use Rattle.tokens.specs.Token.{depth_in, size_in, expression_tokens}
 use Rattle.tokens.specs.Key.{at, part, agree_under, compared_across, Held, Stands}
 use Rattle.tokens.specs.declared.same.Compared.{Compared}
-use Rattle.tokens.proofs.KeyLaws.{stands-depth, stands_size, stands-part}
-use Rattle.tokens.proofs.ProblemTokens.{expression-table}
-use Rattle.tokens.proofs.Spots.{depth_at, forest-deep}
+use Rattle.tokens.proofs.KeyLaws.{stands_depth, stands_size, stands_part}
+use Rattle.tokens.proofs.ProblemTokens.{expression_table_lem}
+use Rattle.tokens.proofs.Spots.{depth_at, forest_deep}
 use Rattle.numbers.proofs.ProblemTable as problem
 use Rattle.comparing.specs.Comparing.{Nested, ComparedIn, Present, Judged}
 use Rattle.comparing.specs.declared.Pair.{Pair}
@@ -35,28 +35,28 @@ use Rattle.comparing.proofs.NodeTold.{InPairs, forest_tells}
 -- Lists that tell each other are compared alike
 module _ {A B C D : Type 0} (f : A → B → Bool) (g : C → D → Bool) (R : A → C → Type 0) (R' : B → D → Type 0)
     (same : (x : A) (o : C) (y : B) (o' : D) → R x o → R' y o' → f x y ≡ g o o') where
-  pairs-told : (xs : List A) (os : List C) (ys : List B) (os' : List D) → InPairs R xs os → InPairs R' ys os' → pairs f xs ys ≡ pairs g os os'
-  pairs-told [] [] ys os' h k = refl
-  pairs-told [] (o ∷ os) ys os' h k = absurd h
-  pairs-told (x ∷ xs) [] ys os' h k = absurd h
-  pairs-told (x ∷ xs) (o ∷ os) [] [] h k = refl
-  pairs-told (x ∷ xs) (o ∷ os) [] (o' ∷ os') h k = absurd k
-  pairs-told (x ∷ xs) (o ∷ os) (y ∷ ys) [] h k = absurd k
-  pairs-told (x ∷ xs) (o ∷ os) (y ∷ ys) (o' ∷ os') h k =
-      ap₂ (λ (b : Bool) (n : ℕ). suc (choose b n 0)) (same x o y o' h.0 k.0) (pairs-told xs os ys os' h.1 k.1)
+  pairs_told : (xs : List A) (os : List C) (ys : List B) (os' : List D) → InPairs R xs os → InPairs R' ys os' → pairs f xs ys ≡ pairs g os os'
+  pairs_told [] [] ys os' h k = refl
+  pairs_told [] (o ∷ os) ys os' h k = absurd h
+  pairs_told (x ∷ xs) [] ys os' h k = absurd h
+  pairs_told (x ∷ xs) (o ∷ os) [] [] h k = refl
+  pairs_told (x ∷ xs) (o ∷ os) [] (o' ∷ os') h k = absurd k
+  pairs_told (x ∷ xs) (o ∷ os) (y ∷ ys) [] h k = absurd k
+  pairs_told (x ∷ xs) (o ∷ os) (y ∷ ys) (o' ∷ os') h k =
+      ap₂ (λ (b : Bool) (n : ℕ). suc (choose b n 0)) (same x o y o' h.0 k.0) (pairs_told xs os ys os' h.1 k.1)
 
-  alike-told : (xs : List A) (os : List C) (ys : List B) (os' : List D) → InPairs R xs os → InPairs R' ys os'
+  alike_told : (xs : List A) (os : List C) (ys : List B) (os' : List D) → InPairs R xs os → InPairs R' ys os'
       → all_alike f xs ys ≡ all_alike g os os'
-  alike-told [] [] [] [] h k = refl
-  alike-told [] [] [] (o' ∷ os') h k = absurd k
-  alike-told [] [] (y ∷ ys) [] h k = absurd k
-  alike-told [] [] (y ∷ ys) (o' ∷ os') h k = refl
-  alike-told [] (o ∷ os) ys os' h k = absurd h
-  alike-told (x ∷ xs) [] ys os' h k = absurd h
-  alike-told (x ∷ xs) (o ∷ os) [] [] h k = refl
-  alike-told (x ∷ xs) (o ∷ os) [] (o' ∷ os') h k = absurd k
-  alike-told (x ∷ xs) (o ∷ os) (y ∷ ys) [] h k = absurd k
-  alike-told (x ∷ xs) (o ∷ os) (y ∷ ys) (o' ∷ os') h k = ap₂ ◌&&◌ (same x o y o' h.0 k.0) (alike-told xs os ys os' h.1 k.1)
+  alike_told [] [] [] [] h k = refl
+  alike_told [] [] [] (o' ∷ os') h k = absurd k
+  alike_told [] [] (y ∷ ys) [] h k = absurd k
+  alike_told [] [] (y ∷ ys) (o' ∷ os') h k = refl
+  alike_told [] (o ∷ os) ys os' h k = absurd h
+  alike_told (x ∷ xs) [] ys os' h k = absurd h
+  alike_told (x ∷ xs) (o ∷ os) [] [] h k = refl
+  alike_told (x ∷ xs) (o ∷ os) [] (o' ∷ os') h k = absurd k
+  alike_told (x ∷ xs) (o ∷ os) (y ∷ ys) [] h k = absurd k
+  alike_told (x ∷ xs) (o ∷ os) (y ∷ ys) (o' ∷ os') h k = ap₂ ◌&&◌ (same x o y o' h.0 k.0) (alike_told xs os ys os' h.1 k.1)
 
 -- The nodes of a problem's expressions
 module _ (p : Problem) (w : WithinLimits p) where
@@ -81,13 +81,13 @@ module _ (p : Problem) (w : WithinLimits p) where
     node_seen = node.seen
 
     pub node_depth : depth_at table a ≡ length node.scope
-    node_depth = stands-depth node.levels node.ctx table a node.scope node.named held stands
+    node_depth = stands_depth node.levels node.ctx table a node.scope node.named held stands
 
     node_tells : (s : ℕ) → InPairs (Tells table a (depth_at table a) s) (part table a) (preorder node_view)
     node_tells s =
         subst (λ (r : ℕ). InPairs (Tells table a r s) (part table a) (preorder node_view)) (sym node_depth)
         (subst (λ (xs : List ℕ). InPairs (Tells table a (length node.scope) s) xs (preorder node_view))
-        (sym (stands-part node.levels node.ctx table a node.scope node.named held stands))
+        (sym (stands_part node.levels node.ctx table a node.scope node.named held stands))
         (forest_tells table a node.scope node.binders (omega (arith, node.deep)) node.chain s 0 node.levels node.ctx node.scope
         (one node.named) (omega arith) node.readable node.depths held.sizes))
 
@@ -104,23 +104,23 @@ module _ (p : Problem) (w : WithinLimits p) where
         omega (
           arith,
           node_depth,
-          forest-deep node.levels node.ctx node.scope (one node.named) node.readable node.depths table a stands.after
+          forest_deep node.levels node.ctx node.scope (one node.named) node.readable node.depths table a stands.after
               stands.split y g (omega (arith, node_size)),
         )
 
   -- What `compare` requires of a table
-  pub table-nested : Nested table
-  table-nested = record {
-    counted = λ k h. (expression-table p w).counted k h;
-    ends = λ k h. ((problem.table-numerable p w).inside k h).ends;
+  pub table_nested : Nested table
+  table_nested = record {
+    counted = λ k h. (expression_table_lem p w).counted k h;
+    ends = λ k h. ((problem.table_numerable p w).inside k h).ends;
     deep = λ k y h g q. node_deep k h y g q;
   }
 
   -- What `compare` answers of two nodes is what `meaning` says of their subexpressions
-  pub node-compared : (a b : ℕ) (h : a < length table) (g : b < length table) (r : Compared) → ComparedIn table a b r
+  pub node_compared : (a b : ℕ) (h : a < length table) (g : b < length table) (r : Compared) → ComparedIn table a b r
       → Comparison (node_view a h) (node_view b g) r.equal r.pairs
   unfolding compared_across pairs_of
-  node-compared a b h g r c =
+  node_compared a b h g r c =
       let s = c.above in
       let f = agree_under s (depth_at table a) (depth_at table b) in
       let R = Tells table a (depth_at table a) s in
@@ -130,26 +130,26 @@ module _ (p : Problem) (w : WithinLimits p) where
       let same = tokens_agree table a b s c.shared (depth_at table a) (depth_at table b) in
       let e : r.equal ≡ all_alike agree xs ys =
       ap (λ (d : Compared). d.equal) c.compared
-      ∙ alike-told f agree R R' (λ x o y o'. same x y o o') (part table a) xs (part table b) ys (node_tells a h s) (node_tells b g s) in
+      ∙ alike_told f agree R R' (λ x o y o'. same x y o o') (part table a) xs (part table b) ys (node_tells a h s) (node_tells b g s) in
       let n : r.pairs ≡ pairs agree xs ys =
       ap (λ (d : Compared). d.pairs) c.compared
-      ∙ pairs-told f agree R R' (λ x o y o'. same x y o o') (part table a) xs (part table b) ys (node_tells a h s) (node_tells b g s) in
+      ∙ pairs_told f agree R R' (λ x o y o'. same x y o o') (part table a) xs (part table b) ys (node_tells a h s) (node_tells b g s) in
       let q = alike_equal (node_view a h) (node_view b g) ((node_ranked a h).1 ∙ sym (node_ranked b g).1) (node_ranked a h).0 (node_ranked b g).0 in
       record { verdict = (λ z. q.0 (sym e ∙ z), λ z. e ∙ q.1 z); count = n }
 
   -- Main theorem. Two numbers: each is a node of the expressions or none
-  pub node-missing : (a : ℕ) → length table ≤ a → get_elem? (subexpressions p) a ≡ none
+  pub node_missing : (a : ℕ) → length table ≤ a → get_elem? (subexpressions p) a ≡ none
   unfolding subexpressions
-  node-missing a h =
+  node_missing a h =
       at_past (views_from [] 0 (expressions p)) a
-      (omega (arith, h, problem.table-length p w, length_views [] 0 (expressions p), relabel_size enter nameless_label [] (named_expressions p)))
+      (omega (arith, h, problem.table_length p w, length_views [] 0 (expressions p), relabel_size enter nameless_label [] (named_expressions p)))
 
-  pub compared-means : (a b : ℕ) (r : Pair) → Present table a b r → Judged (get_elem? (subexpressions p) a) (get_elem? (subexpressions p) b) r
+  pub compared_means : (a b : ℕ) (r : Pair) → Present table a b r → Judged (get_elem? (subexpressions p) a) (get_elem? (subexpressions p) b) r
   unfolding Judged
-  compared-means a b r there = go (dec_lt a (length table)) (dec_lt b (length table))
+  compared_means a b r there = go (dec_lt a (length table)) (dec_lt b (length table))
     where
       go : Dec (a < length table) → Dec (b < length table) → Judged (get_elem? (subexpressions p) a) (get_elem? (subexpressions p) b) r
-      go (no h) g = rw (node-missing a (omega arith)) (there.first (omega arith))
-      go (yes h) (no g) = rw (node_seen a h, node-missing b (omega arith)) (there.second (omega arith))
+      go (no h) g = rw (node_missing a (omega arith)) (there.first (omega arith))
+      go (yes h) (no g) = rw (node_seen a h, node_missing b (omega arith)) (there.second (omega arith))
       go (yes h) (yes g) =
-          let (c, e, d) = there.both h g in rw (node_seen a h, node_seen b g) (c, e, node-compared a b h g c d)
+          let (c, e, d) = there.both h g in rw (node_seen a h, node_seen b g) (c, e, node_compared a b h g c d)

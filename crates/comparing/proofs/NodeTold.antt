@@ -30,7 +30,7 @@ use Rattle.tokens.proofs.TokenParts.{enter_room}
 use Rattle.tokens.proofs.Levels.{Resolved, is_free, is_bound, resolved, enter_deep}
 use Rattle.tokens.proofs.Codes.{Coded, code, seen_label, label_code, fits_label}
 use Rattle.tokens.proofs.Owners.{deep_seen, deep_label}
-use Rattle.tokens.proofs.Reaching.{Told, test_label, label-reaches, level-above, level-below}
+use Rattle.tokens.proofs.Reaching.{Told, test_label, label_reaches, level_above, level_below}
 use Rattle.tokens.proofs.Spots.{depth_at, Over, Chain}
 use Rattle.comparing.proofs.Agreement.{level_of_seen, levelled, SeenOver, Tells}
 
@@ -53,7 +53,7 @@ told_deep root s k sc x long = go (resolved sc 0 x)
   where
     split : (j : ℕ) → j < length sc → level_of sc x + j ≡ length sc → Dec (j < k)
         → ltb s (level_of sc x) && leb (level_of sc x) (length root) ≡ deep_seen s (see (level_from root) k (bound j))
-    split j g q (yes y) = level-below s (length root) (level_of sc x) (omega arith) ∙ sym (ap (deep_seen s) (see_low (level_from root) k j y))
+    split j g q (yes y) = level_below s (length root) (level_of sc x) (omega arith) ∙ sym (ap (deep_seen s) (see_low (level_from root) k j y))
     split j g q (no y) =
         let z : level_of sc x ≡ level_from root (j - k) = omega arith in
         ap (λ (c : Bool). ltb s (level_of sc x) && c) (le-leb (level_of sc x) (length root) (omega arith)) ∙ and-true (ltb s (level_of sc x))
@@ -62,7 +62,7 @@ told_deep root s k sc x long = go (resolved sc 0 x)
     go : Resolved sc 0 x → ltb s (level_of sc x) && leb (level_of sc x) (length root)
         ≡ not (not (deep_seen s (see (level_from root) k (resolve sc 0 x))))
     go (is_free a q) =
-        level-above s (length root) (level_of sc x) (omega arith)
+        level_above s (length root) (level_of sc x) (omega arith)
         ∙ sym (ap (λ (v : Variable). not (not (deep_seen s (see (level_from root) k v)))) a)
     go (is_bound j g a q) =
         let z : 0 + j ≡ j = omega arith in
@@ -80,17 +80,17 @@ tested_deep root s k (slot z) = refl
 
 -- A binder above the node, by its index: its level, and that it lies above
 module _ (t : List ℕ) (a : ℕ) where
-  pub chain-at : (bs : List ℕ) (i : ℕ) → i < length bs → Chain 0 t a (suc a) bs
+  pub chain_at : (bs : List ℕ) (i : ℕ) → i < length bs → Chain 0 t a (suc a) bs
       → (x : ℕ) × (owner_of bs i ≡ node_of_face x) × (suc (depth_at t x) ≡ length bs - i) × (x < a) × Over t x (suc a)
-  chain-at [] i h c = absurd (omega arith)
-  chain-at (x ∷ bs) zero h c = (x, refl, omega (arith, c.0), c.1, c.2)
-  chain-at (x ∷ bs) (suc i) h c = let r = chain-at bs i (omega arith) c.3 in (r.0, r.1, omega (arith, r.2), r.3, r.4)
+  chain_at [] i h c = absurd (omega arith)
+  chain_at (x ∷ bs) zero h c = (x, refl, omega (arith, c.0), c.1, c.2)
+  chain_at (x ∷ bs) (suc i) h c = let r = chain_at bs i (omega arith) c.3 in (r.0, r.1, omega (arith, r.2), r.3, r.4)
 
   module _ (root bs : List ℕ) (long : length root ≡ length bs) (chain : Chain 0 t a (suc a) bs) where
     owner_level : (i : ℕ) → i < length root
         → (level_of_seen t (outside (owner_of bs i)) ≡ outside (level_from root i)) × SeenOver t a (outside (owner_of bs i))
     owner_level i h =
-        let r = chain-at bs i (omega arith) chain in
+        let r = chain_at bs i (omega arith) chain in
         let e : suc (depth_at t r.0) ≡ level_from root i = omega (arith, r.2) in (
           ap (λ w. level_of_seen t (outside w)) r.1 ∙ ap outside e,
           subst (λ w. SeenOver t a (outside w)) (sym r.1) (r.3, r.4),
@@ -128,7 +128,7 @@ module _ (t : List ℕ) (a : ℕ) where
         record {
           key = label_code root ctx k sc n deep room small l c f ∙ sym (ap code same);
           reach =
-              label-reaches (λ j v. not (deep_seen s (see (level_from root) j v))) s (length root) (told_deep root s) ctx k sc n deep room small l c f
+              label_reaches (λ j v. not (deep_seen s (see (level_from root) j v))) s (length root) (told_deep root s) ctx k sc n deep room small l c f
               ∙ tested_deep root s k (nameless_label sc l) ∙ sym (ap (deep_label s) same);
           coded = subst Coded (sym same) (fits_label root k ctx sc l c f).0;
           over = over;

@@ -24,14 +24,14 @@ use Rattle.numbers.specs.Alike.{level_at, last_at, binder_at, alike}
 use Rattle.numbers.specs.Numbering.{Numbered}
 use Rattle.numbers.proofs.ProblemTable.{table_short}
 use Rattle.numbers.proofs.KeyLevels.{level_uses, level_deep}
-use Rattle.numbers.proofs.AlikeLaws.{keys-same, same_keys_lem, alike-parts, alike-level, numbers_alike, alike_numbers, numbers_front}
-use Rattle.numbers.proofs.Asked.{last-run, beneath_alike}
+use Rattle.numbers.proofs.AlikeLaws.{keys_same, same_keys_lem, alike_parts, alike_level, numbers_alike, alike_numbers, numbers_front}
+use Rattle.numbers.proofs.Asked.{last_run, beneath_alike}
 use Rattle.numbers.proofs.Buckets.{alike_binder}
 use Rattle.comparing.specs.Comparing.{Shared, ComparedIn}
-use Rattle.comparing.proofs.Agreement.{shared-deep}
-use Rattle.comparing.proofs.NodeTold.{chain-at}
+use Rattle.comparing.proofs.Agreement.{shared_deep}
+use Rattle.comparing.proofs.NodeTold.{chain_at}
 use Rattle.comparing.proofs.SharedLaws.{shared_some}
-use Rattle.comparing.proofs.Meaning.{table, node, node_depth, node_seen, node-missing, node_view, node-compared}
+use Rattle.comparing.proofs.Meaning.{table, node, node_depth, node_seen, node_missing, node_view, node_compared}
 
 -- Comparing under shared binders is comparing keys, where no binder outside is used that is not shared
 regrouped : (a b c d : Bool) → (a && not b) && (c && not d) ≡ (a && c) && not (b || d)
@@ -64,7 +64,7 @@ unfolding last_at
 last_over t x a h over =
     let e : suc x + (a - suc x) ≡ a = omega arith in
     ap (last_at t (depth_at t x)) (sym e)
-    ∙ last-run t (depth_at t x) (suc x) (a - suc x) (λ y p q z. omega (arith, over y (omega arith) (omega arith)))
+    ∙ last_run t (depth_at t x) (suc x) (a - suc x) (λ y p q z. omega (arith, over y (omega arith) (omega arith)))
     ∙ choose_true _ _ (eq-eqb (depth_at t x) (depth_at t x) refl)
 
 module _ (p : Problem) (w : WithinLimits p) where
@@ -87,7 +87,7 @@ module _ (p : Problem) (w : WithinLimits p) where
       let n = node p w a h in
       let deep = level_deep t a in
       let long = node_depth p w a h in
-      let c = chain-at t a n.binders (length n.binders - level_at t a) (omega (arith, n.deep)) n.chain in
+      let c = chain_at t a n.binders (length n.binders - level_at t a) (omega (arith, n.deep)) n.chain in
       let l : suc (depth_at t c.0) ≡ level_at t a = omega (arith, c.2, n.deep) in
       let d : level_at t a - 1 ≡ depth_at t c.0 = omega arith in
       record {
@@ -104,7 +104,7 @@ module _ (p : Problem) (w : WithinLimits p) where
     level_shared e = go (ℕ_discrete (level_at t a) 0)
       where
         levels : level_at t a ≡ level_at t b
-        levels = alike-level t a b e
+        levels = alike_level t a b e
 
         go : Dec (level_at t a ≡ 0) → level_at t a ≤ s
         go (yes z) = omega arith
@@ -112,7 +112,7 @@ module _ (p : Problem) (w : WithinLimits p) where
             let x = innermost a h z in
             let y = innermost b g (λ q. z (levels ∙ q)) in
             let same : y.binder ≡ x.binder = omega (arith, x.is, y.is, alike_binder t a b (small a h) (small b g) e) in
-            omega (arith, x.level, shared-deep t a b s shared x.binder x.above (subst (λ (n : ℕ). (n < b) × Over t n (suc b)) same y.above))
+            omega (arith, x.level, shared_deep t a b s shared x.binder x.above (subst (λ (n : ℕ). (n < b) × Over t n (suc b)) same y.above))
 
     alike_compared : (alike t a b ≡ true) ↔ ((compared_across t a t b s).equal ≡ true)
     alike_compared = (there, back)
@@ -120,7 +120,7 @@ module _ (p : Problem) (w : WithinLimits p) where
         there : alike t a b ≡ true → (compared_across t a t b s).equal ≡ true
         there e =
             compared_keys t a b s
-            ∙ ap₂ (λ (c d : Bool). c && not d) (keys-same t a b (alike-parts t a b e).1)
+            ∙ ap₂ (λ (c d : Bool). c && not d) (keys_same t a b (alike_parts t a b e).1)
             (level_uses t a s ∙ le-ltb s (level_at t a) (level_shared e))
 
         back : (compared_across t a t b s).equal ≡ true → alike t a b ≡ true
@@ -146,7 +146,7 @@ module _ (p : Problem) (w : WithinLimits p) where
     numbers_seen a b h g =
         let (s, shared) = shared_some t a b in
         let c : ComparedIn t a b (compared_across t a t b s) = record { above = s; shared = shared; compared = refl } in
-        let v = (node-compared p w a b h g (compared_across t a t b s) c).verdict in
+        let v = (node_compared p w a b h g (compared_across t a t b s) c).verdict in
         let n = numbers_compared a b h g (compared_across t a t b s) c in
         (λ z. v.0 (n.0 z), λ z. n.1 (v.1 z))
 
@@ -162,16 +162,16 @@ module _ (p : Problem) (w : WithinLimits p) where
               λ e. ap some (q.1 (some-injective (node_view p w a h) (node_view p w b g) e)),
             )
         go (yes h) (no g) =
-            rw (at_there ns a (omega arith), at_past ns b (omega arith), node_seen p w a h, node-missing p w b (omega arith))
+            rw (at_there ns a (omega arith), at_past ns b (omega arith), node_seen p w a h, node_missing p w b (omega arith))
             (λ e. never (cc), λ e. never (cc))
         go (no h) (yes g) =
-            rw (at_past ns a (omega arith), at_there ns b (omega arith), node-missing p w a (omega arith), node_seen p w b g)
+            rw (at_past ns a (omega arith), at_there ns b (omega arith), node_missing p w a (omega arith), node_seen p w b g)
             (λ e. never (cc), λ e. never (cc))
         go (no h) (no g) =
-            rw (at_past ns a (omega arith), at_past ns b (omega arith), node-missing p w a (omega arith), node-missing p w b (omega arith))
+            rw (at_past ns a (omega arith), at_past ns b (omega arith), node_missing p w a (omega arith), node_missing p w b (omega arith))
             (λ e. refl, λ e. refl)
 
   -- The same of a longer list, of which only the front counts
-  pub front-means : (ns : List ℕ) (n : ℕ) → n ≡ length t → n ≤ length ns → Numbered t ns → Numbers p (take n ns)
-  front-means ns n e h made =
+  pub front_means : (ns : List ℕ) (n : ℕ) → n ≡ length t → n ≤ length ns → Numbered t ns → Numbers p (take n ns)
+  front_means ns n e h made =
       numbers_mean (take n ns) (numbers_front t ns n (omega arith) made) (length-take-le n ns h ∙ e)

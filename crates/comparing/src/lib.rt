@@ -1,5 +1,7 @@
 // Two nodes of a problem's expressions compared: yes or no, and how many pairs of nodes that took (T-02). And the numbers of all its nodes,
 // two of which are the same exactly when that comparison says yes (T-08).
+#![tactic(auto)]
+
 ghost use Rattle.std.specs.Prelude.{◌<◌, ◌≤◌, length, take};
 ghost use Rattle.meaning.specs.Accept.{accept};
 ghost use Rattle.table.specs.Whole.{table_room};

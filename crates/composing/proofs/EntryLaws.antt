@@ -21,9 +21,9 @@ unfolding body_at
 body_returned plan k = refl
 
 module _ (plan : Plan) (m node : ℕ) (is : node ≡ at plan.sources.nodes m) where
-  pub value-open : node ≡ open_node → entries.Open ≡ value_at plan m
+  pub value_open : node ≡ open_node → entries.Open ≡ value_at plan m
   unfolding value_at
-  value-open e = sym (choose_true _ _ (eq-eqb (at plan.sources.nodes m) open_node (sym is ∙ e)))
+  value_open e = sym (choose_true _ _ (eq-eqb (at plan.sources.nodes m) open_node (sym is ∙ e)))
 
   pub value_there : (node ≡ open_node → ⊥) → entries.Value node ≡ value_at plan m
   unfolding value_at
@@ -40,10 +40,10 @@ rank_small plan m k found h small is e q = omega (arith, h.rank m small (sym is 
 
 -- The entry of a metavariable: found says whether it is a function, plain whether it occurs otherwise
 module _ (plan : Plan) (m : ℕ) (found : Bool) (is_found : found ≡ has plan.occurring.functions m) where
-  pub entry-function : (k : ℕ) (r : Entry) → found ≡ true → k ≡ count m plan.occurring.functions → r ≡ body_at plan k
+  pub entry_function : (k : ℕ) (r : Entry) → found ≡ true → k ≡ count m plan.occurring.functions → r ≡ body_at plan k
       → r ≡ entry_at plan m
   unfolding entry_at
-  entry-function k r e is q = q ∙ ap (body_at plan) is ∙ sym (choose_true _ _ (sym is_found ∙ e))
+  entry_function k r e is q = q ∙ ap (body_at plan) is ∙ sym (choose_true _ _ (sym is_found ∙ e))
 
   module _ (no : found ≡ false) (plain : Bool) (is_plain : plain ≡ has plan.occurring.plain m) where
     pub entry_plain : (r : Entry) → plain ≡ true → r ≡ value_at plan m → r ≡ entry_at plan m

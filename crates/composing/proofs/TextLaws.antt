@@ -20,7 +20,7 @@ use Rattle.copying.specs.Fixed.{Wrote}
 use Rattle.copying.specs.Copied.{Copied, Copyable, TermIn, copied}
 use Rattle.copying.specs.Measure.{BodyMeasurable, Measurable, Measured, TermMeasured}
 use Rattle.copying.proofs.CopiedMeaning.{copied_whole}
-use Rattle.copying.proofs.WriteLaws.{Part, part_begins, part-ends, part-goes, part-long}
+use Rattle.copying.proofs.WriteLaws.{Part, part_begins, part_ends, part_goes, part_long}
 use Rattle.composing.specs.Entries.{Denotes, DenotesAll, Entries, entry_at, fields_of}
 use Rattle.composing.specs.Composing.{CopyRoom, CopyWritten, EntryMeasured, EntryRoom, EntryThere, EntryWritten, FieldsWritten, BytesFit}
 use Rattle.composing.specs.Composing.{TextMeasured, TextRoom, Writable}
@@ -39,18 +39,18 @@ copied_none mask t e = ap (λ (m : ℕ). copied m t) e ∙ copied_whole t
 
 -- How long an entry's field is
 module _ {es : List ℕ} {entry : Entry} where
-  pub absent-length : entry ≡ entries.Absent → EntryMeasured es entry 0
-  absent-length q = subst (λ (x : Entry). EntryMeasured es x 0) (sym q)
+  pub absent_length : entry ≡ entries.Absent → EntryMeasured es entry 0
+  absent_length q = subst (λ (x : Entry). EntryMeasured es x 0) (sym q)
       (record { measured = λ m e d. ap (λ (x : meant.Entry NamedTerm). length (encode_entry m x)) (sym d) })
 
-  pub open-length : entry ≡ entries.Open → EntryMeasured es entry 4
-  open-length q = subst (λ (x : Entry). EntryMeasured es x 4) (sym q)
+  pub open_length : entry ≡ entries.Open → EntryMeasured es entry 4
+  open_length q = subst (λ (x : Entry). EntryMeasured es x 4) (sym q)
       (record {
         measured = λ m e d. sym (ap (λ (x : meant.Entry NamedTerm). length (encode_entry m x)) d ∙ numbered_length 11 m []);
       })
 
-  pub value-length : {node : ℕ} (n : ℕ) → entry ≡ entries.Value node → TermMeasured es node n → EntryMeasured es entry (4 + n)
-  value-length {node} n q measured = subst (λ (x : Entry). EntryMeasured es x (4 + n)) (sym q) (record { measured = go })
+  pub value_length : {node : ℕ} (n : ℕ) → entry ≡ entries.Value node → TermMeasured es node n → EntryMeasured es entry (4 + n)
+  value_length {node} n q measured = subst (λ (x : Entry). EntryMeasured es x (4 + n)) (sym q) (record { measured = go })
     where
       go : (m : ℕ) (e : meant.Entry NamedTerm) → Denotes es (entries.Value node) e → 4 + n ≡ length (encode_entry m e)
       go m e (t, there, d) =
@@ -67,17 +67,17 @@ module _ {es : List ℕ} {entry : Entry} where
           ∙ ap (λ (x : meant.Entry NamedTerm). length (encode_entry m x)) (sym d)
 
   -- A sum that fits
-  pub measured-small : {r : ℕ} → EntryThere es entry → EntryMeasured es entry r → r < 65536
-  measured-small h e = omega (arith, e.measured h.number h.says h.denotes, h.short)
+  pub measured_small : {r : ℕ} → EntryThere es entry → EntryMeasured es entry r → r < 65536
+  measured_small h e = omega (arith, e.measured h.number h.says h.denotes, h.short)
 
   -- What `term_length` and `copy_length` require
-  pub value-measurable : {node : ℕ} → entry ≡ entries.Value node → EntryThere es entry → Measurable es node
-  value-measurable {node} q h =
+  pub value_measurable : {node : ℕ} → entry ≡ entries.Value node → EntryThere es entry → Measurable es node
+  value_measurable {node} q h =
       let d = subst (λ (x : Entry). Denotes es x h.says) q h.denotes in
       record { term = d.0; there = d.1; table = h.table }
 
-  pub body-measurable : {node : ℕ} {set : NodeSet} → entry ≡ entries.Body node set → EntryThere es entry → BodyMeasurable es node (mask set)
-  body-measurable {node} {set} q h =
+  pub body_measurable : {node : ℕ} {set : NodeSet} → entry ≡ entries.Body node set → EntryThere es entry → BodyMeasurable es node (mask set)
+  body_measurable {node} {set} q h =
       let (t, b, there, d, same, chosen) = subst (λ (x : Entry). Denotes es x h.says) q h.denotes in
       record { face = record { term = t; there = there; table = h.table }; chosen = chosen }
 
@@ -96,16 +96,16 @@ module _ {es : List ℕ} {m : ℕ} {entry : Entry} where
       ap (encode_entry m) d ∙ ap (λ (bs : Bytes). field 8 (m ∷ bs)) (sym (copied_none mask t none)) in
       record { term = t; there = there; fits = subst (λ (bs : Bytes). BytesFit bs room) same h.fits }
 
-  pub body-room : {node room : ℕ} {set : NodeSet} → entry ≡ entries.Body node set → EntryRoom es m entry room
+  pub body_room_lem : {node room : ℕ} {set : NodeSet} → entry ≡ entries.Body node set → EntryRoom es m entry room
       → CopyRoom es node (mask set) m 9 room
-  body-room {node} {room} {set} q h =
+  body_room_lem {node} {room} {set} q h =
       let (t, b, there, d, same, chosen) = subst (λ (x : Entry). Denotes es x h.says) q h.denotes in
       let bytes : encode_entry m h.says ≡ field 9 (m ∷ copied (mask set) t) =
       ap (encode_entry m) d ∙ ap (λ (bs : Bytes). field 9 (m ∷ bs)) (sym same) in
       record { term = t; there = there; fits = subst (λ (bs : Bytes). BytesFit bs room) bytes h.fits }
 
-  pub absent-written : {before : Bytes} → entry ≡ entries.Absent → EntryWritten es m entry before before 0
-  absent-written {before} q = subst (λ (x : Entry). EntryWritten es m x before before 0) (sym q)
+  pub absent_written : {before : Bytes} → entry ≡ entries.Absent → EntryWritten es m entry before before 0
+  absent_written {before} q = subst (λ (x : Entry). EntryWritten es m x before before 0) (sym q)
       (record {
         wrote = λ e d. subst (λ (x : meant.Entry NamedTerm). Wrote (encode_entry m x) before before 0) (sym d) (refl, refl);
       })
@@ -156,12 +156,12 @@ module _ {es : List ℕ} {node mask m tag : ℕ} (before : Bytes) (room : CopyRo
   long : 4 + length (copied mask room.term) ≤ length before
   long = omega (arith, room.fits.inside, numbered_length tag m (copied mask room.term))
 
-  pub copy-begins : 4 ≤ length before
-  copy-begins = omega (arith, long)
+  pub copy_begins : 4 ≤ length before
+  copy_begins = omega (arith, long)
 
   -- What `copy` requires
-  pub copy-copies : Copyable es node mask (length (take (length before - 4) (drop 4 before)))
-  copy-copies =
+  pub copy_copies : Copyable es node mask (length (take (length before - 4) (drop 4 before)))
+  copy_copies =
       let l = ap length (rest_all 4 before) ∙ length-drop 4 before in
       record {
         term = room.term;
@@ -181,7 +181,7 @@ module _ {es : List ℕ} {node mask m tag : ℕ} (before : Bytes) (room : CopyRo
         → put_mid 4 (length before - 4) before x ≡ (take 4 before ++ copied mask t) ++ drop (n + 4) before
     unfolding Copied
     front t there =
-        let four : length (take 4 before) ≡ 4 = length-take-le 4 before copy-begins in
+        let four : length (take 4 before) ≡ 4 = length-take-le 4 before copy_begins in
         let (count, tail) = h t there in
         let whole : before ≡ take 4 before ++ drop (length (take 4 before)) before =
         sym (take-append-drop 4 before) ∙ ap (λ (k : ℕ). take 4 before ++ drop k before) (sym four) in
@@ -200,7 +200,7 @@ module _ {es : List ℕ} {node mask m tag : ℕ} (before : Bytes) (room : CopyRo
     put_length =
         let p = front room.term room.there in
         let (count, tail) = h room.term room.there in
-        let four : length (take 4 before) ≡ 4 = length-take-le 4 before copy-begins in
+        let four : length (take 4 before) ≡ 4 = length-take-le 4 before copy_begins in
         ap length p ∙ length-append (take 4 before ++ copied mask room.term) (drop (n + 4) before)
         ∙ (let a = length-append (take 4 before) (copied mask room.term) in let b = length-drop (n + 4) before in
         let z : length (take 4 before ++ copied mask room.term) + length (drop (n + 4) before) ≡ length before =
@@ -208,20 +208,20 @@ module _ {es : List ℕ} {node mask m tag : ℕ} (before : Bytes) (room : CopyRo
 
     -- The buffer is as long as it was
     pub long_before : 4 ≤ length (put_mid 4 (length before - 4) before x)
-    long_before = omega (arith, copy-begins, put_length)
+    long_before = omega (arith, copy_begins, put_length)
 
     pub kept_length : length (set (put_mid 4 (length before - 4) before x) 3 m) ≡ length before
     kept_length = length-set (put_mid 4 (length before - 4) before x) 3 m ∙ put_length
 
     pub long_after : 4 ≤ length (set (put_mid 4 (length before - 4) before x) 3 m)
-    long_after = omega (arith, copy-begins, kept_length)
+    long_after = omega (arith, copy_begins, kept_length)
 
     module _ {after : Bytes} (e : after ≡ tag ∷ (word (n + 1) ++ drop 3 (set (put_mid 4 (length before - 4) before x) 3 m))) where
       field_bytes : (t : NamedTerm) → TermIn es node t → Wrote (field tag (m ∷ copied mask t)) before after (n + 4)
       unfolding Copied field
       field_bytes t there =
           let count = (h t there).0 in
-          let four : length (take 4 before) ≡ 4 = length-take-le 4 before copy-begins in
+          let four : length (take 4 before) ≡ 4 = length-take-le 4 before copy_begins in
           let p : Bytes = (take 4 before ++ copied mask t) ++ drop (n + 4) before in
           let room : 3 < length p =
           omega (
@@ -281,12 +281,12 @@ pub record Writing (es : List ℕ) (plan : Plan) (m k n : ℕ) (before out : Byt
   pub written : (says : Entries) → DenotesAll es plan says → Part (fields_of says m) (fields_of says k) n before out
 
 module _ {es : List ℕ} {plan : Plan} where
-  pub counting-begins : Counting es plan 0 0
-  counting-begins = record { whole = λ says d. omega arith }
+  pub counting_begins : Counting es plan 0 0
+  counting_begins = record { whole = λ says d. omega arith }
 
-  pub counting-goes-on : {m n k : ℕ} → m < metavariable_count → Counting es plan m n → EntryMeasured es (entry_at plan m) k
+  pub counting_goes_on : {m n k : ℕ} → m < metavariable_count → Counting es plan m n → EntryMeasured es (entry_at plan m) k
       → Counting es plan (m + 1) (n + k)
-  counting-goes-on {m} small c e = record {
+  counting_goes_on {m} small c e = record {
     whole = λ says d.
         let a = e.measured m (says m) (d m small) in
         let b = fields_length says m small in
@@ -294,8 +294,8 @@ module _ {es : List ℕ} {plan : Plan} where
         omega arith;
   }
 
-  pub counting-ends : {m n : ℕ} → m ≡ metavariable_count → Counting es plan m n → TextMeasured es plan n
-  counting-ends {m} e c = record {
+  pub counting_ends : {m n : ℕ} → m ≡ metavariable_count → Counting es plan m n → TextMeasured es plan n
+  counting_ends {m} e c = record {
     measured = λ says d.
         let z : length (fields_of says m) ≡ 0 = ap (λ (k : ℕ). length (fields_of says k)) e ∙ ap length (fields_end says) in
         let g = c.whole says d in
@@ -334,11 +334,11 @@ module _ {es : List ℕ} {plan : Plan} where
     pub writing_ends : metavariable_count ≤ k → FieldsWritten es plan m before out n
     writing_ends h =
         let last : k ≡ metavariable_count = omega (arith, w.within) in
-        record { wrote = λ says d. part-ends (w.written says d) (ap (fields_of says) last ∙ fields_end says) }
+        record { wrote = λ says d. part_ends (w.written says d) (ap (fields_of says) last ∙ fields_end says) }
 
     module _ (t : TextRoom es plan m (length before)) where
       left : n + length (fields_of t.says k) ≡ length (fields_of t.says m)
-      left = part-long (w.written t.says t.denotes)
+      left = part_long (w.written t.says t.denotes)
 
       pub written_inside : n ≤ length out
       written_inside = omega (arith, left, t.fits.inside, w.same)
@@ -369,7 +369,7 @@ module _ {es : List ℕ} {plan : Plan} where
                 within = omega arith;
                 same = same_len_mid n (length out - n) out x kept ∙ w.same;
                 written = λ says d.
-                    part-goes (w.written says d) (encode_entry k (says k)) (fields_of says (k + 1)) (fields_next says k small)
+                    part_goes (w.written says d) (encode_entry k (says k)) (fields_of says (k + 1)) (fields_next says k small)
                     (e.wrote (says k) (d k small));
               }
 

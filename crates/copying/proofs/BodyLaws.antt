@@ -90,8 +90,8 @@ module _ {es : List ℕ} {node mask : ℕ} {t : NamedTerm} (there : TermIn es no
 
 -- As the code has it
 module _ {es : List ℕ} {node mask whole : ℕ} (is_whole : TermMeasured es node whole) where
-  pub empty-measured : mask ≡ 0 → Measured es node mask whole
-  empty-measured e = record {
+  pub empty_measured : mask ≡ 0 → Measured es node mask whole
+  empty_measured e = record {
     long = λ t there c. is_whole.long t there ∙ sym (ap length (ap (λ (m : ℕ). copied m t) e ∙ copied_whole t));
   }
 

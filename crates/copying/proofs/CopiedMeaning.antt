@@ -22,11 +22,11 @@ use Rattle.meaning.proofs.Proper.{expressions_readable}
 use Rattle.meaning.proofs.RowBodies.{punch_one}
 use Rattle.tokens.specs.Token.{expression_tokens, size_in, tokens}
 use Rattle.tokens.specs.Key.{at}
-use Rattle.tokens.proofs.ProblemTokens.{expressions-room}
+use Rattle.tokens.proofs.ProblemTokens.{expressions_room}
 use Rattle.bodies.specs.Marked.{marked}
 use Rattle.bodies.proofs.MarkLaws.{marked_left, marked_means}
 use Rattle.copying.specs.Copied.{Spans, TermIn, copied, copied_from, punch_from}
-use Rattle.copying.proofs.SpanLaws.{span-first, span-later, term-below, term-size}
+use Rattle.copying.proofs.SpanLaws.{span_first, span_later, term_below, term_size}
 
 -- With no node marked nothing changes
 punch_none : (test : ℕ → Bool) → ((i : ℕ) → test i ≡ false) → (i : ℕ) (u : Forest Named) → punch_from test i u ≡ u
@@ -55,13 +55,13 @@ mark_some (m ∷ ms) (suc i) j e = mark_some ms i j e
 -- The nodes that the marks make holes, all of the first place
 module _ (test : ℕ → Bool) (ms : Marks) (told : (i : ℕ) → test i ≡ is_some (mark (drop i ms)))
     (first : (i j : ℕ) → mark (drop i ms) ≡ some j → j ≡ 0) where
-  punch-marked : (i : ℕ) (u : Forest Named) → punch_from test i u ≡ punch (drop i ms) u
-  punch-marked i nil = refl
-  punch-marked i (cons l c s) =
+  punch_marked : (i : ℕ) (u : Forest Named) → punch_from test i u ≡ punch (drop i ms) u
+  punch_marked i nil = refl
+  punch_marked i (cons l c s) =
       let below : punch_from test (suc i) c ≡ punch (rest (drop i ms)) c =
-      punch-marked (suc i) c ∙ ap (λ (ns : Marks). punch ns c) (sym (rest_drop ms i ∙ ap (λ (k : ℕ). drop k ms) (add-one i))) in
+      punch_marked (suc i) c ∙ ap (λ (ns : Marks). punch ns c) (sym (rest_drop ms i ∙ ap (λ (k : ℕ). drop k ms) (add-one i))) in
       let later : punch_from test (suc i + size c) s ≡ punch (drop (size c) (rest (drop i ms))) s =
-      punch-marked (suc i + size c) s
+      punch_marked (suc i + size c) s
       ∙ ap (λ (ns : Marks). punch ns s)
       (sym (ap (drop (size c)) (rest_drop ms i ∙ ap (λ (k : ℕ). drop k ms) (add-one i)) ∙ drop-drop (size c) (suc i) ms)) in
       go (mark (drop i ms)) refl below later
@@ -83,16 +83,16 @@ pub copied_choice : (ms : Marks) (t : NamedTerm) → length ms ≤ max_face_node
 unfolding copied copied_from
 copied_choice ms t few places =
     ap encode
-    (punch-marked (marked (mask_of max_face_nodes ms)) ms (λ i. marked_left ms i few)
+    (punch_marked (marked (mask_of max_face_nodes ms)) ms (λ i. marked_left ms i few)
     (λ i j e. let small = places i j (mark_some ms i j e) in omega arith) 0 (one t) ∙ sym (punch_one ms t))
 
 -- Each node of terms that stand in a table stands there
 pub node_in : {es : List ℕ} {node to n : ℕ} {u : Forest Named} {t : NamedTerm} → Stands n u t → Spans es node to u
     → (m : ℕ) → m ≡ node + n → TermIn es m t
-node_in {es} {node} {t} here h m e = let same : m ≡ node = omega arith in subst (λ (k : ℕ). TermIn es k t) (sym same) (span-first h)
-node_in {es} {node} (below g) h m e = node_in g (term-below (span-first h) (size_in (at es node)) refl) m (omega arith)
+node_in {es} {node} {t} here h m e = let same : m ≡ node = omega arith in subst (λ (k : ℕ). TermIn es k t) (sym same) (span_first h)
+node_in {es} {node} (below g) h m e = node_in g (term_below (span_first h) (size_in (at es node)) refl) m (omega arith)
 node_in {es} {node} (beside g d) h m e =
-    node_in g (span-later h (size_in (at es node)) refl) m (omega (arith, term-size (span-first h)))
+    node_in g (span_later h (size_in (at es node)) refl) m (omega (arith, term_size (span_first h)))
 
 -- and so does each term of a problem's expressions
 pub expression_in : (p : Problem) → WithinLimits p → (n : ℕ) (t : NamedTerm) → node_at n (named_expressions p) ≡ some t
@@ -102,7 +102,7 @@ expression_in p w n t e = node_in (node_stands n (named_expressions p) t e) whol
   where
     whole : Spans (tokens [] (named_expressions p)) 0 (size (named_expressions p)) (named_expressions p)
     whole =
-        let room = expressions-room p w in
+        let room = expressions_room p w in
         record {
           levels = max_depth;
           scope = [];

@@ -17,9 +17,9 @@ use Rattle.bodies.specs.Marked.{marked}
 use Rattle.copying.specs.Fixed.{NodeRoom, NodeWrote, Wrote, a_hole, fixed_in, head_in}
 use Rattle.copying.specs.Copied.{Copied, CopiedTerm, CopiedTerms, Copyable, TermCopyable, TermsCopyable, Spans, TermIn, copied, copied_from}
 use Rattle.copying.proofs.FixedLaws.{head_length, hole_length}
-use Rattle.copying.proofs.WriteLaws.{Part, headed, part_begins, part-ends, part-goes, part-long}
-use Rattle.copying.proofs.CopiedBytes.{copied_none, first-bytes, hole-bytes}
-use Rattle.copying.proofs.SpanLaws.{span-first, span-later, span_none, term-below, term_bytes, term_long, term-size}
+use Rattle.copying.proofs.WriteLaws.{Part, headed, part_begins, part_ends, part_goes, part_long}
+use Rattle.copying.proofs.CopiedBytes.{copied_none, first_bytes, hole_bytes}
+use Rattle.copying.proofs.SpanLaws.{span_first, span_later, span_none, term_below, term_bytes, term_long, term_size}
 
 -- Numbers of nodes, counted from the copied term's
 next_node : (from node : ℕ) → from ≤ node → node + 1 - from ≡ suc (node - from)
@@ -27,12 +27,12 @@ next_node from node h = omega arith
 
 later_node : {es : List ℕ} {node : ℕ} {t : NamedTerm} (from m : ℕ) → TermIn es node t → from ≤ node → m ≡ size_in (at es node)
     → node + m - from ≡ suc (node - from) + size t.1
-later_node from m there h is_m = omega (arith, term-size there)
+later_node from m there h is_m = omega (arith, term_size there)
 
 -- `copy_term`
 module _ {es : List ℕ} {from mask node room : ℕ} (h : TermCopyable es from mask node room) where
-  pub hole-room : marked mask (node - from) ≡ true → 3 ≤ room
-  hole-room e = omega (arith, h.fits, ap length (hole-bytes mask (node - from) h.term.0 h.term.1 e), hole_length)
+  pub hole_room : marked mask (node - from) ≡ true → 3 ≤ room
+  hole_room e = omega (arith, h.fits, ap length (hole_bytes mask (node - from) h.term.0 h.term.1 e), hole_length)
 
   module _ (e : marked mask (node - from) ≡ false) where
     long : length (copied_from mask (node - from) (one h.term))
@@ -44,7 +44,7 @@ module _ {es : List ℕ} {from mask node room : ℕ} (h : TermCopyable es from m
 
     module _ {m : ℕ} (is_m : m ≡ size_in (at es node)) where
       pub inner_less : 2 * (node + m - (node + 1)) + 1 < 2 * size_in (at es node)
-      inner_less = omega (arith, term-size h.there)
+      inner_less = omega (arith, term_size h.there)
 
       pub inner_copies : {f : ℕ} (o : Bytes) → length o ≡ room → f ≡ length (fixed_in (at es node))
           → TermsCopyable es from mask (node + 1) (node + m) (length (take (length o - (3 + f)) (drop (3 + f) o)))
@@ -52,7 +52,7 @@ module _ {es : List ℕ} {from mask node room : ℕ} (h : TermCopyable es from m
           let n = inner_room is_f in
           record {
             terms = h.term.1;
-            there = term-below h.there m is_m;
+            there = term_below h.there m is_m;
             begins = omega (arith, h.begins);
             fits = omega (arith, long, h.fits, part_length (3 + f) (length o) o (omega arith) (omega arith));
             short = omega (arith, long, h.short);
@@ -61,12 +61,12 @@ module _ {es : List ℕ} {from mask node room : ℕ} (h : TermCopyable es from m
       pub node_room : {x y : Bytes} {n : ℕ} (p : Bytes) → length p ≡ room → CopiedTerms es from mask (node + 1) (node + m) x y n
           → NodeRoom (at es node) n p
       node_room p same w =
-          let k = (w.wrote h.term.1 (term-below h.there m is_m)).0 in
+          let k = (w.wrote h.term.1 (term_below h.there m is_m)).0 in
           record { room = omega (arith, long, h.fits); counted = omega (arith, long, h.short) }
 
 pub term_hole : {es : List ℕ} {from mask node r : ℕ} {o o' : Bytes} → marked mask (node - from) ≡ true → Wrote a_hole o o' r
     → CopiedTerm es from mask node o o' r
-term_hole {from} {mask} {node} e w = record { wrote = λ t there. rw (hole-bytes mask (node - from) t.0 t.1 e) w }
+term_hole {from} {mask} {node} e w = record { wrote = λ t there. rw (hole_bytes mask (node - from) t.0 t.1 e) w }
 
 pub term_copied : {es : List ℕ} {from mask node f m n r : ℕ} {o o' y : Bytes} → from ≤ node → marked mask (node - from) ≡ false
     → f ≡ length (fixed_in (at es node)) → m ≡ size_in (at es node) → 3 + f ≤ length o
@@ -78,7 +78,7 @@ term_copied {es} {from} {mask} {node} {f} {m} {n} {r} {o} {o'} {y} begins e is_f
     go t there =
         let b : Bytes = copied_from mask (suc (node - from)) t.1 in
         let v : Wrote b (take (length o - (3 + f)) (drop (3 + f) o)) y n =
-        rw (next_node from node begins) at (inner.wrote t.1 (term-below there m is_m)) in
+        rw (next_node from node begins) at (inner.wrote t.1 (term_below there m is_m)) in
         rw (term_bytes there mask (node - from) e, ← v.0)
         (headed (head_in (at es node) n) b o y o' (3 + f) n r (rw is_f (head_length (at es node) n)) room v (rw is_f w.0)
         (w.1 ∙ rw is_f))
@@ -98,9 +98,9 @@ first_of {from} {node} mask m (cons l c s) h begins more is_m =
     record {
       term = (l, c);
       later = s;
-      there = span-first h;
-      later_there = span-later h m is_m;
-      bytes = rw (later_node from m (span-first h) begins is_m) (first-bytes mask (node - from) l c s);
+      there = span_first h;
+      later_there = span_later h m is_m;
+      bytes = rw (later_node from m (span_first h) begins is_m) (first_bytes mask (node - from) l c s);
     }
 
 -- Where its loop stands: of the terms u those in `rest` are left
@@ -123,13 +123,13 @@ copying_begins =
     }
 
 module _ {es : List ℕ} {from mask node to next n : ℕ} {before out : Bytes} (w : Copying es from mask node to next n before out) where
-  pub copying-ends : to ≤ next → CopiedTerms es from mask node to before out n
-  copying-ends h = record { wrote = go }
+  pub copying_ends : to ≤ next → CopiedTerms es from mask node to before out n
+  copying_ends h = record { wrote = go }
     where
       go : (u : Forest Named) → Spans es node to u → Wrote (copied_from mask (node - from) u) before out n
       go u there =
           let l = w.written u there in
-          part-ends l.part
+          part_ends l.part
           (ap (copied_from mask (next - from)) (span_none l.rest l.there h) ∙ copied_none mask (next - from))
 
   module _ (h : TermsCopyable es from mask node to (length before)) where
@@ -137,7 +137,7 @@ module _ {es : List ℕ} {from mask node to next n : ℕ} {before out : Bytes} (
     left = w.written h.terms h.there
 
     pub written_inside : n ≤ length out
-    written_inside = omega (arith, part-long left.part, h.fits, w.same)
+    written_inside = omega (arith, part_long left.part, h.fits, w.same)
 
     module _ (more : next < to) where
       next_begins : from ≤ next
@@ -151,14 +151,14 @@ module _ {es : List ℕ} {from mask node to next n : ℕ} {before out : Bytes} (
       next_long =
           omega (
             arith,
-            part-long left.part,
+            part_long left.part,
             ap length next_term.bytes,
             length-append (copied_from mask (next - from) (one next_term.term))
                 (copied_from mask (next + size_in (at es next) - from) next_term.later),
           )
 
       pub next_nodes : (1 ≤ size_in (at es next)) × (next + size_in (at es next) ≤ to)
-      next_nodes = (omega (arith, term-size next_term.there), omega (arith, next_term.later_there.ends))
+      next_nodes = (omega (arith, term_size next_term.there), omega (arith, next_term.later_there.ends))
 
       pub next_less : 2 * size_in (at es next) < 2 * (to - node) + 1
       next_less = omega (arith, next_nodes, w.begins)
@@ -194,7 +194,7 @@ module _ {es : List ℕ} {from mask node to next n : ℕ} {before out : Bytes} (
                 record {
                   rest = f.later;
                   there = f.later_there;
-                  part = part-goes l.part (copied_from mask (next - from) (one f.term))
+                  part = part_goes l.part (copied_from mask (next - from) (one f.term))
                       (copied_from mask (next + m - from) f.later) f.bytes (one_more.wrote f.term f.there);
                 }
 

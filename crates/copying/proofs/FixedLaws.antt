@@ -16,7 +16,7 @@ use Rattle.meaning.specs.Readable.{NodeFits}
 use Rattle.meaning.proofs.ByteLaws.{by_width, narrow_two, wide_four}
 use Rattle.tokens.specs.Token.{tag_in, payload_in, level_of, payload_of}
 use Rattle.tokens.specs.Key.{lower_half, upper_half}
-use Rattle.tokens.proofs.ProblemTokens.{token_at, tag_at, payload-at}
+use Rattle.tokens.proofs.ProblemTokens.{token_at, tag_at, payload_at}
 use Rattle.copying.specs.Fixed.{number_in, numbers_in, fixed_in, head_in, a_hole}
 
 -- The fixed part by the tag
@@ -25,17 +25,17 @@ module _ (x g : ℕ) (is-tag : g ≡ tag_in x) where
   unfolding fixed_in
   fixed_symbol e = let t : tag_in x ≡ 1 = sym is-tag ∙ e in rw t
 
-  pub fixed-variable : g ≡ 2 → fixed_in x ≡ number_in x
+  pub fixed_variable : g ≡ 2 → fixed_in x ≡ number_in x
   unfolding fixed_in
-  fixed-variable e = let t : tag_in x ≡ 2 = sym is-tag ∙ e in rw t
+  fixed_variable e = let t : tag_in x ≡ 2 = sym is-tag ∙ e in rw t
 
-  pub fixed-binder : g ≡ 4 → fixed_in x ≡ numbers_in x
+  pub fixed_binder : g ≡ 4 → fixed_in x ≡ numbers_in x
   unfolding fixed_in
-  fixed-binder e = let t : tag_in x ≡ 4 = sym is-tag ∙ e in rw t
+  fixed_binder e = let t : tag_in x ≡ 4 = sym is-tag ∙ e in rw t
 
-  pub fixed-none : (g ≡ 1 → ⊥) → (g ≡ 2 → ⊥) → (g ≡ 4 → ⊥) → fixed_in x ≡ []
+  pub fixed_none : (g ≡ 1 → ⊥) → (g ≡ 2 → ⊥) → (g ≡ 4 → ⊥) → fixed_in x ≡ []
   unfolding fixed_in
-  fixed-none a b d = rw (← is-tag) (simp (ne_eqb g 1 a, ne_eqb g 2 b, ne_eqb g 4 d))
+  fixed_none a b d = rw (← is-tag) (simp (ne_eqb g 1 a, ne_eqb g 2 b, ne_eqb g 4 d))
 
 -- How long it is
 pub symbol_long : (x n : ℕ) → fixed_in x ≡ symbol_bytes (payload_in x) → n ≡ payload_in x → length (symbol_bytes n) ≡ length (fixed_in x)
@@ -89,20 +89,20 @@ module _ (sc : List ℕ) (l : Named) (c : Forest Named) where
 
 pub fixed_said : (sc : List ℕ) (l : Named) (c : Forest Named) → Node sc l c → fixed_in (token_at sc l c) ≡ fixed_part l
 unfolding payload_of
-fixed_said sc l c h = go l h.fits (sym (tag_at sc l c h.deep h.small)) (payload-at sc l c h.deep h.small)
+fixed_said sc l c h = go l h.fits (sym (tag_at sc l c h.deep h.small)) (payload_at sc l c h.deep h.small)
   where
     go : (m : Named) → NodeFits in_expression m c → tag_of m ≡ tag_in (token_at sc l c) → payload_in (token_at sc l c) ≡ payload_of sc m
         → fixed_in (token_at sc l c) ≡ fixed_part m
     go (own (symbol n)) f t p = fixed_symbol (token_at sc l c) 1 t refl ∙ ap symbol_bytes p
     go (own (variable x)) f t p =
         let e : (x + 65536 * level_of sc x) % 65536 ≡ x = let small = f.0 in omega arith in
-        fixed-variable (token_at sc l c) 2 t refl ∙ ap (λ (k : ℕ). word (lower_half k)) p ∙ ap word e
+        fixed_variable (token_at sc l c) 2 t refl ∙ ap (λ (k : ℕ). word (lower_half k)) p ∙ ap word e
     go (own (application n)) f t p =
-        fixed-none (token_at sc l c) 3 t (λ e. omega arith) (λ e. omega arith) (λ e. omega arith)
+        fixed_none (token_at sc l c) 3 t (λ e. omega arith) (λ e. omega arith) (λ e. omega arith)
     go (own (binder b x)) f t p =
         let e : (b + 65536 * x) % 65536 ≡ b = let small = f.0 in omega arith in
         let d : (b + 65536 * x) / 65536 ≡ x = let small = f.0 in omega arith in
-        fixed-binder (token_at sc l c) 4 t refl ∙ ap (λ (k : ℕ). word (lower_half k) ++ word (upper_half k)) p
+        fixed_binder (token_at sc l c) 4 t refl ∙ ap (λ (k : ℕ). word (lower_half k) ++ word (upper_half k)) p
         ∙ ap₂ (λ (i j : ℕ). word i ++ word j) e d
     go (slot (metavariable m)) f t p = absurd f.0
     go (slot (function m n)) f t p = absurd f.0

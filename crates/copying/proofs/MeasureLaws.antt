@@ -17,13 +17,13 @@ use Rattle.meaning.proofs.ByteLaws.{field_length}
 use Rattle.tokens.specs.Token.{size_in, tokens}
 use Rattle.tokens.specs.Key.{Inside, at, part}
 use Rattle.tokens.proofs.ProblemTokens.{token_at}
-use Rattle.tokens.proofs.KeyLaws.{stands-part}
+use Rattle.tokens.proofs.KeyLaws.{stands_part}
 use Rattle.bodies.proofs.ClosedLaws.{part_at, part_length}
 use Rattle.copying.specs.Fixed.{fixed_in}
 use Rattle.copying.specs.Copied.{TermIn}
 use Rattle.copying.specs.Measure.{Measurable, TermMeasured, length_at, length_in}
 use Rattle.copying.proofs.FixedLaws.{fixed_said, fixed_short}
-use Rattle.copying.proofs.SpanLaws.{opened, term-inside}
+use Rattle.copying.proofs.SpanLaws.{opened, term_inside}
 
 -- What is left of a list
 abbrev left : List ℕ → ℕ → ℕ
@@ -64,7 +64,7 @@ unfolding length_at length_in
 measured {es} {node} t h =
     let n : length (encode (one t)) + 0 ≡ length (encode (one t)) = omega arith in
     ap length_in
-    (stands-part h.levels in_expression es node h.scope t h.held h.stands ∙ sym (append-nil (tokens h.scope (one t))))
+    (stands_part h.levels in_expression es node h.scope t h.held h.stands ∙ sym (append-nil (tokens h.scope (one t))))
     ∙ length_trees h.levels h.scope (one t) [] h.held.readable h.held.depths h.held.sizes ∙ n
 
 -- The loop's invariant: what is counted and what is left make the whole
@@ -76,19 +76,19 @@ pub record Measuring (es : List ℕ) (node n total i : ℕ) : Type 0 where
 
 pub measure_begins : {es : List ℕ} {node n : ℕ} → Measurable es node → n ≡ size_in (at es node) → Measuring es node n 0 0
 unfolding length_at
-measure_begins h is-n = record { inside = term-inside h.there; is_size = is-n; whole = omega arith; small = omega arith }
+measure_begins h is-n = record { inside = term_inside h.there; is_size = is-n; whole = omega arith; small = omega arith }
 
 module _ {es : List ℕ} {node n total i : ℕ} (w : Measuring es node n total i) where
   long : length (part es node) ≡ n
   long = part_length es node w.inside ∙ sym w.is_size
 
-  pub measure-ends : n ≤ i → TermMeasured es node total
-  measure-ends h = record {
+  pub measure_ends : n ≤ i → TermMeasured es node total
+  measure_ends h = record {
     long = λ t there. omega (arith, w.whole, left_end (part es node) i (omega (arith, long)), measured t there);
   }
 
-  pub measure-goes-on : {f : ℕ} → i < n → f ≡ length (fixed_in (at es (node + i))) → Measuring es node n (total + (3 + f)) (i + 1)
-  measure-goes-on {f} h is_f =
+  pub measure_goes_on : {f : ℕ} → i < n → f ≡ length (fixed_in (at es (node + i))) → Measuring es node n (total + (3 + f)) (i + 1)
+  measure_goes_on {f} h is_f =
       let here : at (part es node) i ≡ at es (node + i) = part_at es node w.inside i (omega (arith, w.is_size)) in
       let next : left (part es node) i ≡ 3 + f + left (part es node) (i + 1) =
       left_next (part es node) i (omega (arith, long))

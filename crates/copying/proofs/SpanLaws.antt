@@ -15,13 +15,13 @@ use Rattle.meaning.specs.Readable.{NodeFits, Readable}
 use Rattle.tokens.specs.Token.{size_in, tag_in, tokens}
 use Rattle.tokens.specs.Key.{Inside, at}
 use Rattle.tokens.proofs.TokenParts.{enter_room, tokens_graft, tokens_length}
-use Rattle.tokens.proofs.ProblemTokens.{token_at, tag_at, size-at}
-use Rattle.tokens.proofs.KeyLaws.{stands-inside}
+use Rattle.tokens.proofs.ProblemTokens.{token_at, tag_at, size_at_lem}
+use Rattle.tokens.proofs.KeyLaws.{stands_inside}
 use Rattle.bodies.specs.Marked.{marked}
 use Rattle.copying.specs.Fixed.{fixed_in, head_in}
 use Rattle.copying.specs.Copied.{Spans, TermIn, copied_from}
 use Rattle.copying.proofs.FixedLaws.{Node, fixed_said, node_headed}
-use Rattle.copying.proofs.CopiedBytes.{node_bytes, node-length}
+use Rattle.copying.proofs.CopiedBytes.{node_bytes, node_length}
 
 -- Below a node of an expression there are expressions
 own_below : (levels : ℕ) (l : Named) (c : Forest Named) → NodeFits in_expression l c → Readable levels (context_below l in_expression) c
@@ -57,31 +57,31 @@ module _ (sc : List ℕ) (l : Named) (c s : Forest Named) where
 
 -- A term at a node
 module _ {es : List ℕ} {node : ℕ} {t : NamedTerm} (h : TermIn es node t) where
-  open-term : Opened h.scope t.0 t.1 nil h.levels
-  open-term = opened h.scope t.0 t.1 nil h.levels h.held.readable h.held.depths h.held.sizes
+  open_term_lem : Opened h.scope t.0 t.1 nil h.levels
+  open_term_lem = opened h.scope t.0 t.1 nil h.levels h.held.readable h.held.depths h.held.sizes
 
-  term-token : at es node ≡ token_at h.scope t.0 t.1
+  term_token : at es node ≡ token_at h.scope t.0 t.1
   unfolding tokens
-  term-token =
+  term_token =
       sym (ap (at es) (add-zero node)) ∙ sym (get_or-drop node es 0 0) ∙ ap (λ (xs : List ℕ). get_or xs 0 0) h.stands.split
 
-  pub term-inside : Inside es node
-  term-inside = stands-inside h.levels in_expression es node h.scope t h.held h.stands
+  pub term_inside : Inside es node
+  term_inside = stands_inside h.levels in_expression es node h.scope t h.held h.stands
 
-  pub term-size : size_in (at es node) ≡ suc (size t.1)
-  term-size = let n = open-term.node in ap size_in term-token ∙ size-at h.scope t.0 t.1 n.deep n.small
+  pub term_size : size_in (at es node) ≡ suc (size t.1)
+  term_size = let n = open_term_lem.node in ap size_in term_token ∙ size_at_lem h.scope t.0 t.1 n.deep n.small
 
-  pub term-tag : tag_in (at es node) ≡ tag_of t.0
-  term-tag = let n = open-term.node in ap tag_in term-token ∙ tag_at h.scope t.0 t.1 n.deep n.small
+  pub term_tag : tag_in (at es node) ≡ tag_of t.0
+  term_tag = let n = open_term_lem.node in ap tag_in term_token ∙ tag_at h.scope t.0 t.1 n.deep n.small
 
-  pub term-fixed : fixed_in (at es node) ≡ fixed_part t.0
-  term-fixed = ap fixed_in term-token ∙ fixed_said h.scope t.0 t.1 open-term.node
+  pub term_fixed : fixed_in (at es node) ≡ fixed_part t.0
+  term_fixed = ap fixed_in term_token ∙ fixed_said h.scope t.0 t.1 open_term_lem.node
 
   -- The terms below it
-  pub term-below : (m : ℕ) → m ≡ size_in (at es node) → Spans es (node + 1) (node + m) t.1
+  pub term_below : (m : ℕ) → m ≡ size_in (at es node) → Spans es (node + 1) (node + m) t.1
   unfolding tokens
-  term-below m is_m =
-      let q = open-term in
+  term_below m is_m =
+      let q = open_term_lem in
       record {
         levels = q.levels_below;
         scope = enter t.0 h.scope;
@@ -91,25 +91,25 @@ module _ {es : List ℕ} {node : ℕ} {t : NamedTerm} (h : TermIn es node t) whe
         after = h.stands.after;
         split = sym (drop-drop 1 node es) ∙ ap (drop 1) h.stands.split
             ∙ ap (λ (xs : List ℕ). xs ++ h.stands.after) (append-nil (tokens (enter t.0 h.scope) t.1));
-        ends = omega (arith, is_m, term-size);
+        ends = omega (arith, is_m, term_size);
       }
 
   -- Its bytes, unless it is a hole: the token's own, and then those below
   module _ (mask i : ℕ) (e : marked mask i ≡ false) where
     pub term_bytes : copied_from mask i (one t)
         ≡ head_in (at es node) (length (copied_from mask (suc i) t.1)) ++ copied_from mask (suc i) t.1
-    term_bytes = node_bytes mask i t.0 t.1 e ∙ node_headed (at es node) t.0 (copied_from mask (suc i) t.1) term-tag term-fixed
+    term_bytes = node_bytes mask i t.0 t.1 e ∙ node_headed (at es node) t.0 (copied_from mask (suc i) t.1) term_tag term_fixed
 
     pub term_long : length (copied_from mask i (one t)) ≡ 3 + length (fixed_in (at es node)) + length (copied_from mask (suc i) t.1)
-    term_long = omega (arith, node-length mask i t.0 t.1 e, ap length term-fixed)
+    term_long = omega (arith, node_length mask i t.0 t.1 e, ap length term_fixed)
 
 -- Terms up to a node: the first, and those after it
 module _ {es : List ℕ} {node to : ℕ} {t : NamedTerm} {s : Forest Named} (h : Spans es node to (graft t s)) where
   open_span : Opened h.scope t.0 t.1 s h.levels
   open_span = opened h.scope t.0 t.1 s h.levels h.readable h.depths h.sizes
 
-  pub span-first : TermIn es node t
-  span-first =
+  pub span_first : TermIn es node t
+  span_first =
       record {
         levels = h.levels;
         scope = h.scope;
@@ -121,10 +121,10 @@ module _ {es : List ℕ} {node to : ℕ} {t : NamedTerm} {s : Forest Named} (h :
         };
       }
 
-  pub span-later : (m : ℕ) → m ≡ size_in (at es node) → Spans es (node + m) to s
-  unfolding span-first
-  span-later m is_m =
-      let n : length (tokens h.scope (one t)) ≡ m = omega (arith, tokens_length h.scope (one t), term-size span-first, is_m) in
+  pub span_later : (m : ℕ) → m ≡ size_in (at es node) → Spans es (node + m) to s
+  unfolding span_first
+  span_later m is_m =
+      let n : length (tokens h.scope (one t)) ≡ m = omega (arith, tokens_length h.scope (one t), term_size span_first, is_m) in
       record {
         levels = h.levels;
         scope = h.scope;
@@ -132,9 +132,9 @@ module _ {es : List ℕ} {node to : ℕ} {t : NamedTerm} {s : Forest Named} (h :
         depths = h.depths;
         sizes = omega (arith, h.sizes);
         after = h.after;
-        split = sym (drop-drop m node es) ∙ ap (drop m) span-first.stands.split
+        split = sym (drop-drop m node es) ∙ ap (drop m) span_first.stands.split
             ∙ drop_at (tokens h.scope (one t)) (tokens h.scope s ++ h.after) m n;
-        ends = omega (arith, h.ends, term-size span-first, is_m);
+        ends = omega (arith, h.ends, term_size span_first, is_m);
       }
 
 -- Up to the node itself there is nothing

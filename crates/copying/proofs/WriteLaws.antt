@@ -43,36 +43,36 @@ words_wrote m n o q y hq hy = rows_joined (word m) (word n) o q y hq hy
 
 -- The returns of `write_symbol`
 module _ (n : ℕ) (o o' : Bytes) where
-  pub narrow-wrote : n < first_wide → o' ≡ word n ++ drop 2 o → o' ≡ symbol_bytes n ++ drop (length (symbol_bytes n)) o
+  pub narrow_wrote : n < first_wide → o' ≡ word n ++ drop 2 o → o' ≡ symbol_bytes n ++ drop (length (symbol_bytes n)) o
   unfolding word
-  narrow-wrote h e = rw (narrow_bytes n h) e
+  narrow_wrote h e = rw (narrow_bytes n h) e
 
-  pub wide-wrote : first_wide ≤ n → o' ≡ (word (n / 65536) ++ word (n % 65536)) ++ drop 4 o
+  pub wide_wrote : first_wide ≤ n → o' ≡ (word (n / 65536) ++ word (n % 65536)) ++ drop 4 o
       → o' ≡ symbol_bytes n ++ drop (length (symbol_bytes n)) o
   unfolding word
-  wide-wrote h e = rw (wide_bytes n h) e
+  wide_wrote h e = rw (wide_bytes n h) e
 
 -- The returns of `write_fixed`
 module _ (x : ℕ) (o o' : Bytes) where
-  fixed-wrote : (bytes : Bytes) → fixed_in x ≡ bytes → o' ≡ bytes ++ drop (length bytes) o → o' ≡ fixed_in x ++ drop (length (fixed_in x)) o
-  fixed-wrote bytes e h = rw e h
+  fixed_wrote : (bytes : Bytes) → fixed_in x ≡ bytes → o' ≡ bytes ++ drop (length bytes) o → o' ≡ fixed_in x ++ drop (length (fixed_in x)) o
+  fixed_wrote bytes e h = rw e h
 
-  pub symbol-wrote : (n : ℕ) → fixed_in x ≡ symbol_bytes (payload_in x) → n ≡ payload_in x
+  pub symbol_wrote : (n : ℕ) → fixed_in x ≡ symbol_bytes (payload_in x) → n ≡ payload_in x
       → o' ≡ symbol_bytes n ++ drop (length (symbol_bytes n)) o → o' ≡ fixed_in x ++ drop (length (fixed_in x)) o
-  symbol-wrote n e p h = fixed-wrote (symbol_bytes n) (e ∙ ap symbol_bytes (sym p)) h
+  symbol_wrote n e p h = fixed_wrote (symbol_bytes n) (e ∙ ap symbol_bytes (sym p)) h
 
-  pub number-wrote : (p : ℕ) → fixed_in x ≡ number_in x → p ≡ payload_in x → o' ≡ word (p % 65536) ++ drop 2 o
+  pub number_wrote : (p : ℕ) → fixed_in x ≡ number_in x → p ≡ payload_in x → o' ≡ word (p % 65536) ++ drop 2 o
       → o' ≡ fixed_in x ++ drop (length (fixed_in x)) o
   unfolding word
-  number-wrote p e q h = fixed-wrote (number_in x) e (rw (← q) h)
+  number_wrote p e q h = fixed_wrote (number_in x) e (rw (← q) h)
 
-  pub numbers-wrote : (p : ℕ) → fixed_in x ≡ numbers_in x → p ≡ payload_in x
+  pub numbers_wrote : (p : ℕ) → fixed_in x ≡ numbers_in x → p ≡ payload_in x
       → o' ≡ (word (p % 65536) ++ word (p / 65536)) ++ drop 4 o → o' ≡ fixed_in x ++ drop (length (fixed_in x)) o
   unfolding word
-  numbers-wrote p e q h = fixed-wrote (numbers_in x) e (rw (← q) h)
+  numbers_wrote p e q h = fixed_wrote (numbers_in x) e (rw (← q) h)
 
-  pub none-wrote : fixed_in x ≡ [] → o' ≡ o → o' ≡ fixed_in x ++ drop (length (fixed_in x)) o
-  none-wrote e h = fixed-wrote [] e h
+  pub none_wrote : fixed_in x ≡ [] → o' ≡ o → o' ≡ fixed_in x ++ drop (length (fixed_in x)) o
+  none_wrote e h = fixed_wrote [] e h
 
 -- The return of `write_node`
 pub node_wrote : (x n f g : ℕ) (o p y : Bytes) → f ≡ length (fixed_in x) → g ≡ tag_in x → p ≡ g ∷ (word (f + n) ++ drop 3 o)
@@ -114,15 +114,15 @@ pub part_begins : {bytes before : Bytes} → Part bytes bytes 0 before before
 part_begins = record { done = []; whole = refl; wrote = (refl, refl) }
 
 module _ {bytes rest : Bytes} {n : ℕ} {before out : Bytes} (p : Part bytes rest n before out) where
-  pub part-long : n + length rest ≡ length bytes
-  part-long = omega (arith, p.wrote.0, ap length p.whole, length-append p.done rest)
+  pub part_long : n + length rest ≡ length bytes
+  part_long = omega (arith, p.wrote.0, ap length p.whole, length-append p.done rest)
 
-  pub part-ends : rest ≡ [] → Wrote bytes before out n
-  part-ends e = rw (p.whole, e, append-nil p.done) p.wrote
+  pub part_ends : rest ≡ [] → Wrote bytes before out n
+  part_ends e = rw (p.whole, e, append-nil p.done) p.wrote
 
-  pub part-goes : {x : Bytes} {k : ℕ} (next later : Bytes) → rest ≡ next ++ later
+  pub part_goes : {x : Bytes} {k : ℕ} (next later : Bytes) → rest ≡ next ++ later
       → Wrote next (take (length out - n) (drop n out)) x k → Part bytes later (n + k) before (put_mid n (length out - n) out x)
-  part-goes {x} {k} next later e w =
+  part_goes {x} {k} next later e w =
       record {
         done = p.done ++ next;
         whole = p.whole ∙ rw e (sym (append_assoc p.done next later));

@@ -1,5 +1,7 @@
 // Copies terms out of the table of expressions as bytes: "Bodies and values are copied from the problem with its bound names, lengths made
 // right inside out". The tail of the buffer is lent on to the inner terms' writer, then the head is written before what it wrote.
+#![tactic(auto)]
+
 ghost use Rattle.std.specs.Prelude.{◌≡◌, ◌<◌, ◌≤◌, ◌∷◌, ◌++◌, length, drop};
 ghost use Rattle.masks.specs.Sets.{mask};
 ghost use Rattle.meaning.specs.Field.{symbol_bytes, word};

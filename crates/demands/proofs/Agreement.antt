@@ -63,30 +63,30 @@ module _ (ks : List Source) (d : Source) (a : Agreeing ks) (t : T (agrees_with (
   abbrev FirstSame : Source → Type 0
   FirstSame e = (s : Source) × (lookup e.number (ks ++ (d ∷ [])) ≡ some s) × (s.term ≡ e.term)
 
-  old-same : (e : Source) → e ∈ ks → FirstSame e
-  old-same e q = let (s, l, w) = a.same e q in (s, lookup_earlier e.number ks (d ∷ []) s l, w)
+  old_same : (e : Source) → e ∈ ks → FirstSame e
+  old_same e q = let (s, l, w) = a.same e q in (s, lookup_earlier e.number ks (d ∷ []) s l, w)
 
-  new-same : (lookup d.number ks ≡ none) ⊎ ((s : Source) × (lookup d.number ks ≡ some s)) → FirstSame d
-  new-same (inl n) = (d, lookup_later d.number ks (d ∷ []) n ∙ lookup_own d [], refl)
-  new-same (inr (s, e)) = (s, lookup_earlier d.number ks (d ∷ []) s e, later_same (lookup d.number ks) d s t e)
+  new_same : (lookup d.number ks ≡ none) ⊎ ((s : Source) × (lookup d.number ks ≡ some s)) → FirstSame d
+  new_same (inl n) = (d, lookup_later d.number ks (d ∷ []) n ∙ lookup_own d [], refl)
+  new_same (inr (s, e)) = (s, lookup_earlier d.number ks (d ∷ []) s e, later_same (lookup d.number ks) d s t e)
 
-  more-closed : (m : ℕ) (s : Source) → lookup m (ks ++ (d ∷ [])) ≡ some s → (lookup m ks ≡ none) ⊎ ((k : Source) × (lookup m ks ≡ some k))
+  more_closed : (m : ℕ) (s : Source) → lookup m (ks ++ (d ∷ [])) ≡ some s → (lookup m ks ≡ none) ⊎ ((k : Source) × (lookup m ks ≡ some k))
       → ClosedTerm s.term
-  more-closed m s e (inl n) =
+  more_closed m s e (inl n) =
       let (own, number) = lookup_only m d s (sym (lookup_later m ks (d ∷ []) n) ∙ e) in
       subst (λ (x : Source). ClosedTerm x.term) (sym own)
       (first_closed (lookup d.number ks) d t (sym (ap (λ (x : ℕ). lookup x ks) number) ∙ n))
-  more-closed m s e (inr (k, l)) =
+  more_closed m s e (inr (k, l)) =
       let w : some k ≡ some s = sym (lookup_earlier m ks (d ∷ []) k l) ∙ e in
       let q : k ≡ s = cc in
       a.closed m s (l ∙ ap some q)
 
-  agreeing-more : Agreeing (ks ++ (d ∷ []))
-  agreeing-more = record {
+  agreeing_more : Agreeing (ks ++ (d ∷ []))
+  agreeing_more = record {
     same = λ e q.
-        ⊎_elim (old-same e) (λ i. subst FirstSame (sym (Memᴰ.eq_of_singleton i)) (new-same (lookup_cases d.number ks)))
+        ⊎_elim (old_same e) (λ i. subst FirstSame (sym (Memᴰ.eq_of_singleton i)) (new_same (lookup_cases d.number ks)))
         (Memᴰ.append_cases ks q);
-    closed = λ m s e. more-closed m s e (lookup_cases m ks);
+    closed = λ m s e. more_closed m s e (lookup_cases m ks);
   }
 
 agreeing_test : (ks : List Source) (d : Source) (ds : List Source) → Agreeing (ks ++ (d ∷ ds)) → T (agrees_with (lookup d.number ks) d)
@@ -110,7 +110,7 @@ agree_out : (ks ds : List Source) → Agreeing ks → T (agree_after ks ds) → 
 agree_out ks [] a t = subst Agreeing (sym (append-nil ks)) a
 agree_out ks (d ∷ ds) a t =
     let (here, later) = and_T (agrees_with (lookup d.number ks) d) (agree_after (ks ++ (d ∷ [])) ds) t in
-    subst Agreeing (append_assoc ks (d ∷ []) ds) (agree_out (ks ++ (d ∷ [])) ds (agreeing-more ks d a here) later)
+    subst Agreeing (append_assoc ks (d ∷ []) ds) (agree_out (ks ++ (d ∷ [])) ds (agreeing_more ks d a here) later)
 
 none_agreeing : Agreeing []
 none_agreeing = record { same = λ d q. absurd (Memᴰ.not-nil q); closed = λ m s q. never (cc) }

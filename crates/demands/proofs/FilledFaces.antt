@@ -11,14 +11,14 @@ use Rattle.meaning.specs.Face.{Face, walk_of}
 use Rattle.meaning.specs.Value.{source_at, source_of}
 use Rattle.meaning.specs.Agree.{Satisfied}
 use Rattle.meaning.proofs.Lists.{all_mem, mem_all, join_in, join_out}
-use Rattle.meaning.proofs.Lockstep.{walk-in, walk-out}
+use Rattle.meaning.proofs.Lockstep.{walk_in, walk_out}
 use Rattle.meaning.proofs.Proper.{Proper}
-use Rattle.meaning.proofs.Slots.{slot_application, faced-slot, faced-expression, faced-shape, faced-applied}
+use Rattle.meaning.proofs.Slots.{slot_application, faced_slot, faced_expression, faced_shape, faced_applied}
 use Rattle.demands.specs.Demand.{each_some, slot_lowest, lowest_in}
 use Rattle.demands.specs.Fit.{Suits}
-use Rattle.demands.proofs.SlotKinds.{NoHole, pattern-face}
+use Rattle.demands.proofs.SlotKinds.{NoHole, pattern_face}
 use Rattle.demands.proofs.Answers.{each-some-in, each-some-out, all-each, each_all}
-use Rattle.demands.proofs.Holding.{Holds, slot-holds, holds-slot, filled_arguments, application_in, application_out}
+use Rattle.demands.proofs.Holding.{Holds, slot_holds, holds_slot, filled_arguments, application_in, application_out}
 
 module _ (p : Problem) (c : Proper p) (xs : List Face) (defined : walk_of p ≡ some xs) (σ : Filling) (b : ℕ → Term)
     (agree : (f : ℕ) → f ∈ applied (patterns p) → σ f ≡ body (b f)) where
@@ -26,10 +26,10 @@ module _ (p : Problem) (c : Proper p) (xs : List Face) (defined : walk_of p ≡ 
   abbrev filled_as : Face → Slot → Term
   filled_as x z = fill_handler σ x.under z (fill (fill_handler σ) x.under x.children)
 
-  filled-application : (f n : ℕ) (x : Face) → x ∈ xs → x.what ≡ function f n
+  filled_application : (f n : ℕ) (x : Face) → x ∈ xs → x.what ≡ function f n
       → plug (filled_arguments σ x) (b f) ≡ filled_as x (function f n)
-  filled-application f n x q e =
-      ap (λ (y : Entry Term). plug (filled_arguments σ x) (body_or f y)) (sym (agree f (faced-applied p c xs defined f n x q e)))
+  filled_application f n x q e =
+      ap (λ (y : Entry Term). plug (filled_arguments σ x) (body_or f y)) (sym (agree f (faced_applied p c xs defined f n x q e)))
 
   -- FROM THE FILLED PATTERNS
   module _ (meets : filled σ (patterns p) ≡ expressions p) where
@@ -37,10 +37,10 @@ module _ (p : Problem) (c : Proper p) (xs : List Face) (defined : walk_of p ≡ 
     satisfied x q z e =
         subst (λ (y : Slot). filled_as x y ≡ x.term) e
         (all_mem (Satisfied (fill_handler σ)) x xs
-        (subst (AllO (Satisfied (fill_handler σ))) defined (walk-in (fill_handler σ) 0 0 (patterns p) (expressions p) meets)) q)
+        (subst (AllO (Satisfied (fill_handler σ))) defined (walk_in (fill_handler σ) 0 0 (patterns p) (expressions p) meets)) q)
 
     plugged : (f n : ℕ) (x : Face) → x ∈ xs → x.what ≡ function f n → plug (filled_arguments σ x) (b f) ≡ x.term
-    plugged f n x q e = filled-application f n x q e ∙ satisfied x q (function f n) e
+    plugged f n x q e = filled_application f n x q e ∙ satisfied x q (function f n) e
 
     pub meets_suits : (f n : ℕ) (x : Face) → x ∈ xs → x.what ≡ function f n → Suits (b f) x.term
     meets_suits f n x q e = (filled_arguments σ x, plugged f n x q e)
@@ -49,14 +49,14 @@ module _ (p : Problem) (c : Proper p) (xs : List Face) (defined : walk_of p ≡ 
     slot_in x q (metavariable m) e = tt
     slot_in x q (hole i) e = tt
     slot_in x q (function f n) e =
-        application_in σ (b f) n x (faced-shape p c xs defined f n x q e).0 (faced-expression p c xs defined x q) (plugged f n x q e)
+        application_in σ (b f) n x (faced_shape p c xs defined f n x q e).0 (faced_expression p c xs defined x q) (plugged f n x q e)
 
     pub meets_demands : AllO (Holds σ) (lowest_in b xs)
     meets_demands =
         join_in (Holds σ) (some (each source_of xs)) (each_some (λ x. slot_lowest b x x.what) xs)
         (all-each (Holds σ) source_of xs
-        (λ x q. slot-holds σ x.what x.under x.node (fill (fill_handler σ) x.under x.children) x.term
-        (faced-expression p c xs defined x q) (satisfied x q x.what refl)))
+        (λ x q. slot_holds σ x.what x.under x.node (fill (fill_handler σ) x.under x.children) x.term
+        (faced_expression p c xs defined x q) (satisfied x q x.what refl)))
         (each-some-in (Holds σ) (λ x. slot_lowest b x x.what) xs (λ x q. slot_in x q x.what refl))
 
   -- FROM THE DEMANDS
@@ -64,21 +64,21 @@ module _ (p : Problem) (c : Proper p) (xs : List Face) (defined : walk_of p ≡ 
       (suits : (f n : ℕ) (x : Face) → x ∈ xs → x.what ≡ function f n → Suits (b f) x.term) where
     slot_out : (x : Face) → x ∈ xs → (z : Slot) → x.what ≡ z → NoHole z → All (Holds σ) (source_at z x.node x.term)
         → AllO (Holds σ) (slot_lowest b x z) → filled_as x z ≡ x.term
-    slot_out x q (metavariable m) e v s a = holds-slot σ m x.under x.node (fill (fill_handler σ) x.under x.children) x.term s
+    slot_out x q (metavariable m) e v s a = holds_slot σ m x.under x.node (fill (fill_handler σ) x.under x.children) x.term s
     slot_out x q (hole i) e v s a = absurd v
     slot_out x q (function f n) e v s a =
-        let (many, arguments) = faced-shape p c xs defined f n x q e in
+        let (many, arguments) = faced_shape p c xs defined f n x q e in
         let is_body : IsBody n (one (b f)) =
-        bodies f n (slot_application (patterns p) f n x.children (faced-slot p c xs defined (function f n) x q e)) in
-        sym (filled-application f n x q e) ∙ application_out σ (b f) n x many arguments is_body (suits f n x q e) a
+        bodies f n (slot_application (patterns p) f n x.children (faced_slot p c xs defined (function f n) x q e)) in
+        sym (filled_application f n x q e) ∙ application_out σ (b f) n x many arguments is_body (suits f n x q e) a
 
     pub demands_meet : AllO (Holds σ) (lowest_in b xs) → filled σ (patterns p) ≡ expressions p
     demands_meet a =
         let (plain, applying) = join_out (Holds σ) (some (each source_of xs)) (each_some (λ x. slot_lowest b x x.what) xs) a in
-        walk-out (fill_handler σ) 0 0 (patterns p) (expressions p)
+        walk_out (fill_handler σ) 0 0 (patterns p) (expressions p)
         (subst (AllO (Satisfied (fill_handler σ))) (sym defined)
         (mem_all (Satisfied (fill_handler σ)) xs
         (λ x q. slot_out x q x.what refl
-        (pattern-face 0 0 (patterns p) (expressions p) xs defined x q c.pattern)
+        (pattern_face 0 0 (patterns p) (expressions p) xs defined x q c.pattern)
         (each_all (Holds σ) source_of xs plain x q)
         (each-some-out (Holds σ) (λ x. slot_lowest b x x.what) xs applying x q))))

@@ -15,13 +15,13 @@ use Rattle.meaning.specs.Agree.{Satisfied}
 use Rattle.meaning.proofs.Lists.{up_to_mem, mem_up_to, mem_all}
 use Rattle.meaning.proofs.ShiftLaws.{lower_expression}
 use Rattle.meaning.proofs.Renaming.{one_injective}
-use Rattle.meaning.proofs.Lockstep.{walk-out}
+use Rattle.meaning.proofs.Lockstep.{walk_out}
 use Rattle.meaning.proofs.Proper.{IsArgument}
 use Rattle.meaning.proofs.Slots.{faces_expression}
-use Rattle.meaning.proofs.Sources.{value_is, Walked, walked, lowest_is, lowest_there, argument_filled, argument_of}
+use Rattle.meaning.proofs.Sources.{value_is, Walked, walked, lowest_is, lowest_there, argument_filled, argument_of_lem}
 use Rattle.demands.specs.Demand.{each_some, sources_met, lowered, hole_demands, lowest_demand, place_demands, application_lowest}
 use Rattle.demands.specs.Fit.{Suits}
-use Rattle.demands.proofs.SlotKinds.{IsMetavariable, argument-face}
+use Rattle.demands.proofs.SlotKinds.{IsMetavariable, argument_face}
 use Rattle.demands.proofs.Suiting.{Gets, shift_lowered, fill_body}
 use Rattle.demands.proofs.Answers.{each-some-in, each-some-out, then-in, then-out, all-each, each_all}
 
@@ -30,37 +30,37 @@ Holds σ d = σ d.number ≡ value d.term
 
 module _ (σ : Filling) where
   -- One slot against what it faces
-  pub slot-holds : (z : Slot) (k n : ℕ) (c : Terms) (t : Term) → IsExpression (one t) → fill_handler σ k z c ≡ t
+  pub slot_holds : (z : Slot) (k n : ℕ) (c : Terms) (t : Term) → IsExpression (one t) → fill_handler σ k z c ≡ t
       → All (Holds σ) (source_at z n t)
-  slot-holds (metavariable m) k n c t x e = (value_is m (σ m) t x e, tt)
-  slot-holds (function f a) k n c t x e = tt
-  slot-holds (hole i) k n c t x e = tt
+  slot_holds (metavariable m) k n c t x e = (value_is m (σ m) t x e, tt)
+  slot_holds (function f a) k n c t x e = tt
+  slot_holds (hole i) k n c t x e = tt
 
-  pub holds-slot : (m k n : ℕ) (c : Terms) (t : Term) → All (Holds σ) (source_at (metavariable m) n t)
+  pub holds_slot : (m k n : ℕ) (c : Terms) (t : Term) → All (Holds σ) (source_at (metavariable m) n t)
       → fill_handler σ k (metavariable m) c ≡ t
-  holds-slot m k n c t a = ap (value_or m) a.0
+  holds_slot m k n c t a = ap (value_or m) a.0
 
   -- AN ARGUMENT
-  argument-in : (k n : ℕ) (t u : Terms) → IsExpression u → fill (fill_handler σ) k t ≡ u → AllO (Holds σ) (sources_met (walk k n t u))
-  argument-in k n t u x e =
+  argument_in : (k n : ℕ) (t u : Terms) → IsExpression u → fill (fill_handler σ) k t ≡ u → AllO (Holds σ) (sources_met (walk k n t u))
+  argument_in k n t u x e =
       let w : Walked (fill_handler σ) k n t u = walked (fill_handler σ) k n t u e in
       then-in (Holds σ) (walk k n t u) (λ ys. some (each source_of ys)) w.found w.defined
       (all-each (Holds σ) source_of w.found
-      (λ y q. slot-holds y.what y.under y.node (fill (fill_handler σ) y.under y.children) y.term
+      (λ y q. slot_holds y.what y.under y.node (fill (fill_handler σ) y.under y.children) y.term
       (faces_expression k n t u w.found x w.defined y q) (w.satisfied y q)))
 
-  argument-out : (k n : ℕ) (t u : Terms) → IsArgument t → AllO (Holds σ) (sources_met (walk k n t u)) → fill (fill_handler σ) k t ≡ u
-  argument-out k n t u v a =
+  argument_out : (k n : ℕ) (t u : Terms) → IsArgument t → AllO (Holds σ) (sources_met (walk k n t u)) → fill (fill_handler σ) k t ≡ u
+  argument_out k n t u v a =
       let (ys, d, h) = then-out (Holds σ) (walk k n t u) (λ ys. some (each source_of ys)) a in
-      walk-out (fill_handler σ) k n t u
+      walk_out (fill_handler σ) k n t u
       (subst (AllO (Satisfied (fill_handler σ))) (sym d)
       (mem_all (Satisfied (fill_handler σ)) ys
-      (λ y q. at y (argument-face k n t u ys d y q v) (each_all (Holds σ) source_of ys h y q))))
+      (λ y q. at y (argument_face k n t u ys d y q v) (each_all (Holds σ) source_of ys h y q))))
     where
       at : (y : Face) → IsMetavariable y.what → All (Holds σ) (source_of y) → Satisfied (fill_handler σ) y
       at y (m, e) h =
           subst (λ (z : Slot). fill_handler σ y.under z (fill (fill_handler σ) y.under y.children) ≡ y.term) (sym e)
-          (holds-slot m y.under y.node (fill (fill_handler σ) y.under y.children) y.term
+          (holds_slot m y.under y.node (fill (fill_handler σ) y.under y.children) y.term
           (subst (λ (z : Slot). All (Holds σ) (source_at z y.node y.term)) e h))
 
   -- A HOLE
@@ -70,13 +70,13 @@ module _ (σ : Filling) where
       let a : Term = fill_term (fill_handler σ) k t in
       let l : lowered h ≡ some a = shift_lowered a h e in
       then-in (Holds σ) (lowered h) (λ u. sources_met (walk k h.node (one t) (one u))) a l
-      (argument-in k h.node (one t) (one a) (lower_expression h.under h.term a l x) refl)
+      (argument_in k h.node (one t) (one a) (lower_expression h.under h.term a l x) refl)
 
-  hole-out : (k : ℕ) (t : Term) (h : Face) → IsArgument (one t) → AllO (Holds σ) (hole_demands k t h)
+  hole_out : (k : ℕ) (t : Term) (h : Face) → IsArgument (one t) → AllO (Holds σ) (hole_demands k t h)
       → lowered h ≡ some (fill_term (fill_handler σ) k t)
-  hole-out k t h v a =
+  hole_out k t h v a =
       let (u, l, w) = then-out (Holds σ) (lowered h) (λ u. sources_met (walk k h.node (one t) (one u))) a in
-      l ∙ ap some (sym (one_injective (fill_term (fill_handler σ) k t) u (argument-out k h.node (one t) (one u) v w)))
+      l ∙ ap some (sym (one_injective (fill_term (fill_handler σ) k t) u (argument_out k h.node (one t) (one u) v w)))
 
   -- AN APPLICATION of a function with body b, with n arguments
   abbrev pub filled_arguments : Face → ℕ → Term
@@ -130,7 +130,7 @@ module _ (σ : Filling) where
             let lowest : AllO (Holds σ) (hole_demands x.under (argument x.children i) h) =
             subst (λ (o : Option Face). AllO (Holds σ) (lowest_demand x.under (argument x.children i) o)) q (placed i small) in
             let filling : lowered h ≡ some (fill_term (fill_handler σ) x.under (argument x.children i)) =
-            hole-out x.under (argument x.children i) h (argument_of x.children i v (fewer i small)) lowest in
+            hole_out x.under (argument x.children i) h (argument_of_lem x.children i v (fewer i small)) lowest in
             let given : lowered h ≡ some (a i) = shift_lowered (a i) h (subst (Gets a h) z (w.satisfied h m)) in
             filled_is i small ∙ (cc (filling, given))
 

@@ -27,8 +27,8 @@ abbrev pub Unmarked : ℕ → Marks → Type 0
 Unmarked n ms = (k : ℕ) → k < n → get_elem? ms k ≡ some none
 
 module _ (i j n : ℕ) (ms : Marks) (low : LowestMark i j ms) where
-  lowest-drop : n ≤ j → LowestMark i (j - n) (drop n ms)
-  lowest-drop h = record {
+  lowest_drop : n ≤ j → LowestMark i (j - n) (drop n ms)
+  lowest_drop h = record {
     marked = at_drop n ms (j - n) ∙ ap (get_elem? ms) (let e : n + (j - n) ≡ j = omega arith in e) ∙ low.marked;
     before = λ k l. at_drop n ms k ∙ low.before (n + k) (omega arith);
   }
@@ -72,8 +72,8 @@ pub record HoleAt (i j k n : ℕ) (e : Terms) (hs : List Face) : Type 0 where
 -- One node on: the hole is below the node, or beside it
 module _ (i j k n : ℕ) (o : Own Variable (Unit {0})) (t : Nameless) (d r : Terms) (hs inside later : List Face) (agree : T (agrees o t))
     (whole : hs ≡ inside ++ later) where
-  hole-below : HoleAt i j (inner (own o) k) (suc n) d inside → HoleAt i (suc j) k n (cons t d r) hs
-  hole-below h =
+  hole_below : HoleAt i j (inner (own o) k) (suc n) d inside → HoleAt i (suc j) k n (cons t d r) hs
+  hole_below h =
       let small : j < size d = stands_size (node_stands j d h.face.term h.is_term) in
       let number : h.face.node ≡ suc n + j = h.is_node in
       record {
@@ -86,8 +86,8 @@ module _ (i j k n : ℕ) (o : Own Variable (Unit {0})) (t : Nameless) (d r : Ter
             ∙ sym (choose_true (binders_above (inner t k) j d) (binders_above k (j - size d) r) (ltb_yes j (size d) small));
       }
 
-  hole-beside : inside ≡ [] → size d ≤ j → HoleAt i (j - size d) k (suc n + size d) r later → HoleAt i (suc j) k n (cons t d r) hs
-  hole-beside empty large h =
+  hole_beside : inside ≡ [] → size d ≤ j → HoleAt i (j - size d) k (suc n + size d) r later → HoleAt i (suc j) k n (cons t d r) hs
+  hole_beside empty large h =
       let number : h.face.node ≡ suc n + size d + (j - size d) = h.is_node in
       record {
         face = h.face;
@@ -125,14 +125,14 @@ lowest_at i (suc j) k n (none ∷ ms) (cons (own o) c s) (cons t d r) hs x h l w
     let low : LowestMark i j ms = record { marked = l.marked; before = λ a q. l.before (suc a) (omega arith) } in
     elim (dec_lt j (size c)) [
       | yes a ↦
-          hole-below i j k n o t d r hs y.inside y.later y.agree y.whole
+          hole_below i j k n o t d r hs y.inside y.later y.agree y.whole
           (lowest_at i j (inner (own o) k) (suc n) ms c d y.inside x.1 a low y.are_inside)
       | no a ↦
           let (empty, same) =
           unmarked_walk (inner (own o) k) (suc n) ms c d y.inside x.1 (λ b q. low.before b (omega arith)) y.are_inside in
-          hole-beside i j k n o t d r hs y.inside y.later y.agree y.whole empty (omega arith)
+          hole_beside i j k n o t d r hs y.inside y.later y.agree y.whole empty (omega arith)
           (lowest_at i (j - size d) k (suc n + size d) (drop (size c) ms) s r y.later x.2 (omega arith)
-          (subst (λ (b : ℕ). LowestMark i (j - b) (drop (size c) ms)) same (lowest-drop i j (size c) ms low (omega arith))) y.are_later)
+          (subst (λ (b : ℕ). LowestMark i (j - b) (drop (size c) ms)) same (lowest_drop i j (size c) ms low (omega arith))) y.are_later)
     ]
 
 -- THE LOWEST HOLE: node j of what is faced, counted from the node that the application faces

@@ -15,7 +15,7 @@ use Rattle.meaning.specs.Value.{Source, source_of, lowest_hole, from_hole, from_
 use Rattle.meaning.specs.Lower.{lower_term}
 use Rattle.meaning.proofs.Lists.{mem_each, each_mem, each_append, up_to_mem}
 use Rattle.meaning.proofs.Proper.{Proper}
-use Rattle.meaning.proofs.Slots.{slots, face_slot, slot_plain, faced-slot, faced-shape}
+use Rattle.meaning.proofs.Slots.{slots, face_slot, slot_plain, faced_slot, faced_shape}
 use Rattle.meaning.proofs.Sources.{source_at_lem}
 
 -- Plain metavariables by slots
@@ -66,19 +66,19 @@ hole_plain k t (some h) s q = go (lower_term h.under h.term) q
 
 -- EVERY SOURCE of a row is one of a metavariable that is no function
 module _ (p : Problem) (c : Proper p) (b : ℕ → Term) (xs : List Face) (defined : walk_of p ≡ some xs) where
-  slot-source-plain : (x : Face) → x ∈ xs → (z : Slot) → x.what ≡ z
+  slot_source_plain : (x : Face) → x ∈ xs → (z : Slot) → x.what ≡ z
       → (s : Source) → s ∈ from_application b x z → s.number ∈ plain (patterns p)
-  slot-source-plain x i (metavariable m) e s q = absurd (Memᴰ.not-nil q)
-  slot-source-plain x i (hole m) e s q = absurd (Memᴰ.not-nil q)
-  slot-source-plain x i (function f n) e s q =
+  slot_source_plain x i (metavariable m) e s q = absurd (Memᴰ.not-nil q)
+  slot_source_plain x i (hole m) e s q = absurd (Memᴰ.not-nil q)
+  slot_source_plain x i (function f n) e s q =
       let lowest : ℕ → Option Face = λ j. lowest_hole j (or_none (walk 0 x.node (one (b f)) (one x.term))) in
       let (j, m, r) = each_mem (λ j. from_hole x.under (argument x.children j) (lowest j)) s (up_to n) q in
-      let small : j < trees x.children = subst (λ (k : ℕ). j < k) (sym (faced-shape p c xs defined f n x i e).0) (up_to_mem n j m) in
-      application_plain (patterns p) f n x.children s.number (faced-slot p c xs defined (function f n) x i e)
+      let small : j < trees x.children = subst (λ (k : ℕ). j < k) (sym (faced_shape p c xs defined f n x i e).0) (up_to_mem n j m) in
+      application_plain (patterns p) f n x.children s.number (faced_slot p c xs defined (function f n) x i e)
       (argument_plain x.children j s.number small (hole_plain x.under (argument x.children j) (lowest j) s r))
 
-  pub source-plain : (s : Source) → s ∈ sources_in b xs → s.number ∈ plain (patterns p)
-  source-plain s q =
+  pub source_plain : (s : Source) → s ∈ sources_in b xs → s.number ∈ plain (patterns p)
+  source_plain s q =
       ⊎_elim (walk_plain 0 0 (patterns p) (expressions p) (some xs) defined s)
-      (λ r. let (x, i, m) = each_mem (λ x. from_application b x x.what) s xs r in slot-source-plain x i x.what refl s m)
+      (λ r. let (x, i, m) = each_mem (λ x. from_application b x x.what) s xs r in slot_source_plain x i x.what refl s m)
       (Memᴰ.append_cases (each source_of xs) q)

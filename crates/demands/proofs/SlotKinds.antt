@@ -47,14 +47,14 @@ pattern_slots (cons (slot (hole i)) c s) h = absurd h.0
 
 -- What holds of every slot holds of every face
 module _ (k n : ℕ) (u e : Terms) (xs : List Face) (found : walk k n u e ≡ some xs) (x : Face) (among : x ∈ xs) where
-  face-has : (P : Slot → Type 0) → All (λ y. P y.0) (slots u) → P x.what
-  face-has P a = all_mem (λ (y : Slot × Terms). P y.0) (x.what, x.children) (slots u) a (face_slot k n u e xs x found among)
+  face_has : (P : Slot → Type 0) → All (λ y. P y.0) (slots u) → P x.what
+  face_has P a = all_mem (λ (y : Slot × Terms). P y.0) (x.what, x.children) (slots u) a (face_slot k n u e xs x found among)
 
-  pub argument-face : IsArgument u → IsMetavariable x.what
-  argument-face h = face-has IsMetavariable (argument_slots u h)
+  pub argument_face : IsArgument u → IsMetavariable x.what
+  argument_face h = face_has IsMetavariable (argument_slots u h)
 
-  pub body-face : (places : ℕ) → IsBody places u → IsHoleOf places x.what
-  body-face places h = face-has (IsHoleOf places) (body_slots places u h)
+  pub body_face : (places : ℕ) → IsBody places u → IsHoleOf places x.what
+  body_face places h = face_has (IsHoleOf places) (body_slots places u h)
 
-  pub pattern-face : IsPattern u → NoHole x.what
-  pattern-face h = face-has NoHole (pattern_slots u h)
+  pub pattern_face : IsPattern u → NoHole x.what
+  pattern_face h = face_has NoHole (pattern_slots u h)

@@ -16,11 +16,11 @@ use Rattle.meaning.specs.Agree.{Satisfied}
 use Rattle.meaning.proofs.Lists.{mem_all}
 use Rattle.meaning.proofs.ShiftLaws.{lower_shift_term, shift_lower_term}
 use Rattle.meaning.proofs.Renaming.{one_injective}
-use Rattle.meaning.proofs.Lockstep.{walk-out}
+use Rattle.meaning.proofs.Lockstep.{walk_out}
 use Rattle.meaning.proofs.Sources.{Walked, walked, lowest_is, lowest_there}
 use Rattle.demands.specs.Demand.{lowered}
 use Rattle.demands.specs.Fit.{Suits, SuitsWalked}
-use Rattle.demands.proofs.SlotKinds.{IsHoleOf, body-face}
+use Rattle.demands.proofs.SlotKinds.{IsHoleOf, body_face}
 
 abbrev pub Gets : (ℕ → Term) → Face → Slot → Type 0
 Gets a h z = plug_handler a h.under z (fill (plug_handler a) h.under h.children) ≡ h.term
@@ -33,9 +33,9 @@ pub fill_body : (places n : ℕ) (a : ℕ → Term) (b e : Term) (hs : List Face
     → ((h : Face) (i : ℕ) → h ∈ hs → h.what ≡ hole i → i < places → shift_term h.under (a i) ≡ h.term) → plug a b ≡ e
 fill_body places n a b e hs is_body found gets =
     one_injective (plug a b) e
-    (walk-out (plug_handler a) 0 n (one b) (one e)
+    (walk_out (plug_handler a) 0 n (one b) (one e)
     (subst (AllO (Satisfied (plug_handler a))) (sym found)
-    (mem_all (Satisfied (plug_handler a)) hs (λ h q. at h q (body-face 0 n (one b) (one e) hs found h q places is_body)))))
+    (mem_all (Satisfied (plug_handler a)) hs (λ h q. at h q (body_face 0 n (one b) (one e) hs found h q places is_body)))))
   where
     at : (h : Face) → h ∈ hs → IsHoleOf places h.what → Satisfied (plug_handler a) h
     at h q (i, z, small) = subst (Gets a h) (sym z) (gets h i q z small)
@@ -49,8 +49,8 @@ abbrev held_at : List Face → ℕ → Term
 held_at hs i = or_hole i (and_then (lowest_hole i hs) lowered)
 
 module _ (places n : ℕ) (b e : Term) (is_body : IsBody places (one b)) where
-  suits-in : Suits b e → SuitsWalked n b e
-  suits-in (a, q) =
+  suits_in : Suits b e → SuitsWalked n b e
+  suits_in (a, q) =
       let w : Walked (plug_handler a) 0 n (one b) (one e) = walked (plug_handler a) 0 n (one b) (one e) (ap (λ (t : Term). one t) q) in
       record {
         holes = w.found;
@@ -75,5 +75,5 @@ module _ (places n : ℕ) (b e : Term) (is_body : IsBody places (one b)) where
           ap (shift_term h.under) held ∙ shift_lower_term h.under h.term t here
 
   -- SUITING IS TESTED BY A WALK
-  pub suits-walked : Suits b e ↔ SuitsWalked n b e
-  suits-walked = (suits-in, suits_out)
+  pub suits_walked : Suits b e ↔ SuitsWalked n b e
+  suits_walked = (suits_in, suits_out)

@@ -43,8 +43,8 @@ module _ (n : ℕ) (ctx : Context) (no_metavariable : MetavariableAt ctx → ⊥
       ap₂ ◌&&◌ (lt-ltb i n small) (readable_body (suc levels) sc s h.2)
   readable_body (suc levels) sc (cons (slot (hole i)) (cons l d e) s) h = never (cc h.0.2)
 
-  readable-whole : (t : NamedTerm) → Readable max_depth ctx (one t) → is_whole n (nameless_term [] t) ≡ true
-  readable-whole t r =
+  readable_whole : (t : NamedTerm) → Readable max_depth ctx (one t) → is_whole n (nameless_term [] t) ≡ true
+  readable_whole t r =
       ap₂ ◌&&◌ (readable_body max_depth [] (one t) r) (T_true (closed_test 0 (nameless [] (one t)) (nameless_closed [] (one t))))
 
 pub absent_tag : (x : Entry NamedTerm) → eqb (entry_tag x) 0 ≡ is_absent (meant x)
@@ -61,14 +61,14 @@ open_tag (body t) = refl
 
 -- x is what a text says, and its term stands in the table of the text
 module _ (table : List ℕ) (node : ℕ) where
-  pub body-tag : (x : Entry NamedTerm) → EntryAt table node x → eqb (entry_tag x) 9 ≡ is_body_entry 1 (meant x)
-  body-tag absent h = refl
-  body-tag left_open h = refl
-  body-tag (value t) h = refl
-  body-tag (body t) h = sym (readable-whole 1 in_body (λ z. z) (λ z. z) (λ z. omega arith) t h.held.readable)
+  pub body_tag : (x : Entry NamedTerm) → EntryAt table node x → eqb (entry_tag x) 9 ≡ is_body_entry 1 (meant x)
+  body_tag absent h = refl
+  body_tag left_open h = refl
+  body_tag (value t) h = refl
+  body_tag (body t) h = sym (readable_whole 1 in_body (λ z. z) (λ z. z) (λ z. omega arith) t h.held.readable)
 
-  pub value-tag : (x : Entry NamedTerm) → EntryAt table node x → eqb (entry_tag x) 8 || eqb (entry_tag x) 11 ≡ is_value_entry (meant x)
-  value-tag absent h = refl
-  value-tag left_open h = refl
-  value-tag (value t) h = sym (readable-whole 0 in_expression (λ z. z) (λ z. z) (λ z. absurd z) t h.held.readable)
-  value-tag (body t) h = refl
+  pub value_tag : (x : Entry NamedTerm) → EntryAt table node x → eqb (entry_tag x) 8 || eqb (entry_tag x) 11 ≡ is_value_entry (meant x)
+  value_tag absent h = refl
+  value_tag left_open h = refl
+  value_tag (value t) h = sym (readable_whole 0 in_expression (λ z. z) (λ z. z) (λ z. absurd z) t h.held.readable)
+  value_tag (body t) h = refl

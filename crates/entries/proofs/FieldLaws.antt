@@ -11,11 +11,11 @@ use Rattle.meaning.proofs.Lists.{mem_up_to, up_to_mem}
 use Rattle.metavariables.specs.declared.Occurring.{Occurring}
 use Rattle.metavariables.specs.Survey.{has, meets}
 use Rattle.metavariables.proofs.BitLaws.{has_or, every_same}
-use Rattle.metavariables.proofs.SurveyLaws.{meets-code}
+use Rattle.metavariables.proofs.SurveyLaws.{meets_code}
 use Rattle.said.specs.declared.Said.{Said}
 use Rattle.entries.specs.Sets.{SetOf, within}
 use Rattle.entries.specs.Fields.{has_tag, known_at, kinds_at, open_unneeded_at, unneeded_open_at}
-use Rattle.entries.proofs.TestLaws.{every-at}
+use Rattle.entries.proofs.TestLaws.{every_at}
 
 -- A test of each metavariable, in two ways
 each_same : (p q : ℕ → Bool) → ((m : ℕ) → m < metavariable_count → p m ≡ q m)
@@ -40,7 +40,7 @@ within_tests a b q f =
 -- Each metavariable is in the set of all
 all_has : (m : ℕ) → m < metavariable_count → has 4294967295 m ≡ true
 unfolding metavariable_count
-all_has m h = every-at (has 4294967295) (up_to 32) refl m (mem_up_to 32 m h)
+all_has m h = every_at (has 4294967295) (up_to 32) refl m (mem_up_to 32 m h)
 
 module _ (s : Said) where
   abbrev occurs : Occurring → ℕ → Bool
@@ -82,7 +82,7 @@ module _ (s : Said) where
     pub open_returns : opens < 2 ^ 32 → needed < 2 ^ 32 → eqb (bit_and opens needed) 0 ≡ open_unneeded_at s needed
     unfolding open_unneeded_at SetOf meets
     open_returns a b =
-        sym (not-not (eqb (bit_and opens needed) 0)) ∙ ap not (meets-code opens a needed b)
+        sym (not-not (eqb (bit_and opens needed) 0)) ∙ ap not (meets_code opens a needed b)
         ∙ not-not (every (λ m. not (has opens m && has needed m)) (up_to metavariable_count))
         ∙ each_same (λ m. not (has opens m && has needed m)) (λ m. not (has_tag s 11 m && has needed m))
         (λ m h. ap (λ (x : Bool). not (x && has needed m)) (are-open m h))

@@ -53,8 +53,8 @@ module _ {ts : List ℕ} {node end i : ℕ} (w : Looking ts node end i) where
 
 -- A metavariable with its field
 module _ (ts : List ℕ) (s : Said) (m : ℕ) where
-  pub holed-none : (at s.tags m ≡ 9 → ⊥) → false ≡ holed_at ts s m
-  holed-none n = sym (ap (λ (b : Bool). b && any_hole (part ts (at s.nodes m))) (ne_eqb (at s.tags m) 9 n))
+  pub holed_none : (at s.tags m ≡ 9 → ⊥) → false ≡ holed_at ts s m
+  holed_none n = sym (ap (λ (b : Bool). b && any_hole (part ts (at s.nodes m))) (ne_eqb (at s.tags m) 9 n))
 
-  pub holed-body : at s.tags m ≡ 9 → (found : Bool) → found ≡ any_hole (part ts (at s.nodes m)) → found ≡ holed_at ts s m
-  holed-body e found f = f ∙ sym (ap (λ (b : Bool). b && any_hole (part ts (at s.nodes m))) (eq-eqb (at s.tags m) 9 e))
+  pub holed_body : at s.tags m ≡ 9 → (found : Bool) → found ≡ any_hole (part ts (at s.nodes m)) → found ≡ holed_at ts s m
+  holed_body e found f = f ∙ sym (ap (λ (b : Bool). b && any_hole (part ts (at s.nodes m))) (eq-eqb (at s.tags m) 9 e))

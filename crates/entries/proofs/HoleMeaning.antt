@@ -18,8 +18,8 @@ use Rattle.meaning.specs.Solution.{has_hole}
 use Rattle.meaning.specs.Text.{Item, meant}
 use Rattle.tokens.specs.Token.{tag_in, tokens}
 use Rattle.tokens.specs.Key.{at, part, Inside}
-use Rattle.tokens.proofs.KeyLaws.{stands-part, stands-inside}
-use Rattle.tokens.proofs.ProblemTokens.{tag_at, Room, room-depth, room-size, room-below, room-later}
+use Rattle.tokens.proofs.KeyLaws.{stands_part, stands_inside}
+use Rattle.tokens.proofs.ProblemTokens.{tag_at, Room, room_depth, room_size, room_below, room_later}
 use Rattle.said.specs.declared.Said.{Said}
 use Rattle.said.specs.Said.{item_of, entry_tag, EntryAt, SaidBy}
 use Rattle.entries.specs.Holes.{any_hole, Bodied}
@@ -47,10 +47,10 @@ unfolding any_hole tokens
 tokens_hole levels ctx sc nil r m = refl
 tokens_hole zero ctx sc (cons l c s) r m = absurd r
 tokens_hole (suc levels) ctx sc (cons l c s) r m =
-    ap₂ (λ (t : ℕ) (b : Bool). eqb t 10 || b) (tag_at sc l c (room-depth levels sc l c s m) (room-size levels sc l c s m))
+    ap₂ (λ (t : ℕ) (b : Bool). eqb t 10 || b) (tag_at sc l c (room_depth levels sc l c s m) (room_size levels sc l c s m))
     (any_append (tokens (enter l sc) c) (tokens sc s)
-    ∙ ap₂ ◌||◌ (tokens_hole levels (context_below l ctx) (enter l sc) c r.1 (room-below levels sc l c s m))
-    (tokens_hole (suc levels) ctx sc s r.2 (room-later levels sc l c s m)))
+    ∙ ap₂ ◌||◌ (tokens_hole levels (context_below l ctx) (enter l sc) c r.1 (room_below levels sc l c s m))
+    (tokens_hole (suc levels) ctx sc s r.2 (room_later levels sc l c s m)))
     ∙ label_hole ctx sc l c (nameless (enter l sc) c) (nameless sc s) r.0
 
 -- A metavariable m that has an entry whose term stands at a node
@@ -60,7 +60,7 @@ entry_holed ts node m absent h = refl
 entry_holed ts node m left_open h = refl
 entry_holed ts node m (value t) h = refl
 entry_holed ts node m (body t) h =
-    ap any_hole (stands-part max_depth in_body ts node [] t h.held h.stands)
+    ap any_hole (stands_part max_depth in_body ts node [] t h.held h.stands)
     ∙ tokens_hole max_depth in_body [] (one t) h.held.readable (record { depths = h.held.depths; sizes = h.held.sizes })
 
 -- What `holed` asks of a text that was read
@@ -68,7 +68,7 @@ body_inside : (ts : List ℕ) (n : ℕ) (x : Entry NamedTerm) → EntryAt ts n x
 body_inside ts n absent h e = absurd (omega arith)
 body_inside ts n left_open h e = absurd (omega arith)
 body_inside ts n (value t) h e = absurd (omega arith)
-body_inside ts n (body t) h e = stands-inside max_depth in_body ts n [] t h.held h.stands
+body_inside ts n (body t) h e = stands_inside max_depth in_body ts n [] t h.held h.stands
 
 pub said_bodied : (ts : List ℕ) (is : List Item) (s : Said) → SaidBy ts is s → Bodied ts s
 said_bodied ts is s w =

@@ -20,7 +20,7 @@ use Rattle.tokens.specs.Key.{at, part}
 use Rattle.metavariables.specs.declared.Occurring.{Occurring}
 use Rattle.metavariables.specs.Survey.{has, Surveyed}
 use Rattle.metavariables.proofs.BitLaws.{every_same}
-use Rattle.metavariables.proofs.SurveyMeaning.{survey-functions, survey-plain}
+use Rattle.metavariables.proofs.SurveyMeaning.{survey_functions, survey_plain}
 use Rattle.said.specs.declared.Said.{Said}
 use Rattle.said.specs.Said.{item_of, entry_tag, SaidBy}
 use Rattle.said.proofs.SaidLaws.{said_item}
@@ -29,31 +29,31 @@ use Rattle.entries.specs.Fields.{has_tag, known_at, kinds_at, open_unneeded_at, 
 use Rattle.entries.specs.Holes.{any_hole, holed_at}
 use Rattle.entries.specs.Needed.{needed_at}
 use Rattle.entries.proofs.TestLaws.{set_tests}
-use Rattle.entries.proofs.EntryTags.{absent_tag, open_tag, body-tag, value-tag}
-use Rattle.entries.proofs.KnownItems.{known-items}
+use Rattle.entries.proofs.EntryTags.{absent_tag, open_tag, body_tag, value_tag}
+use Rattle.entries.proofs.KnownItems.{known_items}
 use Rattle.entries.proofs.HoleMeaning.{entry_holed}
-use Rattle.entries.proofs.Standings.{needing, needing-plain, needing-needed, needing-every}
-use Rattle.entries.proofs.NeededTokens.{needed-patterns}
+use Rattle.entries.proofs.Standings.{needing, needing_plain, needing_needed, needing_every}
+use Rattle.entries.proofs.NeededTokens.{needed_patterns}
 
 module _ (p : Problem) (a : Accepted p) (ts : List ℕ) (is : List Item) (s : Said) (w : SaidBy ts is s) where
   abbrev entry : ℕ → Entry NamedTerm
   entry m = item_of is m
 
-  tag-says : (kind m : ℕ) → m < metavariable_count → has_tag s kind m ≡ eqb (entry_tag (entry m)) kind
-  tag-says kind m h = ap (λ (t : ℕ). eqb t kind) (w.tags m h)
+  tag_says : (kind m : ℕ) → m < metavariable_count → has_tag s kind m ≡ eqb (entry_tag (entry m)) kind
+  tag_says kind m h = ap (λ (t : ℕ). eqb t kind) (w.tags m h)
 
-  open-says : (m : ℕ) → m < metavariable_count → has_tag s 11 m ≡ is_open (said is m)
-  open-says m h = tag-says 11 m h ∙ open_tag (entry m) ∙ ap is_open (sym (said_item is m))
+  open_says : (m : ℕ) → m < metavariable_count → has_tag s 11 m ≡ is_open (said is m)
+  open_says m h = tag_says 11 m h ∙ open_tag (entry m) ∙ ap is_open (sym (said_item is m))
 
   proper : Proper p
   proper = accepted_proper p a
 
   module _ (o : Occurring) (v : Surveyed (pattern_tokens p) o) where
     functions_are : (m : ℕ) → m < metavariable_count → has o.functions m ≡ is_function p m
-    functions_are = survey-functions p a.within o v
+    functions_are = survey_functions p a.within o v
 
     plain_are : (m : ℕ) → m < metavariable_count → has o.plain m ≡ is_plain p m
-    plain_are = survey-plain p a.within o v
+    plain_are = survey_plain p a.within o v
 
     -- "A wrong .. metavariable is a no"
     pub known_means : known_at s o ≡ known p is
@@ -63,9 +63,9 @@ module _ (p : Problem) (a : Accepted p) (ts : List ℕ) (is : List Item) (s : Sa
         (λ m. is_absent (said is m) || (is_function p m || is_plain p m)) (up_to metavariable_count)
         (λ m i.
         let h : m < metavariable_count = up_to_mem metavariable_count m i in
-        ap₂ ◌||◌ (tag-says 0 m h ∙ absent_tag (entry m) ∙ ap is_absent (sym (said_item is m)))
+        ap₂ ◌||◌ (tag_says 0 m h ∙ absent_tag (entry m) ∙ ap is_absent (sym (said_item is m)))
         (ap₂ ◌||◌ (functions_are m h) (plain_are m h)))
-        ∙ known-items (λ m. is_function p m || is_plain p m) is w.readable
+        ∙ known_items (λ m. is_function p m || is_plain p m) is w.readable
 
     -- "each function metavariable a body, and each other metavariable an expression or nothing (open)"
     pub kinds_means : kinds_at s o ≡ kinds p (said is)
@@ -76,13 +76,13 @@ module _ (p : Problem) (a : Accepted p) (ts : List ℕ) (is : List Item) (s : Sa
         (λ f. is_body_entry (places_of p f) (said is f))
         (λ f i.
         let h : f < metavariable_count = proper.small_applied f i in
-        tag-says 9 f h ∙ body-tag ts (at s.nodes f) (entry f) (w.nodes f h)
+        tag_says 9 f h ∙ body_tag ts (at s.nodes f) (entry f) (w.nodes f h)
         ∙ ap₂ is_body_entry (sym (one_place p a.within f i)) (sym (said_item is f))))
         (set_tests o.plain (plain (patterns p)) proper.small_plain plain_are (λ m. has_tag s 8 m || has_tag s 11 m)
         (λ m. is_value_entry (said is m))
         (λ m i.
         let h : m < metavariable_count = proper.small_plain m i in
-        ap₂ ◌||◌ (tag-says 8 m h) (tag-says 11 m h) ∙ value-tag ts (at s.nodes m) (entry m) (w.nodes m h)
+        ap₂ ◌||◌ (tag_says 8 m h) (tag_says 11 m h) ∙ value_tag ts (at s.nodes m) (entry m) (w.nodes m h)
         ∙ ap is_value_entry (sym (said_item is m))))
 
   -- The functions whose body has a hole
@@ -90,7 +90,7 @@ module _ (p : Problem) (a : Accepted p) (ts : List ℕ) (is : List Item) (s : Sa
     pub holed_means : (f : ℕ) → f < metavariable_count → has holed f ≡ has_hole 0 (one (body_or f (said is f)))
     unfolding SetOf
     holed_means f h =
-        is-holed f h ∙ ap (λ (b : Bool). b && any_hole (part ts (at s.nodes f))) (tag-says 9 f h)
+        is-holed f h ∙ ap (λ (b : Bool). b && any_hole (part ts (at s.nodes f))) (tag_says 9 f h)
         ∙ entry_holed ts (at s.nodes f) f (entry f) (w.nodes f h)
         ∙ ap (λ (e : Entry Term). has_hole 0 (one (body_or f e))) (sym (said_item is f))
 
@@ -101,10 +101,10 @@ module _ (p : Problem) (a : Accepted p) (ts : List ℕ) (is : List Item) (s : Sa
 
       needed_listed : (m : ℕ) → m < metavariable_count → has needed m ≡ is_in m listed
       unfolding SetOf needed_at
-      needed_listed m h = is-needed m h ∙ ap (is_in m) (needed-patterns (said is) holed holed_means p a.within)
+      needed_listed m h = is-needed m h ∙ ap (is_in m) (needed_patterns (said is) holed holed_means p a.within)
 
       pub needed_means : (m : ℕ) → m < metavariable_count → has needed m ≡ is_needed (said is) (standings (patterns p)) m
-      needed_means m h = needed_listed m h ∙ needing-needed (said is) m (standings (patterns p))
+      needed_means m h = needed_listed m h ∙ needing_needed (said is) m (standings (patterns p))
 
       -- "an open metavariable stands only in arguments of functions whose body has no hole"
       pub open_unneeded_means : open_unneeded_at s needed ≡ open_unneeded p (said is)
@@ -113,8 +113,8 @@ module _ (p : Problem) (a : Accepted p) (ts : List ℕ) (is : List Item) (s : Sa
           every_same (λ m. not (has_tag s 11 m && has needed m)) (λ m. not (has needed m) || not (has_tag s 11 m)) (up_to metavariable_count)
           (λ m i. not_and (has_tag s 11 m) (has needed m))
           ∙ set_tests needed listed small needed_listed (λ m. not (has_tag s 11 m)) (λ m. not (is_open (said is m)))
-          (λ m i. ap not (open-says m (small m i)))
-          ∙ needing-every (said is) (λ m. is_open (said is m)) (standings (patterns p))
+          (λ m i. ap not (open_says m (small m i)))
+          ∙ needing_every (said is) (λ m. is_open (said is m)) (standings (patterns p))
         where
           not_and : (x y : Bool) → not (x && y) ≡ not y || not x
           not_and true true = refl
@@ -123,7 +123,7 @@ module _ (p : Problem) (a : Accepted p) (ts : List ℕ) (is : List Item) (s : Sa
           not_and false false = refl
 
           small : (m : ℕ) → m ∈ listed → m < metavariable_count
-          small m i = proper.small_plain m (needing-plain (said is) (patterns p) m i)
+          small m i = proper.small_plain m (needing_plain (said is) (patterns p) m i)
 
       -- "a metavariable that stands only in such arguments is open"
       pub unneeded_open_means : (o : Occurring) → Surveyed (pattern_tokens p) o
@@ -132,4 +132,4 @@ module _ (p : Problem) (a : Accepted p) (ts : List ℕ) (is : List Item) (s : Sa
       unneeded_open_means o v =
           set_tests o.plain (plain (patterns p)) proper.small_plain (plain_are o v) (λ m. has_tag s 11 m || has needed m)
           (λ m. is_open (said is m) || is_needed (said is) (standings (patterns p)) m)
-          (λ m i. let h : m < metavariable_count = proper.small_plain m i in ap₂ ◌||◌ (open-says m h) (needed_means m h))
+          (λ m i. let h : m < metavariable_count = proper.small_plain m i in ap₂ ◌||◌ (open_says m h) (needed_means m h))

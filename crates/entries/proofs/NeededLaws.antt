@@ -22,12 +22,12 @@ use Rattle.entries.specs.Needed.{holeless, needed_from, needed_at}
 
 -- A token that is passed, by its tag and number as the code has them
 module _ (holed x tag : ℕ) (is-tag : tag ≡ tag_in x) where
-  pub holeless-other : (tag ≡ 6 → ⊥) → eqb tag 6 ≡ holeless holed x
-  holeless-other n =
+  pub holeless_other : (tag ≡ 6 → ⊥) → eqb tag 6 ≡ holeless holed x
+  holeless_other n =
       ne_eqb tag 6 n ∙ sym (ap (λ (b : Bool). b && not (has holed (payload_in x))) (ne_eqb (tag_in x) 6 (λ e. n (is-tag ∙ e))))
 
-  pub holeless-function : tag ≡ 6 → (f : ℕ) → f ≡ payload_in x → (found : Bool) → found ≡ has holed f → not found ≡ holeless holed x
-  holeless-function e f is_f found is_found =
+  pub holeless_function : tag ≡ 6 → (f : ℕ) → f ≡ payload_in x → (found : Bool) → found ≡ has holed f → not found ≡ holeless holed x
+  holeless_function e f is_f found is_found =
       ap not (is_found ∙ ap (has holed) is_f)
       ∙ sym (ap (λ (b : Bool). b && not (has holed (payload_in x))) (eq-eqb (tag_in x) 6 (sym is-tag ∙ e)))
 
@@ -43,11 +43,11 @@ module _ (holed : ℕ) where
     unfolding needed_from
     needed_own e = choose_false _ _ e
 
-  pub needed-skip : (k : ℕ) (xs : List ℕ) → needed_from holed k xs ≡ needed_from holed 0 (drop k xs)
+  pub needed_skip : (k : ℕ) (xs : List ℕ) → needed_from holed k xs ≡ needed_from holed 0 (drop k xs)
   unfolding needed_from
-  needed-skip zero xs = refl
-  needed-skip (suc k) [] = refl
-  needed-skip (suc k) (x ∷ xs) = needed-skip k xs
+  needed_skip zero xs = refl
+  needed_skip (suc k) [] = refl
+  needed_skip (suc k) (x ∷ xs) = needed_skip k xs
 
   -- What is left of a list
   abbrev left : List ℕ → ℕ → List ℕ
@@ -60,7 +60,7 @@ module _ (holed : ℕ) where
         let z : suc i + (n - 1) ≡ i + n = omega arith in
         ap (needed_from holed 0) (drop-cons ps i 0 h)
         ∙ needed_passed (at ps i) (drop (suc i) ps) e
-        ∙ needed-skip (n - 1) (drop (suc i) ps)
+        ∙ needed_skip (n - 1) (drop (suc i) ps)
         ∙ ap (needed_from holed 0) (drop-drop (n - 1) (suc i) ps)
         ∙ ap (left ps) z
 

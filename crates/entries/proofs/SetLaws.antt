@@ -18,28 +18,28 @@ use Rattle.masks.proofs.Marks.{marks_at}
 use Rattle.masks.proofs.Nodes.{in_width, nodes_sub}
 use Rattle.metavariables.specs.Survey.{has, Added}
 use Rattle.metavariables.proofs.BitLaws.{has_and, has_none}
-use Rattle.metavariables.proofs.SurveyLaws.{added-in, added_out}
+use Rattle.metavariables.proofs.SurveyLaws.{added_in, added_out}
 use Rattle.entries.specs.Sets.{SetOf, Joined, within}
-use Rattle.entries.proofs.TestLaws.{every-at, at_every, implied}
+use Rattle.entries.proofs.TestLaws.{every_at, at_every, implied}
 
 -- One number more
 module _ (s m : ℕ) where
-  pub joined-no : (test : Bool) → not test ≡ true → Joined s test m s
+  pub joined_no : (test : Bool) → not test ≡ true → Joined s test m s
   unfolding Joined
-  joined-no true e k l = absurd (false≢true e)
-  joined-no false e k l = refl
+  joined_no true e k l = absurd (false≢true e)
+  joined_no false e k l = refl
 
-  joined-added : (test : Bool) (r : ℕ) → not test ≡ false → Added s m r → Joined s test m r
+  joined_added : (test : Bool) (r : ℕ) → not test ≡ false → Added s m r → Joined s test m r
   unfolding Joined Added
-  joined-added true r e a k l = a k l
-  joined-added false r e a k l = absurd (true≢false e)
+  joined_added true r e a k l = a k l
+  joined_added false r e a k l = absurd (true≢false e)
 
   module _ (test : Bool) (e : not test ≡ false) where
     pub joined_in : m < 32 → Joined s test m (bit_or s ((1 * 2 ^ m) % 2 ^ 32))
-    joined_in h = joined-added test _ e (added-in s m h)
+    joined_in h = joined_added test _ e (added_in s m h)
 
     pub joined_out : 32 ≤ m → Joined s test m s
-    joined_out h = joined-added test s e (added_out s m h)
+    joined_out h = joined_added test s e (added_out s m h)
 
 -- No number past the last metavariable is in a set
 pub holds_none : (s m : ℕ) → s < 2 ^ 32 → 32 ≤ m → false ≡ has s m
@@ -65,7 +65,7 @@ subset w a b fits = same_truth _ _ each whole
         let m : ℕ = w - suc k in
         marks_at w b k h
         ∙ implied (has a m) (has b m) (sym (marks_at w a k h) ∙ i)
-        (every-at (λ n. not (has a n) || has b n) (up_to w) e m (mem_up_to w m (omega arith)))
+        (every_at (λ n. not (has a n) || has b n) (up_to w) e m (mem_up_to w m (omega arith)))
 
     whole : every (λ m. not (has a m) || has b m) (up_to w) ≡ true → eqb (bit_and a b) a ≡ true
     whole e = eq-eqb (bit_and a b) a (nodes_sub w a b fits (bit_too e))
@@ -83,9 +83,9 @@ module _ (test : ℕ → Bool) where
   unfolding Gathered
   gathered_none k l = has_none k ∙ sym (ap (λ (b : Bool). b && test k) (le-ltb k 0 (omega arith)))
 
-  pub gathered-more : (i s r : ℕ) (found : Bool) → Gathered test i s → found ≡ test i → Joined s found i r → Gathered test (i + 1) r
+  pub gathered_more : (i s r : ℕ) (found : Bool) → Gathered test i s → found ≡ test i → Joined s found i r → Gathered test (i + 1) r
   unfolding Gathered Joined
-  gathered-more i s r found g f j k l =
+  gathered_more i s r found g f j k l =
       j k l ∙ ap₂ (λ (a b : Bool). (a && eqb k i) || b) f (g k l) ∙ by_test (eqb k i) same other
     where
       alone : (b c : Bool) → (b && true) || (false && c) ≡ true && b
@@ -114,6 +114,6 @@ module _ (test : ℕ → Bool) where
           ap (λ (x : Bool). (test i && x) || (ltb k i && test k)) e ∙ neither (test i) (ltb k i && test k)
           ∙ ap (λ (x : Bool). x && test k) (by_order k i later.0 (λ z. absurd (eqb-false k i e z)) later.1)
 
-  pub gathered-all : (i s : ℕ) → 32 ≤ i → Gathered test i s → SetOf test s
+  pub gathered_all : (i s : ℕ) → 32 ≤ i → Gathered test i s → SetOf test s
   unfolding Gathered SetOf metavariable_count
-  gathered-all i s h g m l = g m l ∙ ap (λ (b : Bool). b && test m) (lt-ltb m i (omega arith))
+  gathered_all i s h g m l = g m l ∙ ap (λ (b : Bool). b && test m) (lt-ltb m i (omega arith))

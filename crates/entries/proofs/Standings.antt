@@ -51,40 +51,40 @@ module _ (σ : Filling) where
   unfoldable pub needing : List Standing → List ℕ
   needing ws = map who (keep needy ws)
 
-  needing-cons : (w : Standing) (ws : List Standing) → needing (w ∷ ws) ≡ choose (needs σ w.1) (w.0 ∷ needing ws) (needing ws)
+  needing_cons : (w : Standing) (ws : List Standing) → needing (w ∷ ws) ≡ choose (needs σ w.1) (w.0 ∷ needing ws) (needing ws)
   unfolding needing
-  needing-cons w ws = go (needs σ w.1)
+  needing_cons w ws = go (needs σ w.1)
     where
       go : (b : Bool)
           → map who (choose b (w ∷ keep needy ws) (keep needy ws)) ≡ choose b (w.0 ∷ map who (keep needy ws)) (map who (keep needy ws))
       go true = refl
       go false = refl
 
-  pub needing-append : (xs ys : List Standing) → needing (xs ++ ys) ≡ needing xs ++ needing ys
+  pub needing_append : (xs ys : List Standing) → needing (xs ++ ys) ≡ needing xs ++ needing ys
   unfolding needing
-  needing-append [] ys = refl
-  needing-append (x ∷ xs) ys =
-      needing-cons x (xs ++ ys) ∙ go (needs σ x.1) (needing-append xs ys)
-      ∙ sym (ap (λ (l : List ℕ). l ++ needing ys) (needing-cons x xs))
+  needing_append [] ys = refl
+  needing_append (x ∷ xs) ys =
+      needing_cons x (xs ++ ys) ∙ go (needs σ x.1) (needing_append xs ys)
+      ∙ sym (ap (λ (l : List ℕ). l ++ needing ys) (needing_cons x xs))
     where
       go : (b : Bool) → needing (xs ++ ys) ≡ needing xs ++ needing ys
           → choose b (x.0 ∷ needing (xs ++ ys)) (needing (xs ++ ys)) ≡ choose b (x.0 ∷ needing xs) (needing xs) ++ needing ys
       go true e = ap (λ (l : List ℕ). x.0 ∷ l) e
       go false e = e
 
-  pub needing-plain : (u : Terms) (m : ℕ) → m ∈ needing (standings u) → m ∈ plain u
+  pub needing_plain : (u : Terms) (m : ℕ) → m ∈ needing (standings u) → m ∈ plain u
   unfolding needing
-  needing-plain u m q =
+  needing_plain u m q =
       let r = map_mem who m (keep needy (standings u)) q in
       let there : r.0 ∈ standings u = (keep_mem needy r.0 (standings u) r.1).0 in
       subst (λ (k : ℕ). k ∈ plain u) (sym r.2) (subst (λ (l : List ℕ). who r.0 ∈ l) (standings_plain u) (mem_map who there))
 
-  pub needing-needed : (m : ℕ) (ws : List Standing) → is_in m (needing ws) ≡ is_needed σ ws m
+  pub needing_needed : (m : ℕ) (ws : List Standing) → is_in m (needing ws) ≡ is_needed σ ws m
   unfolding needing
-  needing-needed m [] = refl
-  needing-needed m (w ∷ ws) =
-      ap (is_in m) (needing-cons w ws)
-      ∙ go (needs σ w.1) (every (λ (x : Standing). not (eqb m x.0 && needs σ x.1)) ws) (needing-needed m ws)
+  needing_needed m [] = refl
+  needing_needed m (w ∷ ws) =
+      ap (is_in m) (needing_cons w ws)
+      ∙ go (needs σ w.1) (every (λ (x : Standing). not (eqb m x.0 && needs σ x.1)) ws) (needing_needed m ws)
     where
       either : (a e : Bool) → a || not e ≡ not (not (a && true) && e)
       either true e = refl
@@ -100,11 +100,11 @@ module _ (σ : Filling) where
       go false e h = h ∙ neither (eqb m w.0) e
 
   -- A test that each of them fails
-  pub needing-every : (q : ℕ → Bool) (ws : List Standing)
+  pub needing_every : (q : ℕ → Bool) (ws : List Standing)
       → every (λ m. not (q m)) (needing ws) ≡ every (λ (w : Standing). not (q w.0 && needs σ w.1)) ws
   unfolding needing
-  needing-every q [] = refl
-  needing-every q (w ∷ ws) = ap (every (λ m. not (q m))) (needing-cons w ws) ∙ go (needs σ w.1) (needing-every q ws)
+  needing_every q [] = refl
+  needing_every q (w ∷ ws) = ap (every (λ m. not (q m))) (needing_cons w ws) ∙ go (needs σ w.1) (needing_every q ws)
     where
       later : Bool
       later = every (λ (x : Standing). not (q x.0 && needs σ x.1)) ws
@@ -119,13 +119,13 @@ module _ (σ : Filling) where
       go false h = h ∙ none (q w.0)
 
   -- All metavariables that stand at one place
-  needing-at : (w : Where) (b : Bool) → needs σ w ≡ b → (ms : List ℕ) → needing (map (λ (m : ℕ). (m, w)) ms) ≡ choose b ms []
+  needing_at : (w : Where) (b : Bool) → needs σ w ≡ b → (ms : List ℕ) → needing (map (λ (m : ℕ). (m, w)) ms) ≡ choose b ms []
   unfolding needing
-  needing-at w true e [] = refl
-  needing-at w false e [] = refl
-  needing-at w true e (m ∷ ms) =
-      needing-cons (m, w) (map (λ (k : ℕ). (k, w)) ms) ∙ choose_true _ _ e ∙ ap (λ (l : List ℕ). m ∷ l) (needing-at w true e ms)
-  needing-at w false e (m ∷ ms) = needing-cons (m, w) (map (λ (k : ℕ). (k, w)) ms) ∙ choose_false _ _ e ∙ needing-at w false e ms
+  needing_at w true e [] = refl
+  needing_at w false e [] = refl
+  needing_at w true e (m ∷ ms) =
+      needing_cons (m, w) (map (λ (k : ℕ). (k, w)) ms) ∙ choose_true _ _ e ∙ ap (λ (l : List ℕ). m ∷ l) (needing_at w true e ms)
+  needing_at w false e (m ∷ ms) = needing_cons (m, w) (map (λ (k : ℕ). (k, w)) ms) ∙ choose_false _ _ e ∙ needing_at w false e ms
 
   -- A function of one place: what stands in its argument needs a value where its body has a hole
   pub one_argument : (f : ℕ) (c : Terms) → trees c ≡ 1
@@ -133,14 +133,14 @@ module _ (σ : Filling) where
   one_argument f nil e = absurd (omega arith)
   one_argument f (cons l c nil) e =
       ap needing (append-nil (map (λ (m : ℕ). (m, argument_of f 0)) (plain (one (l, c)))))
-      ∙ needing-at (argument_of f 0) (needs σ (argument_of f 0)) refl (plain (one (l, c)))
+      ∙ needing_at (argument_of f 0) (needs σ (argument_of f 0)) refl (plain (one (l, c)))
   one_argument f (cons l c (cons k d s)) e = absurd (omega arith)
 
-  pub argument-needing : (u : Terms) → IsArgument u → needing (standings u) ≡ plain u
+  pub argument_needing : (u : Terms) → IsArgument u → needing (standings u) ≡ plain u
   unfolding needing
-  argument-needing nil h = refl
-  argument-needing (cons (own o) c s) h =
-      needing-append (standings c) (standings s) ∙ ap₂ ◌++◌ (argument-needing c h.1) (argument-needing s h.2)
-  argument-needing (cons (slot (metavariable m)) c s) h = ap (λ (l : List ℕ). m ∷ l) (argument-needing s h.2)
-  argument-needing (cons (slot (function f n)) c s) h = absurd h.0
-  argument-needing (cons (slot (hole i)) c s) h = absurd h.0
+  argument_needing nil h = refl
+  argument_needing (cons (own o) c s) h =
+      needing_append (standings c) (standings s) ∙ ap₂ ◌++◌ (argument_needing c h.1) (argument_needing s h.2)
+  argument_needing (cons (slot (metavariable m)) c s) h = ap (λ (l : List ℕ). m ∷ l) (argument_needing s h.2)
+  argument_needing (cons (slot (function f n)) c s) h = absurd h.0
+  argument_needing (cons (slot (hole i)) c s) h = absurd h.0

@@ -12,8 +12,8 @@ use Rattle.metavariables.specs.Survey.{has}
 use Rattle.metavariables.proofs.BitLaws.{every_same}
 
 module _ {A : Type 0} (p : A → Bool) (xs : List A) where
-  pub every-at : every p xs ≡ true → (x : A) → x ∈ xs → p x ≡ true
-  every-at e x q = all_mem (λ y. p y ≡ true) x xs (every_all p xs (true_T e)) q
+  pub every_at : every p xs ≡ true → (x : A) → x ∈ xs → p x ≡ true
+  every_at e x q = all_mem (λ y. p y ≡ true) x xs (every_all p xs (true_T e)) q
 
   pub at_every : ((x : A) → x ∈ xs → p x ≡ true) → every p xs ≡ true
   at_every f = T_true (all_every p xs (mem_all (λ y. p y ≡ true) xs f))
@@ -30,12 +30,12 @@ every_among q xs n small = same_truth _ _ listed numbered
     listed : every (λ m. not (is_in m xs) || q m) (up_to n) ≡ true → every q xs ≡ true
     listed e =
         at_every q xs (λ x i.
-        implied (is_in x xs) (q x) (mem_is_in x xs i) (every-at (λ m. not (is_in m xs) || q m) (up_to n) e x (mem_up_to n x (small x i))))
+        implied (is_in x xs) (q x) (mem_is_in x xs i) (every_at (λ m. not (is_in m xs) || q m) (up_to n) e x (mem_up_to n x (small x i))))
 
     numbered : every q xs ≡ true → every (λ m. not (is_in m xs) || q m) (up_to n) ≡ true
     numbered e =
         at_every (λ m. not (is_in m xs) || q m) (up_to n) (λ m i.
-        by_test (is_in m xs) (λ h. or_right (not (is_in m xs)) (q m) (every-at q xs e m (is_in_mem m xs h)))
+        by_test (is_in m xs) (λ h. or_right (not (is_in m xs)) (q m) (every_at q xs e m (is_in_mem m xs h)))
         (λ h. ap (λ (b : Bool). not b || q m) h))
 
 -- A test of each metavariable of the set that a list makes up

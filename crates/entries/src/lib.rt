@@ -1,5 +1,7 @@
 // The parts of the checker's decision that look only at which field a text has for each metavariable, and at holes: each is a function
 // of its own, so that one can say which of them fails. That their answers are document 01's is proofs/Meaning.
+#![tactic(auto)]
+
 ghost use Rattle.std.specs.Prelude.{◌≡◌, ◌<◌};
 ghost use Rattle.metavariables.specs.Survey.{has};
 ghost use Rattle.tokens.specs.Token.{Table};

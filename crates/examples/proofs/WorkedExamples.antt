@@ -28,7 +28,7 @@ use Rattle.meaning.specs.Starred.{Starred, hex, textbook_examples}
 use Rattle.meaning.proofs.Proper.{accepted_proper}
 use Rattle.meaning.proofs.Lists.{all_mem, every_all, keep_mem, map_same, mem_all, never, true_T}
 use Rattle.meaning.proofs.ProblemReading.{accept_accepted}
-use Rattle.meaning.proofs.FullListLaws.{full-list-is}
+use Rattle.meaning.proofs.FullListLaws.{full_list_is}
 use Rattle.meaning.proofs.TextLaws.{text_says}
 use Rattle.meaning.proofs.Unseen.{fresh}
 use Rattle.meaning.proofs.CompleteLaws.{Whole, totals_whole}
@@ -52,7 +52,7 @@ case_textbook : (c : Case) → Accepted c.problem → Holds c → Textbook c.pro
 unfolding full_list solution_rows
 case_textbook c a (count, written) =
     subst (Textbook c.problem) (same ∙ ap (map (λ (is : List Item). left_out (said is))) written)
-    (textbook c.problem a (full_list c.problem) (full-list-is c.problem (accepted_proper c.problem a)))
+    (textbook c.problem a (full_list c.problem) (full_list_is c.problem (accepted_proper c.problem a)))
   where
     p : Problem
     p = c.problem

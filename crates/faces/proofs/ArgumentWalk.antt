@@ -26,16 +26,16 @@ use Rattle.meaning.proofs.ShiftLaws.{relabel_size}
 use Rattle.tokens.specs.Token.{depth_in, size_in, tokens, pattern_tokens, expression_tokens}
 use Rattle.tokens.specs.Key.{at, Held, Stands}
 use Rattle.tokens.proofs.TokenParts.{tokens_length}
-use Rattle.tokens.proofs.KeyLaws.{stands-depth, stands_size, stands-inside}
-use Rattle.tokens.proofs.ProblemTokens.{Room, pattern-table}
+use Rattle.tokens.proofs.KeyLaws.{stands_depth, stands_size, stands_inside}
+use Rattle.tokens.proofs.ProblemTokens.{Room, pattern_table_lem}
 use Rattle.lockstep.specs.declared.Span.{Span}
 use Rattle.lockstep.specs.Walk.{lockstep, at_slots}
 use Rattle.lockstep.specs.Span.{span_walk}
 use Rattle.lockstep.specs.Recorded.{RecordedBy, Both}
-use Rattle.lockstep.proofs.SlotWalk.{Looks, look-below, Deep}
+use Rattle.lockstep.proofs.SlotWalk.{Looks, look_below, Deep}
 use Rattle.lockstep.proofs.TokenDepths.{tokens_deep}
-use Rattle.lockstep.proofs.LoweredWalk.{lowered-walk}
-use Rattle.faces.proofs.NodeTokens.{AtNode, pattern-node, expression-node}
+use Rattle.lockstep.proofs.LoweredWalk.{lowered_walk}
+use Rattle.faces.proofs.NodeTokens.{AtNode, pattern_node_lem, expression_node_lem}
 
 -- A subterm stands in the whole from its node on
 looks_at : (u : Terms) (i : ℕ) (t : Term) → node_at i u ≡ some t → Looks (λ m. node_at m u) i (one t)
@@ -85,16 +85,16 @@ module _ (table : List ℕ) (i f n : ℕ) (cs : Terms) where
         single = h.readable.0.3 ∙ h.readable.0.2;
         readable = h.readable.1;
         room = record { depths = omega (arith, h.depths); sizes = omega (arith, h.sizes) };
-        depth = stands-depth (suc levels) ctx table i sc t h s;
+        depth = stands_depth (suc levels) ctx table i sc t h s;
         nodes = omega arith;
-        ends = (stands-inside (suc levels) ctx table i sc t h s).ends;
+        ends = (stands_inside (suc levels) ctx table i sc t h s).ends;
         after = s.after;
         split = ap (λ (m : ℕ). drop m table) (sym (add-one i)) ∙ sym (drop-drop 1 i table) ∙ ap (drop 1) s.split
             ∙ ap (λ (l : List ℕ). l ++ s.after) (append-nil (tokens sc c));
       }
 
-  argument-at : AtNode table i (slot (function f n), cs) → ArgumentAt table i cs
-  argument-at a =
+  argument_at_lem : AtNode table i (slot (function f n), cs) → ArgumentAt table i cs
+  argument_at_lem a =
       opened a.levels a.context a.scope a.named.0 a.named.1 (sym (ap (λ (t : Term). t.0) a.term))
       (sym (ap (λ (t : Term). t.1) a.term)) a.held a.stands
 
@@ -111,14 +111,14 @@ module _ (p : Problem) (w : WithinLimits p) (i f n : ℕ) (cs : Terms)
       }
 
   below : ArgumentAt (pattern_tokens p) i cs
-  below = argument-at (pattern_tokens p) i f n cs (pattern-node p w i (slot (function f n), cs) applied)
+  below = argument_at_lem (pattern_tokens p) i f n cs (pattern_node_lem p w i (slot (function f n), cs) applied)
 
-  pub argument-inside : i + size_in (at (pattern_tokens p) i) ≤ length (pattern_tokens p)
-  argument-inside = below.ends
+  pub argument_inside : i + size_in (at (pattern_tokens p) i) ≤ length (pattern_tokens p)
+  argument_inside = below.ends
 
   -- The tokens of the span
-  span-tokens : take (i + size_in (at (pattern_tokens p) i) - (i + 1)) (drop (i + 1) (pattern_tokens p)) ≡ tokens below.scope below.named
-  span-tokens =
+  span_tokens : take (i + size_in (at (pattern_tokens p) i) - (i + 1)) (drop (i + 1) (pattern_tokens p)) ≡ tokens below.scope below.named
+  span_tokens =
       let m : i + size_in (at (pattern_tokens p) i) - (i + 1) ≡ size below.named = omega (arith, below.nodes) in
       ap₂ take m (ap (λ (k : ℕ). drop k (pattern_tokens p)) (add-one i) ∙ below.split)
       ∙ take_at (tokens below.scope below.named) below.after (size below.named) (tokens_length below.scope below.named)
@@ -126,11 +126,11 @@ module _ (p : Problem) (w : WithinLimits p) (i f n : ℕ) (cs : Terms)
   module _ (j under : ℕ) (v u : Term) (stands : node_at j (expressions p) ≡ some v) (lowers : lower_term under v ≡ some u)
       (deeper : depth_in (at (expression_tokens p) j) ≡ under + depth_in (at (pattern_tokens p) i)) where
     across : AtNode (expression_tokens p) j v
-    across = expression-node p w j v stands
+    across = expression_node_lem p w j v stands
 
     across_depth : depth_in (at (expression_tokens p) j) ≡ length across.scope
     across_depth =
-        stands-depth across.levels across.context (expression_tokens p) j across.scope across.named across.held
+        stands_depth across.levels across.context (expression_tokens p) j across.scope across.named across.held
         across.stands
 
     span_walk_lem : span_walk (pattern_tokens p) (expression_tokens p) (argument_span j)
@@ -140,7 +140,7 @@ module _ (p : Problem) (w : WithinLimits p) (i f n : ℕ) (cs : Terms)
         ap₂ (λ (a b : ℕ). lockstep at_slots a b 0 (i + 1) j
         (take (i + size_in (at (pattern_tokens p) i) - (i + 1)) (drop (i + 1) (pattern_tokens p))) (drop j (expression_tokens p)))
         below.depth across_depth
-        ∙ ap₂ (lockstep at_slots (length below.scope) (length across.scope) 0 (i + 1) j) span-tokens across.stands.split
+        ∙ ap₂ (lockstep at_slots (length below.scope) (length across.scope) 0 (i + 1) j) span_tokens across.stands.split
         ∙ ap (λ (a : ℕ). lockstep at_slots (length below.scope) (length across.scope) 0 a j (tokens below.scope below.named)
         (tokens across.scope (one across.named) ++ across.stands.after)) (add-one i)
 
@@ -158,13 +158,13 @@ module _ (p : Problem) (w : WithinLimits p) (i f n : ℕ) (cs : Terms)
         (sym span_walk_lem)
         (subst (λ (a : Terms). Meets flat (walk k j a (one u)))
         (below.is ∙ sym (only cs (sym (ap trees below.is) ∙ same_count ∙ below.single)))
-        (lowered-walk below.scope across.scope under (sym across_depth ∙ deeper ∙ ap (λ (m : ℕ). under + m) below.depth)
+        (lowered_walk below.scope across.scope under (sym across_depth ∙ deeper ∙ ap (λ (m : ℕ). under + m) below.depth)
         below.named across.named u (ap (lower_term under) (sym across.term) ∙ lowers)
         below.levels across.levels in_argument across.context below.readable below.room below.single across.held
         (λ m. node_at m (patterns p)) (λ m. node_at (m - j) (one u)) (λ m. depth_in (at (pattern_tokens p) m)) k (suc i) j
         across.stands.after
         (subst (Looks (λ m. node_at m (patterns p)) (suc i)) (sym below.is)
-        (look-below (λ m. node_at m (patterns p)) i (slot (function f n)) cs nil
+        (look_below (λ m. node_at m (patterns p)) i (slot (function f n)) cs nil
         (looks_at (patterns p) i (slot (function f n), cs) applied)))
         (λ m h. let e : j + m - j ≡ m = omega arith in ap (λ (x : ℕ). node_at x (one u)) e)
         (subst (λ (d : ℕ). Deep (λ m. depth_in (at (pattern_tokens p) m)) (suc i) d (nameless below.scope below.named))
@@ -175,7 +175,7 @@ module _ (p : Problem) (w : WithinLimits p) (i f n : ℕ) (cs : Terms)
           arith,
           below.ends,
           below.nodes,
-          (pattern-table p w).small,
+          (pattern_table_lem p w).small,
           relabel_size enter nameless_label below.scope below.named,
         ))))
       where

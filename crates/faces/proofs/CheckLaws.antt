@@ -20,12 +20,12 @@ use Rattle.faces.specs.FlatWalk.{flat_walk}
 use Rattle.metavariables.specs.Survey.{Surveyed, meets, count, functions_in}
 use Rattle.faces.specs.First.{first_node, firsts_of, any_large}
 use Rattle.faces.specs.Check.{large_in, faces_in, after_walk, verdict, CheckedBy}
-use Rattle.metavariables.proofs.SurveyLaws.{functions-set, both-set, count_set}
+use Rattle.metavariables.proofs.SurveyLaws.{functions_set, both_set, count_set}
 
 module _ (ps : List ℕ) (s : Occurring) (v : Surveyed ps s) where
-  large-set : (es ns : List ℕ) → any_large es (firsts_of ps ns s.functions) ≡ large_in ps es ns
+  large_set : (es ns : List ℕ) → any_large es (firsts_of ps ns s.functions) ≡ large_in ps es ns
   unfolding firsts_of large_in
-  large-set es ns = ap (λ (fs : List ℕ). any_large es (map (first_node ps ns) fs)) (functions-set ps s v)
+  large_set es ns = ap (λ (fs : List ℕ). any_large es (map (first_node ps ns) fs)) (functions_set ps s v)
 
   module _ (es old new : List ℕ) where
     pub checked_many : 8 < count metavariable_count s.functions → CheckedBy ps es old new (checked.Refused 13)
@@ -51,12 +51,12 @@ module _ (ps : List ℕ) (s : Occurring) (v : Surveyed ps s) where
       -- T-09
       pub checked_both : meets metavariable_count s.functions s.plain ≡ true → CheckedBy ps es old new checked.NoRows
       unfolding faces_in
-      checked_both e = no_faces_lem (ap (λ (b : Bool). guard (not b) (flat_walk ps es)) (sym (both-set ps s v) ∙ e))
+      checked_both e = no_faces_lem (ap (λ (b : Bool). guard (not b) (flat_walk ps es)) (sym (both_set ps s v) ∙ e))
 
       module _ (apart : meets metavariable_count s.functions s.plain ≡ false) where
         faces_walked : faces_in ps es ≡ flat_walk ps es
         unfolding faces_in
-        faces_walked = ap (λ (b : Bool). guard (not b) (flat_walk ps es)) (sym (both-set ps s v) ∙ apart)
+        faces_walked = ap (λ (b : Bool). guard (not b) (flat_walk ps es)) (sym (both_set ps s v) ∙ apart)
 
         pub checked_none : (q : Shapes) → Walked (flat_walk ps es) old new q → q ≡ shapes.Disagree → CheckedBy ps es old new checked.NoRows
         checked_none q w e = no_faces_lem (faces_walked ∙ disagreed (flat_walk ps es) old new q w e)
@@ -67,7 +67,7 @@ module _ (ps : List ℕ) (s : Occurring) (v : Surveyed ps s) where
           decided b t =
               let f : Found (flat_walk ps es) new n = found (flat_walk ps es) old new q w n e in
               let big : large_in ps es f.faces ≡ b =
-              sym (t ∙ ap (λ (ns : List ℕ). any_large es (firsts_of ps ns s.functions)) f.front ∙ large-set es f.faces) in
+              sym (t ∙ ap (λ (ns : List ℕ). any_large es (firsts_of ps ns s.functions)) f.front ∙ large_set es f.faces) in
               after_faces ∙ ap (after_walk ps es) (faces_walked ∙ f.walked)
               ∙ ap₂ (λ (c : Bool) (m : ℕ). choose c (checked.Refused 14) (checked.Faces m)) big f.long
 

@@ -29,16 +29,16 @@ use Rattle.faces.specs.Recorded.{Means, Recorded}
 use Rattle.faces.specs.First.{first_node, any_large}
 use Rattle.faces.specs.Check.{large_in, faces_in, after_walk, verdict, CheckedBy}
 use Rattle.faces.specs.Verdict.{answer_of, Told, Says}
-use Rattle.metavariables.proofs.SurveyMeaning.{functions-in, both-in}
-use Rattle.faces.proofs.WalkMeaning.{walk-means}
+use Rattle.metavariables.proofs.SurveyMeaning.{functions_in_lem, both_in_lem}
+use Rattle.faces.proofs.WalkMeaning.{walk_means}
 use Rattle.faces.proofs.FirstMeaning.{large_means}
 
 module _ (p : Problem) (w : WithinLimits p) where
-  large-in : (ns : List ℕ) (xs : List Face) → Recorded p ns xs → faces p ≡ some xs
+  large_in_lem : (ns : List ℕ) (xs : List Face) → Recorded p ns xs → faces p ≡ some xs
       → large_in (pattern_tokens p) (expression_tokens p) ns ≡ overlarge max_face_nodes p
   unfolding large_in overlarge
-  large-in ns xs r e =
-      ap (λ (fs : List ℕ). any_large (expression_tokens p) (map (first_node (pattern_tokens p) ns) fs)) (functions-in p w)
+  large_in_lem ns xs r e =
+      ap (λ (fs : List ℕ). any_large (expression_tokens p) (map (first_node (pattern_tokens p) ns) fs)) (functions_in_lem p w)
       ∙ large_means p w ns xs r (functions p)
       ∙ sym
       (ap
@@ -50,18 +50,18 @@ module _ (p : Problem) (w : WithinLimits p) where
   guarded true o x h = h
   guarded false o x h = tt
 
-  pub faces-mean : Means p (faces_in (pattern_tokens p) (expression_tokens p)) (faces p)
+  pub faces_mean : Means p (faces_in (pattern_tokens p) (expression_tokens p)) (faces p)
   unfolding faces_in faces
-  faces-mean =
+  faces_mean =
       subst
       (λ (b : Bool). Means p (guard (not b) (flat_walk (pattern_tokens p) (expression_tokens p))) (guard (not (both_ways p)) (walk_of p)))
-      (sym (both-in p w))
-      (guarded (not (both_ways p)) (flat_walk (pattern_tokens p) (expression_tokens p)) (walk_of p) (walk-means p w))
+      (sym (both_in_lem p w))
+      (guarded (not (both_ways p)) (flat_walk (pattern_tokens p) (expression_tokens p)) (walk_of p) (walk_means p w))
 
   -- The checks of `meaning`, one after the other
-  refused-13 : ltb max_functions (length (functions p)) ≡ true → check_problem max_face_nodes p ≡ refused 13
+  refused_13 : ltb max_functions (length (functions p)) ≡ true → check_problem max_face_nodes p ≡ refused 13
   unfolding check_problem
-  refused-13 e = choose_true _ _ e
+  refused_13 e = choose_true _ _ e
 
   module _ (few : ltb max_functions (length (functions p)) ≡ false) where
     refused_14 : overlarge max_face_nodes p ≡ true → check_problem max_face_nodes p ≡ refused 14
@@ -81,7 +81,7 @@ module _ (p : Problem) (w : WithinLimits p) where
         c.answer
         ∙ ap (λ (fs : List ℕ). choose (ltb max_functions (length fs)) (checked.Refused 13)
         (after_walk (pattern_tokens p) (expression_tokens p)
-        (faces_in (pattern_tokens p) (expression_tokens p)))) (functions-in p w)
+        (faces_in (pattern_tokens p) (expression_tokens p)))) (functions_in_lem p w)
 
     module _ (few : ltb max_functions (length (functions p)) ≡ false) where
       after : (o : Option (List ℕ)) → faces_in (pattern_tokens p) (expression_tokens p) ≡ o
@@ -116,7 +116,7 @@ module _ (p : Problem) (w : WithinLimits p) where
       walked (some ns) (some xs) e a q = by_test (overlarge max_face_nodes p) over under
         where
           answer : r ≡ choose (overlarge max_face_nodes p) (checked.Refused 14) (checked.Faces (length ns))
-          answer = after (some ns) e ∙ ap (λ (b : Bool). choose b (checked.Refused 14) (checked.Faces (length ns))) (large-in ns xs q a)
+          answer = after (some ns) e ∙ ap (λ (b : Bool). choose b (checked.Refused 14) (checked.Faces (length ns))) (large_in_lem ns xs q a)
 
           over : overlarge max_face_nodes p ≡ true → Says p new r
           over y = subst (Says p new) (sym (answer ∙ choose_true _ _ y)) (refused_14 few y)
@@ -130,8 +130,8 @@ module _ (p : Problem) (w : WithinLimits p) where
     pub check_means : Says p new r
     check_means =
         by_test (ltb max_functions (length (functions p)))
-        (λ y. subst (Says p new) (sym (decided ∙ choose_true _ _ y)) (refused-13 y))
-        (λ n. walked n (faces_in (pattern_tokens p) (expression_tokens p)) (faces p) refl refl faces-mean)
+        (λ y. subst (Says p new) (sym (decided ∙ choose_true _ _ y)) (refused_13 y))
+        (λ n. walked n (faces_in (pattern_tokens p) (expression_tokens p)) (faces p) refl refl faces_mean)
 
     -- The same answer, and when there are no rows
     pub check_answer_lem : check_problem max_face_nodes p ≡ answer_of p r

@@ -23,9 +23,9 @@ use Rattle.faces.specs.First.{Listed, large, any_large}
 
 -- One recorded face
 module _ (ps : List ℕ) (f n : ℕ) where
-  pub applies-out : length ps ≤ n % 65536 → false ≡ applies ps f n
+  pub applies_out : length ps ≤ n % 65536 → false ≡ applies ps f n
   unfolding applies
-  applies-out h = sym (ap (λ (x : ℕ). eqb (tag_in x) 6 && eqb f (payload_in x)) (get_or-eq_default ps 0 {n = n % 65536} h))
+  applies_out h = sym (ap (λ (x : ℕ). eqb (tag_in x) 6 && eqb f (payload_in x)) (get_or-eq_default ps 0 {n = n % 65536} h))
 
   module _ (g : ℕ) (is : g ≡ tag_in (at ps (n % 65536))) where
     pub applies_six : (load : ℕ) → load ≡ payload_in (at ps (n % 65536)) → g ≡ 6 → eqb f load ≡ applies ps f n
@@ -38,9 +38,9 @@ module _ (ps : List ℕ) (f n : ℕ) where
 
 -- The faces that are left, from place k on
 module _ (ps ns : List ℕ) (f k : ℕ) where
-  pub first-none : length ns ≤ k → absent ≡ first_node ps (drop k ns) f
+  pub first_none : length ns ≤ k → absent ≡ first_node ps (drop k ns) f
   unfolding first_node first_in
-  first-none h = sym (ap (λ (l : List ℕ). node_or (first_in ps f l)) (drop_of_length-le ns h))
+  first_none h = sym (ap (λ (l : List ℕ). node_or (first_in ps f l)) (drop_of_length-le ns h))
 
   module _ (h : k < length ns) where
     opened : first_node ps (drop k ns) f
@@ -69,48 +69,48 @@ module _ (ps ns : List ℕ) (s m : ℕ) (r : Firsts) (l : Listing ps ns s m r) (
   later : List ℕ
   later = keep (has s) (count_from (suc m) (metavariable_count - suc m))
 
-  firsts-from : firsts_from ps ns s m ≡ map (first_node ps ns) (choose (has s m) (m ∷ later) later)
+  firsts_from_lem : firsts_from ps ns s m ≡ map (first_node ps ns) (choose (has s m) (m ∷ later) later)
   unfolding firsts_from metavariable_count later
-  firsts-from =
+  firsts_from_lem =
       let e : 32 - m ≡ suc (32 - suc m) = omega arith in
       ap (λ (n : ℕ). map (first_node ps ns) (keep (has s) (count_from m n))) e
 
-  firsts-later : firsts_from ps ns s (m + 1) ≡ map (first_node ps ns) later
+  firsts_later : firsts_from ps ns s (m + 1) ≡ map (first_node ps ns) later
   unfolding firsts_from later
-  firsts-later = ap (λ (n : ℕ). map (first_node ps ns) (keep (has s) (count_from n (metavariable_count - n)))) (add-one m)
+  firsts_later = ap (λ (n : ℕ). map (first_node ps ns) (keep (has s) (count_from n (metavariable_count - n)))) (add-one m)
 
-  pub listing-skip : has s m ≡ false → Listing ps ns s (m + 1) r
-  listing-skip e =
+  pub listing_skip : has s m ≡ false → Listing ps ns s (m + 1) r
+  listing_skip e =
       record {
         fits = l.fits;
         whole =
             ap (λ (x : List ℕ). listed r ++ x)
-            (firsts-later ∙ sym (firsts-from ∙ ap (map (first_node ps ns)) (choose_false (m ∷ later) later e))) ∙ l.whole;
+            (firsts_later ∙ sym (firsts_from_lem ∙ ap (map (first_node ps ns)) (choose_false (m ∷ later) later e))) ∙ l.whole;
       }
 
-  opened-whole : has s m ≡ true → listed r ++ (first_node ps ns m ∷ firsts_from ps ns s (m + 1)) ≡ firsts_of ps ns s
-  opened-whole e =
+  opened_whole : has s m ≡ true → listed r ++ (first_node ps ns m ∷ firsts_from ps ns s (m + 1)) ≡ firsts_of ps ns s
+  opened_whole e =
       ap (λ (x : List ℕ). listed r ++ x)
-      (ap (λ (x : List ℕ). first_node ps ns m ∷ x) firsts-later
-      ∙ sym (firsts-from ∙ ap (map (first_node ps ns)) (choose_true (m ∷ later) later e)))
+      (ap (λ (x : List ℕ). first_node ps ns m ∷ x) firsts_later
+      ∙ sym (firsts_from_lem ∙ ap (map (first_node ps ns)) (choose_true (m ∷ later) later e)))
       ∙ l.whole
 
-  pub listing-room : has s m ≡ true → length (firsts_of ps ns s) ≤ 8 → r.count < 8
-  listing-room e few =
+  pub listing_room : has s m ≡ true → length (firsts_of ps ns s) ≤ 8 → r.count < 8
+  listing_room e few =
       let a : length (listed r) ≡ r.count = length-take-le r.count r.nodes (omega (arith, l.fits.array, l.fits.count)) in
       let b : length (listed r ++ (first_node ps ns m ∷ firsts_from ps ns s (m + 1))) ≡ length (firsts_of ps ns s) =
-      ap length (opened-whole e) in
+      ap length (opened_whole e) in
       let c = length-append (listed r) (first_node ps ns m ∷ firsts_from ps ns s (m + 1)) in
       omega arith
 
-  pub listing-push : has s m ≡ true → (t : Firsts) → Pushed r (first_node ps ns m) t → Listing ps ns s (m + 1) t
-  listing-push e t p =
+  pub listing_push : has s m ≡ true → (t : Firsts) → Pushed r (first_node ps ns m) t → Listing ps ns s (m + 1) t
+  listing_push e t p =
       record {
         fits = p.fits;
         whole =
             ap (λ (x : List ℕ). x ++ firsts_from ps ns s (m + 1)) p.list
             ∙ append_assoc (listed r) (first_node ps ns m ∷ []) (firsts_from ps ns s (m + 1))
-            ∙ opened-whole e;
+            ∙ opened_whole e;
       }
 
 module _ (ps ns : List ℕ) (s : ℕ) where
@@ -118,33 +118,33 @@ module _ (ps ns : List ℕ) (s : ℕ) where
   unfolding firsts_from firsts_of metavariable_count
   listing_start r f e = record { fits = f; whole = ap (λ (n : ℕ). take n r.nodes ++ firsts_of ps ns s) e }
 
-  pub listing-end : (m : ℕ) (r : Firsts) → 32 ≤ m → Listing ps ns s m r → Listed ps ns s r
+  pub listing_end : (m : ℕ) (r : Firsts) → 32 ≤ m → Listing ps ns s m r → Listed ps ns s r
   unfolding firsts_from metavariable_count
-  listing-end m r h l =
+  listing_end m r h l =
       let e : 32 - m ≡ 0 = omega arith in
       record {
         fits = l.fits;
         list = sym (ap (λ (n : ℕ). listed r ++ map (first_node ps ns) (keep (has s) (count_from m n))) e ∙ append-nil (listed r)) ∙ l.whole;
       }
 
-  pub firsts-count : length (firsts_of ps ns s) ≡ count metavariable_count s
+  pub firsts_count : length (firsts_of ps ns s) ≡ count metavariable_count s
   unfolding firsts_of count
-  firsts-count = length-map (keep (has s) (up_to metavariable_count)) (first_node ps ns)
+  firsts_count = length-map (keep (has s) (up_to metavariable_count)) (first_node ps ns)
 
 -- The limit of nodes
 module _ (es : List ℕ) (j : ℕ) where
-  pub large-in : (n : ℕ) → n ≡ size_in (at es j) → j < length es → ltb 256 n ≡ large es j
+  pub large_in_lem : (n : ℕ) → n ≡ size_in (at es j) → j < length es → ltb 256 n ≡ large es j
   unfolding large max_face_nodes
-  large-in n e h = rw (← e, lt-ltb j (length es) h)
+  large_in_lem n e h = rw (← e, lt-ltb j (length es) h)
 
-  pub large-out : length es ≤ j → false ≡ large es j
+  pub large_out : length es ≤ j → false ≡ large es j
   unfolding large
-  large-out h = sym (ap (λ (b : Bool). b && ltb max_face_nodes (size_in (at es j))) (le-ltb j (length es) h))
+  large_out h = sym (ap (λ (b : Bool). b && ltb max_face_nodes (size_in (at es j))) (le-ltb j (length es) h))
 
 module _ (es nodes : List ℕ) (end k : ℕ) (fits : end ≤ length nodes) where
-  pub large-end : end ≤ k → false ≡ any_large es (drop k (take end nodes))
+  pub large_end : end ≤ k → false ≡ any_large es (drop k (take end nodes))
   unfolding any_large
-  large-end h =
+  large_end h =
       let a : length (take end nodes) ≡ end = length-take-le end nodes fits in
       let b : length (take end nodes) ≤ k = omega arith in
       sym (ap (any_large es) (drop_of_length-le (take end nodes) b))

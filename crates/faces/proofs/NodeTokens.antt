@@ -23,8 +23,8 @@ use Rattle.meaning.specs.Readable.{Readable, WithinLimits}
 use Rattle.meaning.proofs.Lists.{never, by_test, choose_true, choose_false}
 use Rattle.tokens.specs.Token.{tag_in, size_in, payload_in, payload_of, tokens, pattern_tokens, expression_tokens}
 use Rattle.tokens.specs.Key.{at, Held, Stands}
-use Rattle.tokens.proofs.KeyLaws.{some_levels, stands_size, stands-inside}
-use Rattle.tokens.proofs.ProblemTokens.{token_at, tag_at, payload-at, Room, room-below, room-later, patterns-room, expressions-room}
+use Rattle.tokens.proofs.KeyLaws.{some_levels, stands_size, stands_inside}
+use Rattle.tokens.proofs.ProblemTokens.{token_at, tag_at, payload_at, Room, room_below, room_later, patterns_room, expressions_room}
 use Rattle.meaning.proofs.ShiftLaws.{relabel_size}
 use Rattle.meaning.proofs.Proper.{patterns_readable, expressions_readable}
 use Rattle.tokens.proofs.TokenParts.{tokens_length}
@@ -76,9 +76,9 @@ at_node (suc levels) ctx sc (cons l c s) r m zero t e =
     }
 at_node (suc levels) ctx sc (cons l c s) r m (suc n) t e =
     by_test (ltb n (size (nameless (enter l sc) c)))
-    (λ y. below y (at_node levels (context_below l ctx) (enter l sc) c r.1 (room-below levels sc l c s m) n t
+    (λ y. below y (at_node levels (context_below l ctx) (enter l sc) c r.1 (room_below levels sc l c s m) n t
     (sym (choose_true _ _ y) ∙ e)))
-    (λ y. later y (at_node (suc levels) ctx sc s r.2 (room-later levels sc l c s m) (n - size (nameless (enter l sc) c)) t
+    (λ y. later y (at_node (suc levels) ctx sc s r.2 (room_later levels sc l c s m) (n - size (nameless (enter l sc) c)) t
     (sym (choose_false _ _ y) ∙ e)))
   where
     tc : List ℕ
@@ -104,8 +104,8 @@ at_node (suc levels) ctx sc (cons l c s) r m (suc n) t e =
 
 -- What the token of a node says
 module _ (table : List ℕ) (i : ℕ) (t : Term) (n : AtNode table i t) where
-  pub node-inside : i < length table
-  node-inside = (stands-inside n.levels n.context table i n.scope n.named n.held n.stands).starts
+  pub node_inside : i < length table
+  node_inside = (stands_inside n.levels n.context table i n.scope n.named n.held n.stands).starts
 
   pub node_size : size_in (at table i) ≡ size (one t)
   node_size =
@@ -114,25 +114,25 @@ module _ (table : List ℕ) (i : ℕ) (t : Term) (n : AtNode table i t) where
       omega (arith, relabel_size enter nameless_label (enter u.0 n.scope) u.1) in
       stands_size n.levels n.context table i n.scope u n.held n.stands ∙ a ∙ sym (ap (λ (v : Term). size (one v)) n.term)
 
-  node-token : at table i ≡ token_at n.scope n.named.0 n.named.1
+  node_token_lem : at table i ≡ token_at n.scope n.named.0 n.named.1
   unfolding tokens
-  node-token =
+  node_token_lem =
       let z : i + 0 ≡ i = add-zero i in
       ap (at table) (sym z) ∙ sym (get_or-drop i table 0 0) ∙ ap (λ (l : List ℕ). at l 0) n.stands.split
 
 -- The token of a slot has its tag and its number
 module _ (table : List ℕ) (i : ℕ) (z : Slot) (cs : Terms) (n : AtNode table i (slot z, cs)) where
-  slot-label : (l : Named) → nameless_label n.scope l ≡ slot z → l ≡ slot z
-  slot-label (own (symbol m)) e = never (cc)
-  slot-label (own (variable x)) e = never (cc)
-  slot-label (own (application m)) e = never (cc)
-  slot-label (own (binder b x)) e = never (cc)
-  slot-label (slot y) e = let w : y ≡ z = cc in ap (λ (x : Slot). slot x) w
+  slot_label_lem : (l : Named) → nameless_label n.scope l ≡ slot z → l ≡ slot z
+  slot_label_lem (own (symbol m)) e = never (cc)
+  slot_label_lem (own (variable x)) e = never (cc)
+  slot_label_lem (own (application m)) e = never (cc)
+  slot_label_lem (own (binder b x)) e = never (cc)
+  slot_label_lem (slot y) e = let w : y ≡ z = cc in ap (λ (x : Slot). slot x) w
 
-  slot-token : at table i ≡ token_at n.scope (slot z) n.named.1
-  slot-token =
-      node-token table i (slot z, cs) n
-      ∙ ap (λ (l : Named). token_at n.scope l n.named.1) (slot-label n.named.0 (sym (ap (λ (u : Term). u.0) n.term)))
+  slot_token : at table i ≡ token_at n.scope (slot z) n.named.1
+  slot_token =
+      node_token_lem table i (slot z, cs) n
+      ∙ ap (λ (l : Named). token_at n.scope l n.named.1) (slot_label_lem n.named.0 (sym (ap (λ (u : Term). u.0) n.term)))
 
   deep : length n.scope < 256
   deep = omega (arith, n.held.depths, some_levels n.levels n.context n.named n.held.readable)
@@ -140,18 +140,18 @@ module _ (table : List ℕ) (i : ℕ) (z : Slot) (cs : Terms) (n : AtNode table 
   small : suc (size n.named.1) < 65536
   small = omega (arith, n.held.sizes)
 
-  pub node-tag : tag_in (at table i) ≡ tag_of (slot z)
-  node-tag = ap tag_in slot-token ∙ tag_at n.scope (slot z) n.named.1 deep small
+  pub node_tag : tag_in (at table i) ≡ tag_of (slot z)
+  node_tag = ap tag_in slot_token ∙ tag_at n.scope (slot z) n.named.1 deep small
 
-  pub node-payload : payload_in (at table i) ≡ payload_of n.scope (slot z)
-  node-payload = ap payload_in slot-token ∙ payload-at n.scope (slot z) n.named.1 deep small
+  pub node_payload : payload_in (at table i) ≡ payload_of n.scope (slot z)
+  node_payload = ap payload_in slot_token ∙ payload_at n.scope (slot z) n.named.1 deep small
 
 -- Whether the token of a slot is that of an application of f
 pub node_applies : (table : List ℕ) (i : ℕ) (z : Slot) (cs : Terms) (f : ℕ) → AtNode table i (slot z, cs)
     → eqb (tag_in (at table i)) 6 && eqb f (payload_in (at table i)) ≡ is_application f z
 unfolding payload_of
 node_applies table i z cs f n =
-    ap₂ (λ (g m : ℕ). eqb g 6 && eqb f m) (node-tag table i z cs n) (node-payload table i z cs n) ∙ said n.scope z
+    ap₂ (λ (g m : ℕ). eqb g 6 && eqb f m) (node_tag table i z cs n) (node_payload table i z cs n) ∙ said n.scope z
   where
     said : (sc : List ℕ) (z : Slot) → eqb (tag_of (slot z)) 6 && eqb f (payload_of sc (slot z)) ≡ is_application f z
     said sc (metavariable m) = refl
@@ -160,10 +160,10 @@ node_applies table i z cs f n =
 
 -- THE THEOREM: meaning's node numbers are the places of the tables
 module _ (p : Problem) (w : WithinLimits p) where
-  pub pattern-node : (i : ℕ) (t : Term) → node_at i (patterns p) ≡ some t → AtNode (pattern_tokens p) i t
+  pub pattern_node_lem : (i : ℕ) (t : Term) → node_at i (patterns p) ≡ some t → AtNode (pattern_tokens p) i t
   unfolding pattern_tokens
-  pattern-node i t e = at_node max_depth in_pattern [] (named_patterns p) (patterns_readable p w) (patterns-room p w) i t e
+  pattern_node_lem i t e = at_node max_depth in_pattern [] (named_patterns p) (patterns_readable p w) (patterns_room p w) i t e
 
-  pub expression-node : (j : ℕ) (t : Term) → node_at j (expressions p) ≡ some t → AtNode (expression_tokens p) j t
+  pub expression_node_lem : (j : ℕ) (t : Term) → node_at j (expressions p) ≡ some t → AtNode (expression_tokens p) j t
   unfolding expression_tokens
-  expression-node j t e = at_node max_depth in_expression [] (named_expressions p) (expressions_readable p w) (expressions-room p w) j t e
+  expression_node_lem j t e = at_node max_depth in_expression [] (named_expressions p) (expressions_readable p w) (expressions_room p w) j t e

@@ -30,13 +30,13 @@ use Rattle.slices.proofs.Slices.{positive, drop_take, part_length}
 
 -- The field's parts
 module _ (s : Bytes) where
-  pub parts-short : length s < 3 → PartsDone s (parts.Refused 2)
+  pub parts_short : length s < 3 → PartsDone s (parts.Refused 2)
   unfolding parts_of
-  parts-short h = record { says = rw (lt-ltb (length s) 3 h); fits = tt }
+  parts_short h = record { says = rw (lt-ltb (length s) 3 h); fits = tt }
 
-  pub parts-past : 3 ≤ length s → length s - 3 < word_at s 1 → PartsDone s (parts.Refused 3)
+  pub parts_past : 3 ≤ length s → length s - 3 < word_at s 1 → PartsDone s (parts.Refused 3)
   unfolding parts_of
-  parts-past h l = record { says = rw (le-ltb (length s) 3 h, lt-ltb (length s - 3) (word_at s 1) l); fits = tt }
+  parts_past h l = record { says = rw (le-ltb (length s) 3 h, lt-ltb (length s - 3) (word_at s 1) l); fits = tt }
 
   pub parts_field : 3 ≤ length s → word_at s 1 ≤ length s - 3 → word_at s 1 < 65536 → PartsDone s (parts.Field (get_or s 0 0) (word_at s 1))
   unfolding parts_of
@@ -44,18 +44,18 @@ module _ (s : Bytes) where
 
 -- A term's head
 module _ (ctx : Context) (s : Bytes) where
-  pub head-none : length s ≡ 0 → HeadDone ctx s (heads.Refused 7)
+  pub head_none : length s ≡ 0 → HeadDone ctx s (heads.Refused 7)
   unfolding head_of
-  head-none z = record { says = rw (eq-eqb (length s) 0 z); fits = tt }
+  head_none z = record { says = rw (eq-eqb (length s) 0 z); fits = tt }
 
-  pub head-cut : {r : ℕ} → (length s ≡ 0 → ⊥) → PartsDone s (parts.Refused r) → HeadDone ctx s (heads.Refused r)
+  pub head_cut : {r : ℕ} → (length s ≡ 0 → ⊥) → PartsDone s (parts.Refused r) → HeadDone ctx s (heads.Refused r)
   unfolding head_of
-  head-cut z p = record { says = rw (ne_eqb (length s) 0 z, ← p.says); fits = tt }
+  head_cut z p = record { says = rw (ne_eqb (length s) 0 z, ← p.says); fits = tt }
 
-  pub head-misplaced : {t n r : ℕ} → (length s ≡ 0 → ⊥) → PartsDone s (parts.Field t n) → refused r ≡ kind_of ctx t
+  pub head_misplaced : {t n r : ℕ} → (length s ≡ 0 → ⊥) → PartsDone s (parts.Field t n) → refused r ≡ kind_of ctx t
       → HeadDone ctx s (heads.Refused r)
   unfolding head_of
-  head-misplaced z p k = record { says = rw (ne_eqb (length s) 0 z, ← p.says, ← k); fits = tt }
+  head_misplaced z p k = record { says = rw (ne_eqb (length s) 0 z, ← p.says, ← k); fits = tt }
 
   pub head_field : {t n : ℕ} {kind : code.Kind} → (length s ≡ 0 → ⊥) → PartsDone s (parts.Field t n) → got (kind_from kind) ≡ kind_of ctx t
       → HeadDone ctx s (heads.Field kind n)
@@ -112,25 +112,25 @@ due_fixed (dues.Exactly (suc n)) fixed k h = h
 
 -- A term before its inner fields
 module _ (levels : ℕ) (ctx : Context) (s : Bytes) where
-  pub open-refused : {r : ℕ} → HeadDone ctx s (heads.Refused r) → OpenDone levels ctx s (opens.Refused r)
+  pub open_refused : {r : ℕ} → HeadDone ctx s (heads.Refused r) → OpenDone levels ctx s (opens.Refused r)
   unfolding open_read
-  open-refused h = record { says = read_refused levels ctx s (sym h.says); fits = tt }
+  open_refused h = record { says = read_refused levels ctx s (sym h.says); fits = tt }
 
-  pub open-deep : {kind : code.Kind} {n : ℕ} → HeadDone ctx s (heads.Field kind n) → levels ≡ 0 → OpenDone levels ctx s (opens.Refused 5)
+  pub open_deep : {kind : code.Kind} {n : ℕ} → HeadDone ctx s (heads.Field kind n) → levels ≡ 0 → OpenDone levels ctx s (opens.Refused 5)
   unfolding open_read
-  open-deep h z = record { says = read_deep levels ctx s (sym h.says) z; fits = tt }
+  open_deep h z = record { says = read_deep levels ctx s (sym h.says) z; fits = tt }
 
-  pub open-broken : {kind : code.Kind} {n r : ℕ} → HeadDone ctx s (heads.Field kind n) → (levels ≡ 0 → ⊥)
+  pub open_broken : {kind : code.Kind} {n r : ℕ} → HeadDone ctx s (heads.Field kind n) → (levels ≡ 0 → ⊥)
       → ContentDone (kind_from kind) (take (3 + n - 3) (drop 3 s)) (contents.Refused r) → OpenDone levels ctx s (opens.Refused r)
   unfolding open_read
-  open-broken {kind} {n} {r} h z c =
+  open_broken {kind} {n} {r} h z c =
       let e : refused r ≡ content_of (kind_from kind) (take n (drop 3 s)) = rw (add-sub_cancel_left 3 n) at c.says in
       record { says = read_content_lem levels ctx s (sym h.says) z ∙ rw (← e); fits = tt }
 
-  pub open-node : {kind : code.Kind} {n : ℕ} (node : Node) → HeadDone ctx s (heads.Field kind n) → (levels ≡ 0 → ⊥)
+  pub open_node_lem : {kind : code.Kind} {n : ℕ} (node : Node) → HeadDone ctx s (heads.Field kind n) → (levels ≡ 0 → ⊥)
       → ContentDone (kind_from kind) (take (3 + n - 3) (drop 3 s)) (contents.Node node) → OpenDone levels ctx s (opens.Node node (3 + n))
   unfolding open_read
-  open-node {kind} {n} node h z c =
+  open_node_lem {kind} {n} node h z c =
       let inner : Answer (Forest Named) =
       read_fields (due_of node) (read_term (levels - 1) (context_below (label_of node 0) ctx)) (drop (fixed_of node) (take n (drop 3 s))) in
       let e : got (content_with node (take n (drop 3 s))) ≡ content_of (kind_from kind) (take n (drop 3 s)) =

@@ -23,17 +23,17 @@ use Rattle.meaning.proofs.ViewLaws.{nameless_closed}
 use Rattle.tokens.specs.Token.{depth_in, size_in}
 use Rattle.tokens.specs.Key.{at, nodes, Inside}
 use Rattle.tokens.proofs.Codes.{view_from}
-use Rattle.tokens.proofs.KeyLaws.{stands-depth, stands-part, stands-inside}
+use Rattle.tokens.proofs.KeyLaws.{stands_depth, stands_part, stands_inside}
 use Rattle.tokens.proofs.ProblemTokens.{Room}
 use Rattle.lockstep.specs.Walk.{lockstep, at_slots}
 use Rattle.lockstep.specs.Recorded.{RecordedBy, Both}
-use Rattle.lockstep.proofs.WalkTrees.{seen_walk, flat-trees}
+use Rattle.lockstep.proofs.WalkTrees.{seen_walk, flat_trees}
 use Rattle.lockstep.proofs.SlotWalk.{seen_slots, tells_slots, Looks, Deep, seen_both}
 use Rattle.lockstep.proofs.TokenDepths.{tokens_deep}
 use Rattle.faces.proofs.NodeTokens.{AtNode, node_size}
 use Rattle.bodies.proofs.HoleTests.{Spotted, spots}
 use Rattle.filled.specs.Filled.{span_across, walk_across}
-use Rattle.filled.proofs.Moved.{moved-within, moved-seen, moved_deep}
+use Rattle.filled.proofs.Moved.{moved_within, moved_seen, moved_deep}
 
 abbrev pub from : ℕ → Terms → ℕ → Option Term
 from i u m = choose (ltb m i) none (node_at (m - i) u)
@@ -51,13 +51,13 @@ from_node i u m t e =
 -- What a node's token and tokens are
 module _ (t : List ℕ) (i : ℕ) (a : Term) (A : AtNode t i a) where
   pub node_depth : depth_in (at t i) ≡ length A.scope
-  node_depth = stands-depth A.levels A.context t i A.scope A.named A.held A.stands
+  node_depth = stands_depth A.levels A.context t i A.scope A.named A.held A.stands
 
-  pub node-whole : Inside t i
-  node-whole = stands-inside A.levels A.context t i A.scope A.named A.held A.stands
+  pub node_whole : Inside t i
+  node_whole = stands_inside A.levels A.context t i A.scope A.named A.held A.stands
 
-  node-within : Closed (length A.scope) (one a)
-  node-within = subst (λ (x : Term). Closed (length A.scope) (one x)) (sym A.term) (nameless_closed A.scope (one A.named))
+  node_within : Closed (length A.scope) (one a)
+  node_within = subst (λ (x : Term). Closed (length A.scope) (one x)) (sym A.term) (nameless_closed A.scope (one A.named))
 
   node_room : Room A.levels A.scope (one A.named)
   node_room = record { depths = A.held.depths; sizes = A.held.sizes }
@@ -70,34 +70,34 @@ module _ (t : List ℕ) (i : ℕ) (a : Term) (A : AtNode t i a) where
 
 module _ (t u : List ℕ) (i j n : ℕ) (a b : Term) (A : AtNode t i a) (B : AtNode u j b)
     (deeper : length B.scope ≡ n + length A.scope) (few : length t ≤ 65536) where
-  on-tokens : walk_across t i u j ≡ seen_walk seen_slots i j (view_from A.scope 0 (one a)) (view_from B.scope 0 (one b))
+  on_tokens : walk_across t i u j ≡ seen_walk seen_slots i j (view_from A.scope 0 (one a)) (view_from B.scope 0 (one b))
   unfolding walk_across span_across
-  on-tokens =
+  on_tokens =
       let z : i + size_in (at t i) - i ≡ size_in (at t i) = omega arith in
       ap₂ (λ (x y : ℕ). lockstep at_slots x y 0 i j (nodes t i (i + size_in (at t i) - i)) (drop j u)) (node_depth t i a A)
       (node_depth u j b B)
       ∙ ap₂ (lockstep at_slots (length A.scope) (length B.scope) 0 i j)
-      (ap (nodes t i) z ∙ stands-part A.levels A.context t i A.scope A.named A.held A.stands) B.stands.split
-      ∙ flat-trees at_slots seen_slots A.scope B.scope (tells_slots A.scope) i j A.levels B.levels A.context B.context
+      (ap (nodes t i) z ∙ stands_part A.levels A.context t i A.scope A.named A.held A.stands) B.stands.split
+      ∙ flat_trees at_slots seen_slots A.scope B.scope (tells_slots A.scope) i j A.levels B.levels A.context B.context
       (one A.named) (one B.named) B.stands.after A.held.readable B.held.readable (node_room t i a A) (node_room u j b B)
       refl
       ∙ ap₂ (λ (x y : Term). seen_walk seen_slots i j (view_from A.scope 0 (one x)) (view_from B.scope 0 (one y)))
       (sym A.term) (sym B.term)
 
   -- THE THEOREM
-  pub across-walk : Both (RecordedBy (from i (one (shift_term n a))) (from j (one b)) (λ m. depth_in (at t m))) (walk_across t i u j)
+  pub across_walk : Both (RecordedBy (from i (one (shift_term n a))) (from j (one b)) (λ m. depth_in (at t m))) (walk_across t i u j)
       (walk (length A.scope) j (one (shift_term n a)) (one b))
-  across-walk =
+  across_walk =
       subst (λ (o : Option (List ℕ)). Both (RecordedBy (from i (one (shift_term n a))) (from j (one b)) (λ m. depth_in (at t m))) o
       (walk (length A.scope) j (one (shift_term n a)) (one b)))
-      (sym (on-tokens ∙ ap (λ (w : View ℕ). seen_walk seen_slots i j w (view_from B.scope 0 (one b)))
-      (moved-seen A.scope B.scope n deeper a (node-within t i a A))))
+      (sym (on_tokens ∙ ap (λ (w : View ℕ). seen_walk seen_slots i j w (view_from B.scope 0 (one b)))
+      (moved_seen A.scope B.scope n deeper a (node_within t i a A))))
       (seen_both (from i (one (shift_term n a))) (from j (one b)) (λ m. depth_in (at t m)) B.scope (length A.scope) 0 i j
       (one (shift_term n a)) (one b)
-      (widened (shift_term n a) (moved-within A.scope B.scope n deeper a (node-within t i a A)))
-      (widened b (node-within u j b B)) (from_looks i (one (shift_term n a))) (from_looks j (one b))
+      (widened (shift_term n a) (moved_within A.scope B.scope n deeper a (node_within t i a A)))
+      (widened b (node_within u j b B)) (from_looks i (one (shift_term n a))) (from_looks j (one b))
       (moved_deep (λ m. depth_in (at t m)) n 0 i (length A.scope) (one a) (node_deep t i a A))
-      (omega (arith, relabel_size inner (shift_label n) 0 (one a), node_size t i a A, (node-whole t i a A).ends)))
+      (omega (arith, relabel_size inner (shift_label n) 0 (one a), node_size t i a A, (node_whole t i a A).ends)))
     where
       widened : (x : Term) → Closed (length B.scope) (one x) → Closed (0 + length B.scope) (one x)
       widened x = subst (λ (m : ℕ). Closed m (one x)) (sym (zero-add (length B.scope)))

@@ -26,17 +26,17 @@ use Rattle.meaning.proofs.Proper.{IsArgument, relabel_nil}
 use Rattle.meaning.proofs.Renaming.{one_injective}
 use Rattle.meaning.proofs.ShiftLaws.{shift_closed_term}
 use Rattle.meaning.proofs.Slots.{faces_expression}
-use Rattle.meaning.proofs.Sources.{argument_filled, argument_of}
+use Rattle.meaning.proofs.Sources.{argument_filled, argument_of_lem}
 use Rattle.meaning.proofs.ViewLaws.{nameless_closed}
 use Rattle.tokens.specs.Token.{depth_in, payload_of, pattern_tokens, expression_tokens}
 use Rattle.tokens.specs.Key.{at, Inside}
 use Rattle.demands.proofs.Holding.{filled_arguments}
-use Rattle.demands.proofs.SlotKinds.{IsHoleOf, body-face}
+use Rattle.demands.proofs.SlotKinds.{IsHoleOf, body_face}
 use Rattle.demands.proofs.Suiting.{Gets}
 use Rattle.lockstep.specs.Walk.{pattern_node}
 use Rattle.lockstep.specs.Recorded.{Records, RecordedBy, Both}
 use Rattle.lockstep.proofs.SlotWalk.{Deep}
-use Rattle.faces.proofs.NodeTokens.{AtNode, node-inside, node-payload, pattern-node}
+use Rattle.faces.proofs.NodeTokens.{AtNode, node_inside, node_payload, pattern_node_lem}
 use Rattle.bodies.proofs.HoleTests.{Spotted}
 use Rattle.sources.proofs.RecordedDemands.{slot_fits}
 use Rattle.said.specs.Said.{item_of, entry_tag, TermAt, EntryAt, SaidBy}
@@ -44,10 +44,10 @@ use Rattle.said.specs.declared.Said.{Said}
 use Rattle.said.proofs.SaidLaws.{said_item}
 use Rattle.filled.specs.Filled.{walk_across, number_at, hole_at, body_at, application_at, argument_at}
 use Rattle.filled.specs.Ready.{Faced, Argued, ArguedAt, Bodied, Applied}
-use Rattle.filled.proofs.Cases.{without-body, with-body}
-use Rattle.filled.proofs.Deciding.{Decides, decides_no, fill-decided}
-use Rattle.filled.proofs.Across.{from, node_depth, node-whole, node_deep, across-walk, across_spotted}
-use Rattle.filled.proofs.Values.{slot_never, text_node, faced-at}
+use Rattle.filled.proofs.Cases.{without_body, with_body}
+use Rattle.filled.proofs.Deciding.{Decides, decides_no, fill_decided}
+use Rattle.filled.proofs.Across.{from, node_depth, node_whole, node_deep, across_walk, across_spotted}
+use Rattle.filled.proofs.Values.{slot_never, text_node, faced_at}
 use Rattle.filled.proofs.Arguments.{argument_decided}
 
 -- A text's body is a body of one place
@@ -93,35 +93,35 @@ module _ (p : Problem) (w : WithinLimits p) (ts : List ℕ) (is : List Item) (s 
   abbrev first : Term
   first = argument x.children 0
 
-  some-argument : 0 < trees x.children
-  some-argument = omega (arith, shape.0)
+  some_argument : 0 < trees x.children
+  some_argument = omega (arith, shape.0)
 
   slots : node_at i (patterns p) ≡ some (slot (function f 1), x.children)
   slots = recorded.slots ∙ ap (λ (z : Slot). some (slot z, x.children)) applies
 
-  application-node : AtNode ps i (slot (function f 1), x.children)
-  application-node = pattern-node p w i (slot (function f 1), x.children) slots
+  application_node : AtNode ps i (slot (function f 1), x.children)
+  application_node = pattern_node_lem p w i (slot (function f 1), x.children) slots
 
   first_there : node_at (i + 1) (patterns p) ≡ some first
   first_there =
       stands_node (stands_in (node_stands i (patterns p) (slot (function f 1), x.children) slots)
-      (below (first_stands x.children some-argument)) refl)
+      (below (first_stands x.children some_argument)) refl)
 
-  abbrev first-node : AtNode ps (i + 1) first
-  first-node = pattern-node p w (i + 1) first first_there
+  abbrev first_node_lem : AtNode ps (i + 1) first
+  first_node_lem = pattern_node_lem p w (i + 1) first first_there
 
   -- The argument's binders are those of the application
-  first_depth : length first-node.scope ≡ x.under
+  first_depth : length first_node_lem.scope ≡ x.under
   first_depth =
-      let app = node_deep ps i (slot (function f 1), x.children) application-node in
-      let deep : depth_in (at ps (suc i)) ≡ length application-node.scope =
-      first_deep (λ m. depth_in (at ps m)) (suc i) (length application-node.scope) x.children some-argument app.1 in
-      sym (node_depth ps (i + 1) first first-node) ∙ ap (λ (m : ℕ). depth_in (at ps m)) (add-one i) ∙ deep ∙ sym app.0 ∙ recorded.under
+      let app = node_deep ps i (slot (function f 1), x.children) application_node in
+      let deep : depth_in (at ps (suc i)) ≡ length application_node.scope =
+      first_deep (λ m. depth_in (at ps m)) (suc i) (length application_node.scope) x.children some_argument app.1 in
+      sym (node_depth ps (i + 1) first first_node_lem) ∙ ap (λ (m : ℕ). depth_in (at ps m)) (add-one i) ∙ deep ∙ sym app.0 ∙ recorded.under
 
   -- What is put into the holes
-  arguments-are : filled_arguments (said is) x 0 ≡ fill_term (fill_handler (said is)) (length first-node.scope) first
-  arguments-are =
-      argument_filled (fill_handler (said is)) x.under x.children 0 some-argument
+  arguments_are_lem : filled_arguments (said is) x 0 ≡ fill_term (fill_handler (said is)) (length first_node_lem.scope) first
+  arguments_are_lem =
+      argument_filled (fill_handler (said is)) x.under x.children 0 some_argument
       ∙ ap (λ (k : ℕ). fill_term (fill_handler (said is)) k first) (sym first_depth)
 
   -- The body that the text gives
@@ -136,22 +136,22 @@ module _ (p : Problem) (w : WithinLimits p) (ts : List ℕ) (is : List Item) (s 
     deeper = length spotted.there.scope
 
     -- A closed body is not changed by the binders above what it is walked against
-    body_walk : Both
+    body_walk_lem : Both
         (RecordedBy (from (at s.nodes f) (one b)) (from x.node (one x.term)) (λ m. depth_in (at ts m)))
         (walk_across ts (at s.nodes f) es x.node) (walk 0 x.node (one b) (one x.term))
-    body_walk =
+    body_walk_lem =
         subst (λ (c : Term). Both
         (RecordedBy (from (at s.nodes f) (one c)) (from x.node (one x.term)) (λ m. depth_in (at ts m)))
         (walk_across ts (at s.nodes f) es x.node) (walk 0 x.node (one c) (one x.term)))
         (shift_closed_term deeper b (nameless_closed [] (one t)))
-        (across-walk ts es (at s.nodes f) x.node deeper b x.term body_node spotted.there (omega arith) by.is_table.small)
+        (across_walk ts es (at s.nodes f) x.node deeper b x.term body_node spotted.there (omega arith) by.is_table.small)
 
     -- A hole that is met
     hole_decided : (hs : List Face) → walk 0 x.node (one b) (one x.term) ≡ some hs → (m : ℕ) (h : Face) → h ∈ hs
         → Records (from (at s.nodes f) (one b)) (from x.node (one x.term)) (λ a. depth_in (at ts a)) m h
         → Decides (ArguedAt ps es ts s (i + 1) m) (hole_at ps es ts s (i + 1) m) (Satisfied (plug_handler (filled_arguments (said is) x)) h)
     hole_decided hs e m h q r =
-        go (body-face 0 x.node (one b) (one x.term) hs e h q 1
+        go (body_face 0 x.node (one b) (one x.term) hs e h q 1
         (readable_body max_depth [] (one t) at_body.held.readable))
       where
         there : Spotted es (length spotted.there.scope) h
@@ -159,9 +159,9 @@ module _ (p : Problem) (w : WithinLimits p) (ts : List ℕ) (is : List Item) (s 
             across_spotted es x.node x.term spotted.there 0 (length spotted.there.scope) (omega arith) (one b) hs e h q
 
         argued : Decides (Argued ps es ts s (i + 1) h.node) (argument_at ps es ts s (i + 1) h.node)
-            (shift_term h.under (fill_term (fill_handler (said is)) (length first-node.scope) first) ≡ h.term)
+            (shift_term h.under (fill_term (fill_handler (said is)) (length first_node_lem.scope) first) ≡ h.term)
         argued =
-            argument_decided p w (i + 1) first first_there ts is s by (argument_of x.children 0 shape.1 some-argument) h.node
+            argument_decided p w (i + 1) first first_there ts is s by (argument_of_lem x.children 0 shape.1 some_argument) h.node
             h.under h.term there.there
             (faces_expression 0 x.node (one b) (one x.term) hs expression e h q)
             (omega (arith, there.deep, spotted.deep, first_depth))
@@ -176,23 +176,23 @@ module _ (p : Problem) (w : WithinLimits p) (ts : List ℕ) (is : List Item) (s 
             (subst (λ (j : ℕ). Decides (Argued ps es ts s (i + 1) j) (argument_at ps es ts s (i + 1) j)
             (shift_term h.under (filled_arguments (said is) x 0) ≡ h.term)) (sym r.node)
             (subst (λ (a : Term). Decides (Argued ps es ts s (i + 1) h.node) (argument_at ps es ts s (i + 1) h.node)
-            (shift_term h.under a ≡ h.term)) (sym arguments-are) argued))
+            (shift_term h.under a ≡ h.term)) (sym arguments_are_lem) argued))
 
     walk_told : Decides ((hs : List ℕ) → walk_across ts (at s.nodes f) es x.node ≡ some hs → All (ArguedAt ps es ts s (i + 1)) hs)
         (body_at ps es ts s (at s.nodes f) (i + 1) x.node)
         (fill (plug_handler (filled_arguments (said is) x)) 0 (one b) ≡ one x.term)
     unfolding body_at
     walk_told =
-        fill-decided (from (at s.nodes f) (one b)) (from x.node (one x.term)) (λ a. depth_in (at ts a))
+        fill_decided (from (at s.nodes f) (one b)) (from x.node (one x.term)) (λ a. depth_in (at ts a))
         (ArguedAt ps es ts s (i + 1)) (hole_at ps es ts s (i + 1)) (plug_handler (filled_arguments (said is) x)) 0 x.node (one b)
-        (one x.term) (walk_across ts (at s.nodes f) es x.node) body_walk hole_decided
+        (one x.term) (walk_across ts (at s.nodes f) es x.node) body_walk_lem hole_decided
 
     body_decided : Decides (Bodied ps es ts s (at s.nodes f) (i + 1) x.node) (body_at ps es ts s (at s.nodes f) (i + 1) x.node)
         (plug (filled_arguments (said is) x) b ≡ x.term)
     body_decided = record {
       can = record {
-        body = node-whole ts (at s.nodes f) b body_node;
-        across = (node-whole es x.node x.term spotted.there).starts;
+        body = node_whole ts (at s.nodes f) b body_node;
+        across = (node_whole es x.node x.term spotted.there).starts;
         holes = walk_told.can;
       };
       into = λ t. one_injective (plug (filled_arguments (said is) x) b) x.term (walk_told.into t);
@@ -202,15 +202,15 @@ module _ (p : Problem) (w : WithinLimits p) (ts : List ℕ) (is : List Item) (s 
   -- The function is the number that the application's token has
   number : number_at ps n ≡ f
   unfolding payload_of
-  number = node-payload ps i (function f 1) x.children application-node
+  number = node_payload ps i (function f 1) x.children application_node
 
   small : f < metavariable_count
-  small = (slot_fits ps i (function f 1) x.children application-node).0
+  small = (slot_fits ps i (function f 1) x.children application_node).0
 
   faced : Faced ps es ts s n
   faced =
-      faced-at ts is s by ps es n f (node-inside ps i (slot (function f 1), x.children) application-node) number small
-      (subst (Inside es) (sym recorded.node) (node-whole es x.node x.term spotted.there))
+      faced_at ts is s by ps es n f (node_inside ps i (slot (function f 1), x.children) application_node) number small
+      (subst (Inside es) (sym recorded.node) (node_whole es x.node x.term spotted.there))
 
   -- What the text gives it
   abbrev Given : ℕ → ℕ → Type 0
@@ -222,17 +222,17 @@ module _ (p : Problem) (w : WithinLimits p) (ts : List ℕ) (is : List Item) (s 
   no_body : (at s.tags f ≡ 9 → ⊥) → Told (slot (function f 0), nil)
   no_body h =
       decides_no (Given f x.node) (application_at ps es ts s n) (◌≡◌ {A = Term} (slot (function f 0), nil) x.term)
-      (λ q. absurd (h q)) (without-body ps es ts s n (λ q. h (ap (at s.tags) (sym number) ∙ q)))
+      (λ q. absurd (h q)) (without_body ps es ts s n (λ q. h (ap (at s.tags) (sym number) ∙ q)))
       (slot_never (function f 0) nil x.term expression)
 
-  given-decided : (o : Entry NamedTerm) → at s.tags f ≡ entry_tag o → EntryAt ts (at s.nodes f) o → Told (body_or f (meant o))
-  given-decided absent e a = no_body (λ q. omega arith)
-  given-decided left_open e a = no_body (λ q. omega arith)
-  given-decided (value t) e a = no_body (λ q. omega arith)
-  given-decided (body t) e a =
+  given_decided : (o : Entry NamedTerm) → at s.tags f ≡ entry_tag o → EntryAt ts (at s.nodes f) o → Told (body_or f (meant o))
+  given_decided absent e a = no_body (λ q. omega arith)
+  given_decided left_open e a = no_body (λ q. omega arith)
+  given_decided (value t) e a = no_body (λ q. omega arith)
+  given_decided (body t) e a =
       let d = body_decided t a in
       let same : application_at ps es ts s n ≡ body_at ps es ts s (at s.nodes f) (i + 1) x.node =
-      with-body ps es ts s n (ap (at s.tags) number ∙ e)
+      with_body ps es ts s n (ap (at s.tags) number ∙ e)
       ∙ ap₂ (λ (g j : ℕ). body_at ps es ts s (at s.nodes g) (i + 1) j) number recorded.node in
       record { can = λ q. d.can; into = λ q. d.into (sym same ∙ q); back = λ q. same ∙ d.back q }
 
@@ -241,11 +241,11 @@ module _ (p : Problem) (w : WithinLimits p) (ts : List ℕ) (is : List Item) (s 
       subst (λ (z : Slot). Decides (Given f x.node) (application_at ps es ts s n)
       (fill_handler (said is) x.under z (fill (fill_handler (said is)) x.under x.children) ≡ x.term)) (sym applies)
       (subst (λ (o : Entry Term). Told (body_or f o)) (sym (said_item is f))
-      (given-decided (item_of is f) (by.tags f small) (by.nodes f small)))
+      (given_decided (item_of is f) (by.tags f small) (by.nodes f small)))
 
   -- THE APPLICATION
-  pub application-decided : Decides (Applied ps es ts s n) (application_at ps es ts s n) (Satisfied (fill_handler (said is)) x)
-  application-decided = record {
+  pub application_decided : Decides (Applied ps es ts s n) (application_at ps es ts s n) (Satisfied (fill_handler (said is)) x)
+  application_decided = record {
     can = record {
       faced = faced;
       bodied = subst (Given (number_at ps n)) (sym recorded.node) (subst (λ (g : ℕ). Given g x.node) (sym number) told.can);

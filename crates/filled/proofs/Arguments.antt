@@ -16,34 +16,34 @@ use Rattle.meaning.specs.Face.{Face, walk}
 use Rattle.meaning.specs.Agree.{Satisfied}
 use Rattle.meaning.specs.Text.{Item, said}
 use Rattle.meaning.specs.Readable.{WithinLimits}
-use Rattle.meaning.proofs.Nodes.{node_stands, stands_node, stands_in, stands-relabel}
+use Rattle.meaning.proofs.Nodes.{node_stands, stands_node, stands_in, stands_relabel}
 use Rattle.meaning.proofs.Proper.{IsArgument}
 use Rattle.meaning.proofs.Renaming.{one_injective}
 use Rattle.meaning.proofs.Slots.{faces_expression}
 use Rattle.tokens.specs.Token.{depth_in, pattern_tokens, expression_tokens}
 use Rattle.tokens.specs.Key.{at}
-use Rattle.tokens.proofs.ProblemTokens.{pattern-table}
-use Rattle.demands.proofs.SlotKinds.{IsMetavariable, argument-face}
+use Rattle.tokens.proofs.ProblemTokens.{pattern_table_lem}
+use Rattle.demands.proofs.SlotKinds.{IsMetavariable, argument_face}
 use Rattle.lockstep.specs.Walk.{pattern_node, expression_node}
 use Rattle.lockstep.specs.Recorded.{Records}
-use Rattle.faces.proofs.NodeTokens.{AtNode, pattern-node}
+use Rattle.faces.proofs.NodeTokens.{AtNode, pattern_node_lem}
 use Rattle.said.specs.Said.{SaidBy}
 use Rattle.said.specs.declared.Said.{Said}
 use Rattle.filled.specs.Filled.{walk_across, faced_value_at, argument_at}
 use Rattle.filled.specs.Ready.{Faced, Argued}
-use Rattle.filled.proofs.Deciding.{Decides, fill-decided}
+use Rattle.filled.proofs.Deciding.{Decides, fill_decided}
 use Rattle.filled.proofs.Moved.{moved_slot, moved_argument, moved_filled}
-use Rattle.filled.proofs.Across.{from, from_node, node-whole, across-walk, across_spotted}
-use Rattle.filled.proofs.Values.{said_closed, face-decided}
+use Rattle.filled.proofs.Across.{from, from_node, node_whole, across_walk, across_spotted}
+use Rattle.filled.proofs.Values.{said_closed, face_decided}
 
 module _ (p : Problem) (w : WithinLimits p) (i : ℕ) (argument : Term) (stands : node_at i (patterns p) ≡ some argument) where
   -- A slot of the argument, wherever that is moved, is a slot of the patterns
-  slot-there : (n m : ℕ) (z : Slot) (c : Terms) → from i (one (shift_term n argument)) m ≡ some (slot z, c)
+  slot_there : (n m : ℕ) (z : Slot) (c : Terms) → from i (one (shift_term n argument)) m ≡ some (slot z, c)
       → (c' : Terms) × (node_at m (patterns p) ≡ some (slot z, c'))
-  slot-there n m z c e =
+  slot_there n m z c e =
       let (low, q) = from_node i (one (shift_term n argument)) m (slot z, c) e in
       let (k, t, there, same) =
-      stands-relabel inner (shift_label n) (one argument) 0 (node_stands (m - i) (one (shift_term n argument)) (slot z, c) q) in
+      stands_relabel inner (shift_label n) (one argument) 0 (node_stands (m - i) (one (shift_term n argument)) (slot z, c) q) in
       let number : m ≡ i + (m - i) = omega arith in
       let label : t.0 ≡ slot z = moved_slot n k t.0 z (sym (ap (λ (x : Term). x.0) same)) in (
         t.1,
@@ -51,12 +51,12 @@ module _ (p : Problem) (w : WithinLimits p) (i : ℕ) (argument : Term) (stands 
             ∙ ap (λ (l : Nameless). some (l, t.1)) label,
       )
 
-  abbrev pub argument-node : AtNode (pattern_tokens p) i argument
-  argument-node = pattern-node p w i argument stands
+  abbrev pub argument_node : AtNode (pattern_tokens p) i argument
+  argument_node = pattern_node_lem p w i argument stands
 
   module _ (ts : List ℕ) (is : List Item) (s : Said) (by : SaidBy ts is s) (is_argument : IsArgument (one argument)) (j n : ℕ) (v : Term)
       (across : AtNode (expression_tokens p) j v) (expression : IsExpression (one v))
-      (deeper : length across.scope ≡ n + length argument-node.scope) where
+      (deeper : length across.scope ≡ n + length argument_node.scope) where
     abbrev ps : List ℕ
     ps = pattern_tokens p
 
@@ -64,7 +64,7 @@ module _ (p : Problem) (w : WithinLimits p) (i : ℕ) (argument : Term) (stands 
     es = expression_tokens p
 
     abbrev k : ℕ
-    k = length argument-node.scope
+    k = length argument_node.scope
 
     abbrev moved : Terms
     moved = one (shift_term n argument)
@@ -74,7 +74,7 @@ module _ (p : Problem) (w : WithinLimits p) (i : ℕ) (argument : Term) (stands 
         → Records (from i moved) (from j (one v)) (λ a. depth_in (at ps a)) m y
         → Decides (Faced ps es ts s m) (faced_value_at ps es ts s m) (Satisfied (fill_handler (said is)) y)
     met_decided ys e m y q r =
-        go (argument-face k j moved (one v) ys e y q (moved_argument n 0 (one argument) is_argument))
+        go (argument_face k j moved (one v) ys e y q (moved_argument n 0 (one argument) is_argument))
       where
         there : AtNode es (expression_node m) y.term
         there =
@@ -83,20 +83,20 @@ module _ (p : Problem) (w : WithinLimits p) (i : ℕ) (argument : Term) (stands 
 
         go : IsMetavariable y.what → Decides (Faced ps es ts s m) (faced_value_at ps es ts s m) (Satisfied (fill_handler (said is)) y)
         go (x, kind) =
-            let (c, slots) = slot-there n (pattern_node m) y.what y.children r.slots in
+            let (c, slots) = slot_there n (pattern_node m) y.what y.children r.slots in
             subst (λ (z : Slot). Decides (Faced ps es ts s m) (faced_value_at ps es ts s m)
             (fill_handler (said is) y.under z (fill (fill_handler (said is)) y.under y.children) ≡ y.term)) (sym kind)
-            (face-decided ts is s by ps es m x c y.term
-            (pattern-node p w (pattern_node m) (slot (metavariable x), c) (slots ∙ ap (λ (z : Slot). some (slot z, c)) kind)) there
+            (face_decided ts is s by ps es m x c y.term
+            (pattern_node_lem p w (pattern_node m) (slot (metavariable x), c) (slots ∙ ap (λ (z : Slot). some (slot z, c)) kind)) there
             (faces_expression k j moved (one v) ys expression e y q))
 
     walk_told : Decides ((ns : List ℕ) → walk_across ps i es j ≡ some ns → All (Faced ps es ts s) ns) (argument_at ps es ts s i j)
         (fill (fill_handler (said is)) k moved ≡ one v)
     unfolding argument_at
     walk_told =
-        fill-decided (from i moved) (from j (one v)) (λ a. depth_in (at ps a)) (Faced ps es ts s) (faced_value_at ps es ts s)
+        fill_decided (from i moved) (from j (one v)) (λ a. depth_in (at ps a)) (Faced ps es ts s) (faced_value_at ps es ts s)
         (fill_handler (said is)) k j moved (one v) (walk_across ps i es j)
-        (across-walk ps es i j n argument v argument-node across deeper (pattern-table p w).small) met_decided
+        (across_walk ps es i j n argument v argument_node across deeper (pattern_table_lem p w).small) met_decided
 
     -- THE ARGUMENT
     pub argument_decided : Decides (Argued ps es ts s i j) (argument_at ps es ts s i j)
@@ -107,8 +107,8 @@ module _ (p : Problem) (w : WithinLimits p) (i : ℕ) (argument : Term) (stands 
         moved_filled (said is) (said_closed is) n 0 k (one argument) is_argument in
         record {
           can = record {
-            argument = node-whole ps i argument argument-node;
-            across = (node-whole es j v across).starts;
+            argument = node_whole ps i argument argument_node;
+            across = (node_whole es j v across).starts;
             faces = walk_told.can;
           };
           into = λ t. one_injective (shift_term n f) v (later ∙ walk_told.into t);

@@ -13,9 +13,9 @@ use Rattle.filled.specs.Filled.{value_at, number_at, faced_value_at, body_at, ap
 
 -- A metavariable that is given no value, and one that is given one
 module _ (ts : List ℕ) (s : Said) (es : List ℕ) (m j : ℕ) where
-  pub without-value : (at s.tags m ≡ 8 → ⊥) → value_at ts s es m j ≡ false
+  pub without_value : (at s.tags m ≡ 8 → ⊥) → value_at ts s es m j ≡ false
   unfolding value_at
-  without-value h = ap (λ (b : Bool). b && same_across ts (at s.nodes m) es j) (ne_eqb (at s.tags m) 8 h)
+  without_value h = ap (λ (b : Bool). b && same_across ts (at s.nodes m) es j) (ne_eqb (at s.tags m) 8 h)
 
   pub with_value : at s.tags m ≡ 8 → value_at ts s es m j ≡ same_across ts (at s.nodes m) es j
   unfolding value_at
@@ -26,20 +26,20 @@ module _ (ps es ts : List ℕ) (s : Said) (n : ℕ) where
   abbrev body : Bool
   body = body_at ps es ts s (at s.nodes (number_at ps n)) (pattern_node n + 1) (expression_node n)
 
-  pub without-body : (at s.tags (number_at ps n) ≡ 9 → ⊥) → application_at ps es ts s n ≡ false
+  pub without_body : (at s.tags (number_at ps n) ≡ 9 → ⊥) → application_at ps es ts s n ≡ false
   unfolding application_at
-  without-body h = ap (λ (b : Bool). b && body) (ne_eqb (at s.tags (number_at ps n)) 9 h)
+  without_body h = ap (λ (b : Bool). b && body) (ne_eqb (at s.tags (number_at ps n)) 9 h)
 
-  pub with-body : at s.tags (number_at ps n) ≡ 9
+  pub with_body : at s.tags (number_at ps n) ≡ 9
       → application_at ps es ts s n ≡ body_at ps es ts s (at s.nodes (number_at ps n)) (pattern_node n + 1) (expression_node n)
   unfolding application_at
-  with-body e = ap (λ (b : Bool). b && body) (eq-eqb (at s.tags (number_at ps n)) 9 e)
+  with_body e = ap (λ (b : Bool). b && body) (eq-eqb (at s.tags (number_at ps n)) 9 e)
 
   -- The face of a metavariable, and that of an application
-  pub plain-face : (tag_in (at ps (pattern_node n)) ≡ 6 → ⊥) → face_at ps es ts s n ≡ faced_value_at ps es ts s n
+  pub plain_face : (tag_in (at ps (pattern_node n)) ≡ 6 → ⊥) → face_at ps es ts s n ≡ faced_value_at ps es ts s n
   unfolding face_at
-  plain-face h = choose_false (application_at ps es ts s n) (faced_value_at ps es ts s n) (ne_eqb (tag_in (at ps (pattern_node n))) 6 h)
+  plain_face h = choose_false (application_at ps es ts s n) (faced_value_at ps es ts s n) (ne_eqb (tag_in (at ps (pattern_node n))) 6 h)
 
-  pub applied-face : tag_in (at ps (pattern_node n)) ≡ 6 → face_at ps es ts s n ≡ application_at ps es ts s n
+  pub applied_face : tag_in (at ps (pattern_node n)) ≡ 6 → face_at ps es ts s n ≡ application_at ps es ts s n
   unfolding face_at
-  applied-face e = choose_true (application_at ps es ts s n) (faced_value_at ps es ts s n) (eq-eqb (tag_in (at ps (pattern_node n))) 6 e)
+  applied_face e = choose_true (application_at ps es ts s n) (faced_value_at ps es ts s n) (eq-eqb (tag_in (at ps (pattern_node n))) 6 e)

@@ -21,35 +21,35 @@ use Rattle.said.specs.declared.Said.{Said}
 use Rattle.filled.specs.Filled.{span_across, walk_across, value_at, number_at, faced_value_at, argument_at, hole_at, body_at, application_at}
 use Rattle.filled.specs.Filled.{face_at}
 use Rattle.filled.specs.Ready.{Crossing, ProblemTables, Text, SaidOf, Faced, Argued, ArguedAt, Bodied, Applied}
-use Rattle.filled.proofs.Cases.{without-body, with-body, plain-face, applied-face}
+use Rattle.filled.proofs.Cases.{without_body, with_body, plain_face, applied_face}
 
 -- ---- the walk of two subterms, from the parts of their tokens
 
 module _ (t u : List ℕ) (i j long deep across : ℕ) (size : long ≡ size_in (at t i)) where
-  pub across-lent : (out : List ℕ) → Crossing t i u j out
+  pub across_lent : (out : List ℕ) → Crossing t i u j out
       → Lent t u out (record { from = i; to = i + long; at = j; d = deep; e = across })
-  across-lent out c = record {
+  across_lent out c = record {
     patterns = c.left;
     expressions = c.right;
     inside = omega (arith, c.inside.ends);
     room = omega (arith, c.inside.ends, c.room);
   }
 
-  pub across-walked : deep ≡ depth_in (at t i) → across ≡ depth_in (at u j) → (old new : List ℕ) (r : Shapes)
+  pub across_walked : deep ≡ depth_in (at t i) → across ≡ depth_in (at u j) → (old new : List ℕ) (r : Shapes)
       → Walked (span_walk t u (record { from = i; to = i + long; at = j; d = deep; e = across })) old new r
       → Walked (walk_across t i u j) old new r
   unfolding walk_across span_across
-  across-walked d e old new r w = rw (← size, ← d, ← e) w
+  across_walked d e old new r w = rw (← size, ← d, ← e) w
 
 -- ---- the value that a recorded face asks for
 
 module _ (ps es ts : List ℕ) (s : Said) (n m : ℕ) (number : m ≡ number_at ps n) where
-  pub faced-asks : Faced ps es ts s n → SaidOf ts s m × Inside es (expression_node n)
-  faced-asks f = (subst (SaidOf ts s) (sym number) f.said, f.across)
+  pub faced_asks : Faced ps es ts s n → SaidOf ts s m × Inside es (expression_node n)
+  faced_asks f = (subst (SaidOf ts s) (sym number) f.said, f.across)
 
-  pub faced-answer : (r : Bool) → r ≡ value_at ts s es m (expression_node n) → r ≡ faced_value_at ps es ts s n
+  pub faced_answer : (r : Bool) → r ≡ value_at ts s es m (expression_node n) → r ≡ faced_value_at ps es ts s n
   unfolding faced_value_at
-  faced-answer r e = e ∙ ap (λ (k : ℕ). value_at ts s es k (expression_node n)) number
+  faced_answer r e = e ∙ ap (λ (k : ℕ). value_at ts s es k (expression_node n)) number
 
 -- ---- a test of all recorded faces, one after the other
 
@@ -58,8 +58,8 @@ pub record Testing (ready : ℕ → Type 0) (test : ℕ → Bool) (ns : List ℕ
   pub leads : every test (drop k ns) ≡ every test ns
 
 module _ {ready : ℕ → Type 0} {test : ℕ → Bool} {ns : List ℕ} {k : ℕ} (g : Testing ready test ns k) where
-  pub testing-ends : length ns ≤ k → true ≡ every test ns
-  testing-ends h = sym (ap (every test) (drop_of_length-le ns {i = k} h)) ∙ g.leads
+  pub testing_ends : length ns ≤ k → true ≡ every test ns
+  testing_ends h = sym (ap (every test) (drop_of_length-le ns {i = k} h)) ∙ g.leads
 
   module _ (h : k < length ns) where
     both : All ready (at ns k ∷ drop (suc k) ns)
@@ -94,20 +94,20 @@ text_again ts old new t e = record { table = t.table; room = subst (λ (n : ℕ)
 -- ---- a walk, and then a test of what it recorded
 
 module _ (test : ℕ → Bool) (o : Option (List ℕ)) where
-  walk-fails : o ≡ none → false ≡ holds (every test) o
-  walk-fails e = sym (ap (holds (every test)) e)
+  walk_fails : o ≡ none → false ≡ holds (every test) o
+  walk_fails e = sym (ap (holds (every test)) e)
 
-  walk-found : (new : List ℕ) (n : ℕ) → Found o new n → (r : Bool) → r ≡ every test (take n new) → r ≡ holds (every test) o
-  walk-found new n f r e = e ∙ ap (every test) f.front ∙ sym (ap (holds (every test)) f.walked)
+  walk_found : (new : List ℕ) (n : ℕ) → Found o new n → (r : Bool) → r ≡ every test (take n new) → r ≡ holds (every test) o
+  walk_found new n f r e = e ∙ ap (every test) f.front ∙ sym (ap (holds (every test)) f.walked)
 
 found_ready : (ready : ℕ → Type 0) (o : Option (List ℕ)) → ((ns : List ℕ) → o ≡ some ns → All ready ns) → (new : List ℕ) (n : ℕ)
     → Found o new n → All ready (take n new)
 found_ready ready o all new n f = subst (All ready) (sym f.front) (all f.faces f.walked)
 
 module _ (ps es ts : List ℕ) (s : Said) (i j : ℕ) where
-  pub argument-fails : walk_across ps i es j ≡ none → false ≡ argument_at ps es ts s i j
+  pub argument_fails : walk_across ps i es j ≡ none → false ≡ argument_at ps es ts s i j
   unfolding argument_at
-  argument-fails e = walk-fails (faced_value_at ps es ts s) (walk_across ps i es j) e
+  argument_fails e = walk_fails (faced_value_at ps es ts s) (walk_across ps i es j) e
 
   module _ (new : List ℕ) (n : ℕ) (f : Found (walk_across ps i es j) new n) where
     pub argument_faces : Argued ps es ts s i j → All (Faced ps es ts s) (take n new)
@@ -115,12 +115,12 @@ module _ (ps es ts : List ℕ) (s : Said) (i j : ℕ) where
 
     pub argument_found : (r : Bool) → r ≡ every (faced_value_at ps es ts s) (take n new) → r ≡ argument_at ps es ts s i j
     unfolding argument_at
-    argument_found r e = walk-found (faced_value_at ps es ts s) (walk_across ps i es j) new n f r e
+    argument_found r e = walk_found (faced_value_at ps es ts s) (walk_across ps i es j) new n f r e
 
 module _ (ps es ts : List ℕ) (s : Said) (b i j : ℕ) where
-  pub body-fails : walk_across ts b es j ≡ none → false ≡ body_at ps es ts s b i j
+  pub body_fails : walk_across ts b es j ≡ none → false ≡ body_at ps es ts s b i j
   unfolding body_at
-  body-fails e = walk-fails (hole_at ps es ts s i) (walk_across ts b es j) e
+  body_fails e = walk_fails (hole_at ps es ts s i) (walk_across ts b es j) e
 
   module _ (new : List ℕ) (n : ℕ) (f : Found (walk_across ts b es j) new n) where
     pub body_holes : Bodied ps es ts s b i j → All (ArguedAt ps es ts s i) (take n new)
@@ -128,16 +128,16 @@ module _ (ps es ts : List ℕ) (s : Said) (b i j : ℕ) where
 
     pub body_found : (r : Bool) → r ≡ every (hole_at ps es ts s i) (take n new) → r ≡ body_at ps es ts s b i j
     unfolding body_at
-    body_found r e = walk-found (hole_at ps es ts s i) (walk_across ts b es j) new n f r e
+    body_found r e = walk_found (hole_at ps es ts s i) (walk_across ts b es j) new n f r e
 
 -- ---- one application, by the number of its function
 
 module _ (ps es ts : List ℕ) (s : Said) (n f : ℕ) (number : f ≡ number_at ps n) where
-  pub application-number : Applied ps es ts s n → f < metavariable_count
-  application-number a = subst (λ (m : ℕ). m < metavariable_count) (sym number) a.faced.said.number
+  pub application_number : Applied ps es ts s n → f < metavariable_count
+  application_number a = subst (λ (m : ℕ). m < metavariable_count) (sym number) a.faced.said.number
 
-  pub application-without : (at s.tags f ≡ 9 → ⊥) → false ≡ application_at ps es ts s n
-  application-without h = sym (without-body ps es ts s n (λ q. h (ap (at s.tags) number ∙ q)))
+  pub application_without : (at s.tags f ≡ 9 → ⊥) → false ≡ application_at ps es ts s n
+  application_without h = sym (without_body ps es ts s n (λ q. h (ap (at s.tags) number ∙ q)))
 
   module _ (given : at s.tags f ≡ 9) where
     pub application_bodied : Applied ps es ts s n → Bodied ps es ts s (at s.nodes f) (pattern_node n + 1) (expression_node n)
@@ -149,13 +149,13 @@ module _ (ps es ts : List ℕ) (s : Said) (n f : ℕ) (number : f ≡ number_at 
         → r ≡ application_at ps es ts s n
     application_given r e =
         e ∙ ap (λ (m : ℕ). body_at ps es ts s (at s.nodes m) (pattern_node n + 1) (expression_node n)) number
-        ∙ sym (with-body ps es ts s n (ap (at s.tags) (sym number) ∙ given))
+        ∙ sym (with_body ps es ts s n (ap (at s.tags) (sym number) ∙ given))
 
 -- ---- one face, by the tag of its slot
 
 module _ (ps es ts : List ℕ) (s : Said) (n g : ℕ) (tag : g ≡ tag_in (at ps (pattern_node n))) where
-  pub face-plain : (g ≡ 6 → ⊥) → (r : Bool) → r ≡ faced_value_at ps es ts s n → r ≡ face_at ps es ts s n
-  face-plain h r e = e ∙ sym (plain-face ps es ts s n (λ q. h (tag ∙ q)))
+  pub face_plain : (g ≡ 6 → ⊥) → (r : Bool) → r ≡ faced_value_at ps es ts s n → r ≡ face_at ps es ts s n
+  face_plain h r e = e ∙ sym (plain_face ps es ts s n (λ q. h (tag ∙ q)))
 
-  pub face-applies : g ≡ 6 → (r : Bool) → r ≡ application_at ps es ts s n → r ≡ face_at ps es ts s n
-  face-applies h r e = e ∙ sym (applied-face ps es ts s n (sym tag ∙ h))
+  pub face_applies : g ≡ 6 → (r : Bool) → r ≡ application_at ps es ts s n → r ≡ face_at ps es ts s n
+  face_applies h r e = e ∙ sym (applied_face ps es ts s n (sym tag ∙ h))

@@ -40,25 +40,25 @@ decides_both R S a b P Q d e = record {
 
 module _ (p e : ℕ → Option Term) (d : ℕ → ℕ) (ready : ℕ → Type 0) (test : ℕ → Bool) where
   -- Every recorded face
-  each-decided : (P : Face → Type 0) (ns : List ℕ) (xs : List Face) → RecordedBy p e d ns xs
+  each_decided : (P : Face → Type 0) (ns : List ℕ) (xs : List Face) → RecordedBy p e d ns xs
       → ((n : ℕ) (x : Face) → x ∈ xs → Records p e d n x → Decides (ready n) (test n) (P x))
       → Decides (All ready ns) (every test ns) (All P xs)
-  each-decided P [] [] r f = record { can = tt; into = λ t. tt; back = λ q. refl }
-  each-decided P [] (x ∷ xs) r f = absurd r
-  each-decided P (n ∷ ns) [] r f = absurd r
-  each-decided P (n ∷ ns) (x ∷ xs) r f =
+  each_decided P [] [] r f = record { can = tt; into = λ t. tt; back = λ q. refl }
+  each_decided P [] (x ∷ xs) r f = absurd r
+  each_decided P (n ∷ ns) [] r f = absurd r
+  each_decided P (n ∷ ns) (x ∷ xs) r f =
       decides_both (ready n) (All ready ns) (test n) (every test ns) (P x) (All P xs) (f n x (Memᴰ.head refl) r.0)
-      (each-decided P ns xs r.1 (λ m y q. f m y (Memᴰ.tail q)))
+      (each_decided P ns xs r.1 (λ m y q. f m y (Memᴰ.tail q)))
 
   -- Of a walk that may fail
-  walk-decided : (P : Face → Type 0) (o : Option (List ℕ)) (w : Option (List Face)) → Both (RecordedBy p e d) o w
+  walk_decided : (P : Face → Type 0) (o : Option (List ℕ)) (w : Option (List Face)) → Both (RecordedBy p e d) o w
       → ((xs : List Face) → w ≡ some xs → (n : ℕ) (x : Face) → x ∈ xs → Records p e d n x → Decides (ready n) (test n) (P x))
       → Decides ((ns : List ℕ) → o ≡ some ns → All ready ns) (holds (every test) o) (AllO P w)
-  walk-decided P none none r f = record { can = λ ns q. never (cc); into = λ t. false≢true t; back = λ q. absurd q }
-  walk-decided P none (some xs) r f = absurd r
-  walk-decided P (some ns) none r f = absurd r
-  walk-decided P (some ns) (some xs) r f =
-      let all = each-decided P ns xs r (f xs refl) in
+  walk_decided P none none r f = record { can = λ ns q. never (cc); into = λ t. false≢true t; back = λ q. absurd q }
+  walk_decided P none (some xs) r f = absurd r
+  walk_decided P (some ns) none r f = absurd r
+  walk_decided P (some ns) (some xs) r f =
+      let all = each_decided P ns xs r (f xs refl) in
       record {
         can = λ ms q. subst (All ready) (let same : ns ≡ ms = cc in same) all.can;
         into = all.into;
@@ -66,12 +66,12 @@ module _ (p e : ℕ → Option Term) (d : ℕ → ℕ) (ready : ℕ → Type 0) 
       }
 
   -- THE THEOREM
-  pub fill-decided : (h : Handler) (k j : ℕ) (u v : Terms) (o : Option (List ℕ)) → Both (RecordedBy p e d) o (walk k j u v)
+  pub fill_decided : (h : Handler) (k j : ℕ) (u v : Terms) (o : Option (List ℕ)) → Both (RecordedBy p e d) o (walk k j u v)
       → ((xs : List Face) → walk k j u v ≡ some xs → (n : ℕ) (x : Face) → x ∈ xs → Records p e d n x
       → Decides (ready n) (test n) (Satisfied h x))
       → Decides ((ns : List ℕ) → o ≡ some ns → All ready ns) (holds (every test) o) (fill h k u ≡ v)
-  fill-decided h k j u v o r f =
+  fill_decided h k j u v o r f =
       let l = lockstep h k j u v in
       decides_as ((ns : List ℕ) → o ≡ some ns → All ready ns) (holds (every test) o) (AllO (Satisfied h) (walk k j u v)) (fill h k u ≡ v)
       (l.1, l.0)
-      (walk-decided (Satisfied h) o (walk k j u v) r f)
+      (walk_decided (Satisfied h) o (walk k j u v) r f)

@@ -22,18 +22,18 @@ use Rattle.meaning.specs.Text.{Item, said}
 use Rattle.meaning.specs.Passing.{meets}
 use Rattle.meaning.proofs.Lists.{T_true, true_T, not_T, all_mem}
 use Rattle.meaning.proofs.Alike.{same_terms_eq, same_terms_refl}
-use Rattle.meaning.proofs.Lockstep.{walk-in}
+use Rattle.meaning.proofs.Lockstep.{walk_in}
 use Rattle.meaning.proofs.Proper.{Proper, accepted_proper, expressions_readable}
-use Rattle.meaning.proofs.Slots.{faced-expression, faced-shape}
+use Rattle.meaning.proofs.Slots.{faced_expression, faced_shape}
 use Rattle.masks.proofs.Cases.{same_truth}
 use Rattle.tokens.specs.Token.{Table, depth_in, tag_in, tokens, pattern_tokens, expression_tokens}
 use Rattle.tokens.specs.Key.{at}
-use Rattle.tokens.proofs.ProblemTokens.{expressions-room, pattern-table, expression-table}
-use Rattle.demands.proofs.SlotKinds.{NoHole, pattern-face}
+use Rattle.tokens.proofs.ProblemTokens.{expressions_room, pattern_table_lem, expression_table_lem}
+use Rattle.demands.proofs.SlotKinds.{NoHole, pattern_face}
 use Rattle.lockstep.specs.Walk.{pattern_node, expression_node}
 use Rattle.lockstep.specs.Recorded.{Records, Both}
 use Rattle.faces.specs.Recorded.{Recorded}
-use Rattle.faces.proofs.NodeTokens.{AtNode, node-tag, pattern-node, expression-node}
+use Rattle.faces.proofs.NodeTokens.{AtNode, node_tag, pattern_node_lem, expression_node_lem}
 use Rattle.bodies.proofs.HoleTests.{Spotted, spots}
 use Rattle.sources.proofs.RecordedDemands.{slot_fits}
 use Rattle.said.specs.Said.{SaidBy}
@@ -41,10 +41,10 @@ use Rattle.said.specs.declared.Said.{Said}
 use Rattle.filled.specs.Filled.{faced_value_at, application_at, face_at, filled_at}
 use Rattle.filled.specs.Ready.{ProblemTables, Text, Slotted}
 use Rattle.filled.specs.Grounded.{Grounded}
-use Rattle.filled.proofs.Cases.{plain-face, applied-face}
-use Rattle.filled.proofs.Deciding.{Decides, fill-decided}
-use Rattle.filled.proofs.Values.{face-decided}
-use Rattle.filled.proofs.Applications.{application-decided}
+use Rattle.filled.proofs.Cases.{plain_face, applied_face}
+use Rattle.filled.proofs.Deciding.{Decides, fill_decided}
+use Rattle.filled.proofs.Values.{face_decided}
+use Rattle.filled.proofs.Applications.{application_decided}
 
 same_decides : (u v : Terms) → (same_terms u v ≡ true) ↔ (u ≡ v)
 same_decides u v = (
@@ -72,15 +72,15 @@ module _ (p : Problem) (accepted : Accepted p) (ts : List ℕ) (is : List Item) 
         all_mem (Spotted es 0) x xs
         (spots es 0 0 0 max_depth in_expression (patterns p) [] (named_expressions p) []
         (sym (append-nil (tokens [] (named_expressions p)))) refl (expressions_readable p accepted.within)
-        (expressions-room p accepted.within) xs agree) among
+        (expressions_room p accepted.within) xs agree) among
 
     slot_at : (z : Slot) → x.what ≡ z → AtNode ps (pattern_node n) (slot z, x.children)
     slot_at z e =
-        pattern-node p accepted.within (pattern_node n) (slot z, x.children)
+        pattern_node_lem p accepted.within (pattern_node n) (slot z, x.children)
         (recorded.slots ∙ ap (λ (y : Slot). some (slot y, x.children)) e)
 
     tagged : (z : Slot) → x.what ≡ z → tag_in (at ps (pattern_node n)) ≡ tag_of (slot z)
-    tagged z e = node-tag ps (pattern_node n) z x.children (slot_at z e)
+    tagged z e = node_tag ps (pattern_node n) z x.children (slot_at z e)
 
     abbrev Told : Slot → Type 0
     Told z =
@@ -89,11 +89,11 @@ module _ (p : Problem) (accepted : Accepted p) (ts : List ℕ) (is : List Item) 
 
     plain_told : (m : ℕ) → x.what ≡ metavariable m → Told (metavariable m)
     plain_told m e =
-        let d = face-decided ts is s by ps es n m x.children x.term (slot_at (metavariable m) e)
-        (expression-node p accepted.within (expression_node n) x.term
-        (ap (λ (j : ℕ). node_at j (expressions p)) recorded.node ∙ recorded.term)) (faced-expression p proper xs agree x among) in
+        let d = face_decided ts is s by ps es n m x.children x.term (slot_at (metavariable m) e)
+        (expression_node_lem p accepted.within (expression_node n) x.term
+        (ap (λ (j : ℕ). node_at j (expressions p)) recorded.node ∙ recorded.term)) (faced_expression p proper xs agree x among) in
         let other : (tag_in (at ps (pattern_node n)) ≡ 6 → ⊥) = λ q. omega (arith, tagged (metavariable m) e) in
-        let same : face_at ps es ts s n ≡ faced_value_at ps es ts s n = plain-face ps es ts s n other in
+        let same : face_at ps es ts s n ≡ faced_value_at ps es ts s n = plain_face ps es ts s n other in
         record {
           can = record { faced = d.can; applied = λ t. absurd (other t) };
           into = λ q. d.into (sym same ∙ q);
@@ -103,10 +103,10 @@ module _ (p : Problem) (accepted : Accepted p) (ts : List ℕ) (is : List Item) 
     applied_told : (f a : ℕ) → x.what ≡ function f a → Told (function f a)
     applied_told f a e =
         let single : a ≡ 1 = (slot_fits ps (pattern_node n) (function f a) x.children (slot_at (function f a) e)).1 in
-        let (many, is_argument) = faced-shape p proper xs agree f a x among e in
-        let d = application-decided p accepted.within ts is s by n f x recorded (e ∙ ap (function f) single) (many ∙ single, is_argument)
-        (faced-expression p proper xs agree x among) spotted in
-        let same : face_at ps es ts s n ≡ application_at ps es ts s n = applied-face ps es ts s n (tagged (function f a) e) in
+        let (many, is_argument) = faced_shape p proper xs agree f a x among e in
+        let d = application_decided p accepted.within ts is s by n f x recorded (e ∙ ap (function f) single) (many ∙ single, is_argument)
+        (faced_expression p proper xs agree x among) spotted in
+        let same : face_at ps es ts s n ≡ application_at ps es ts s n = applied_face ps es ts s n (tagged (function f a) e) in
         subst Told e (record {
           can = record { faced = d.can.faced; applied = λ t. d.can };
           into = λ q. d.into (sym same ∙ q);
@@ -114,7 +114,7 @@ module _ (p : Problem) (accepted : Accepted p) (ts : List ℕ) (is : List Item) 
         })
 
     slot_told : Told x.what
-    slot_told = go x.what refl (pattern-face 0 0 (patterns p) (expressions p) xs agree x among proper.pattern)
+    slot_told = go x.what refl (pattern_face 0 0 (patterns p) (expressions p) xs agree x among proper.pattern)
       where
         go : (z : Slot) → x.what ≡ z → NoHole z → Told z
         go (metavariable m) e h = plain_told m e
@@ -127,7 +127,7 @@ module _ (p : Problem) (accepted : Accepted p) (ts : List ℕ) (is : List Item) 
       (filled (said is) (patterns p) ≡ expressions p)
   unfolding filled_at
   all_told ns found agree recorded =
-      fill-decided (λ i. node_at i (patterns p)) (λ j. node_at j (expressions p)) (λ i. depth_in (at ps i)) (Slotted ps es ts s)
+      fill_decided (λ i. node_at i (patterns p)) (λ j. node_at j (expressions p)) (λ i. depth_in (at ps i)) (Slotted ps es ts s)
       (face_at ps es ts s) (fill_handler (said is)) 0 0 (patterns p) (expressions p) (some ns)
       (subst (Both (Recorded p) (some ns)) (sym agree) recorded) (λ xs e n x q r. slot_told xs e n x q r)
 
@@ -144,22 +144,22 @@ filled_means p accepted ns found agree recorded ts is s by =
 pub meets_disagree : (p : Problem) (σ : Filling) → walk_of p ≡ none → meets p σ ≡ false
 meets_disagree p σ e =
     not_T (λ t. subst (AllO (Satisfied (fill_handler σ))) e
-    (walk-in (fill_handler σ) 0 0 (patterns p) (expressions p) (same_terms_eq (filled σ (patterns p)) (expressions p) t)))
+    (walk_in (fill_handler σ) 0 0 (patterns p) (expressions p) (same_terms_eq (filled σ (patterns p)) (expressions p) t)))
 
 -- THE CODE CAN BE CALLED
 module _ (ps es ns ts : List ℕ) (s : Said) (holes scratch : List ℕ) (g : Grounded ps es ns ts s holes scratch) where
-  pub grounded-tables : ProblemTables ps es scratch
-  grounded-tables = record {
-    patterns = subst Table (sym g.patterns) (pattern-table g.problem g.accepted.within);
-    expressions = subst Table (sym g.expressions) (expression-table g.problem g.accepted.within);
+  pub grounded_tables : ProblemTables ps es scratch
+  grounded_tables = record {
+    patterns = subst Table (sym g.patterns) (pattern_table_lem g.problem g.accepted.within);
+    expressions = subst Table (sym g.expressions) (expression_table_lem g.problem g.accepted.within);
     room = g.argument_room;
   }
 
-  pub grounded-text : Text ts holes
-  grounded-text = record { table = g.says.is_table; room = g.body_room }
+  pub grounded_text : Text ts holes
+  grounded_text = record { table = g.says.is_table; room = g.body_room }
 
-  pub grounded-slots : All (Slotted ps es ts s) ns
-  grounded-slots =
+  pub grounded_slots : All (Slotted ps es ts s) ns
+  grounded_slots =
       subst (λ (l : List ℕ). All (Slotted l es ts s) ns) (sym g.patterns)
       (subst (λ (l : List ℕ). All (Slotted (pattern_tokens g.problem) l ts s) ns) (sym g.expressions)
       ((all_told g.problem g.accepted ts g.items s g.says ns g.found g.agree g.recorded).can ns refl))

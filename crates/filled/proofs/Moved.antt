@@ -27,50 +27,50 @@ use Rattle.lockstep.proofs.SlotWalk.{Deep}
 
 -- Moved by n binders, a term within d binders is within n + d
 module _ (n d : ℕ) where
-  raise-stays : (k : ℕ) (v : Variable) → ClosedVariable (k + d) v → ClosedVariable (k + (n + d)) (raise n k v)
-  raise-stays k (free x) h = tt
-  raise-stays k (bound i) h = go (dec_lt i k)
+  raise_stays : (k : ℕ) (v : Variable) → ClosedVariable (k + d) v → ClosedVariable (k + (n + d)) (raise n k v)
+  raise_stays k (free x) h = tt
+  raise_stays k (bound i) h = go (dec_lt i k)
     where
       go : Dec (i < k) → ClosedVariable (k + (n + d)) (raise n k (bound i))
       go (yes g) = subst (ClosedVariable (k + (n + d))) (sym (raise_low n k i g)) (omega arith)
       go (no g) = subst (ClosedVariable (k + (n + d))) (sym (raise_high n k i (omega arith))) (omega arith)
 
-  label-stays : (k : ℕ) (l : Nameless) → ClosedLabel (k + d) l → ClosedLabel (k + (n + d)) (shift_label n k l)
-  label-stays k (own (symbol m)) h = tt
-  label-stays k (own (variable v)) h = raise-stays k v h
-  label-stays k (own (application m)) h = tt
-  label-stays k (own (binder b x)) h = tt
-  label-stays k (slot z) h = tt
+  label_stays : (k : ℕ) (l : Nameless) → ClosedLabel (k + d) l → ClosedLabel (k + (n + d)) (shift_label n k l)
+  label_stays k (own (symbol m)) h = tt
+  label_stays k (own (variable v)) h = raise_stays k v h
+  label_stays k (own (application m)) h = tt
+  label_stays k (own (binder b x)) h = tt
+  label_stays k (slot z) h = tt
 
-  shift-stays : (k : ℕ) (u : Terms) → Closed (k + d) u → Closed (k + (n + d)) (shift n k u)
-  shift-stays k nil h = tt
-  shift-stays k (cons l c s) h =
+  shift_stays : (k : ℕ) (u : Terms) → Closed (k + d) u → Closed (k + (n + d)) (shift n k u)
+  shift_stays k nil h = tt
+  shift_stays k (cons l c s) h =
       let e : inner (shift_label n k l) (k + (n + d)) ≡ inner l k + (n + d) =
       inner_with (raise n k) (k + (n + d)) l ∙ inner_plus (n + d) k l in (
-        label-stays k l h.0,
+        label_stays k l h.0,
         subst (λ (m : ℕ). Closed m (shift n (inner l k) c)) (sym e)
-            (shift-stays (inner l k) c (subst (λ (m : ℕ). Closed m c) (inner_plus d k l) h.1)),
-        shift-stays k s h.2,
+            (shift_stays (inner l k) c (subst (λ (m : ℕ). Closed m c) (inner_plus d k l) h.1)),
+        shift_stays k s h.2,
       )
 
 -- A scope of n binders more
 module _ (root root' : List ℕ) (n : ℕ) (deeper : length root' ≡ n + length root) (a : Term) (within : Closed (length root) (one a)) where
-  pub moved-within : Closed (length root') (one (shift_term n a))
-  moved-within =
+  pub moved_within : Closed (length root') (one (shift_term n a))
+  moved_within =
       let e : 0 + (n + length root) ≡ length root' = omega arith in
       let z : length root ≡ 0 + length root = omega arith in
       subst (λ (m : ℕ). Closed m (one (shift_term n a))) e
-      (shift-stays n (length root) 0 (one a) (subst (λ (m : ℕ). Closed m (one a)) z within))
+      (shift_stays n (length root) 0 (one a) (subst (λ (m : ℕ). Closed m (one a)) z within))
 
   -- The binders above the term, of which only their number counts
   above : List ℕ
   above = replicate n 0
 
-  pub moved-seen : view_from root 0 (one a) ≡ view_from root' 0 (one (shift_term n a))
+  pub moved_seen : view_from root 0 (one a) ≡ view_from root' 0 (one (shift_term n a))
   unfolding above
-  moved-seen =
+  moved_seen =
       let many : length above ≡ n = length-replicate n 0 in
-      sym ((equal_levels (length root) root' above root [] (shift_term n a) a (omega arith) (omega arith) moved-within within
+      sym ((equal_levels (length root) root' above root [] (shift_term n a) a (omega arith) (omega arith) moved_within within
       (subst (λ (m : ℕ). uses_face (view (owner_of above) (one (shift_term m a))) ≡ false) many (view_shift_unbound above a))
       ).0 (subst (λ (m : ℕ). view (owner_of above) (one (shift_term m a)) ≡ view (owner_of []) (one a)) many (view_shift above a)))
 

@@ -19,17 +19,17 @@ use Rattle.tokens.specs.Token.{payload_of}
 use Rattle.tokens.specs.Key.{at, level_from, same_across, Inside}
 use Rattle.tokens.proofs.KeyLaws.{across_means}
 use Rattle.lockstep.specs.Walk.{pattern_node, expression_node}
-use Rattle.faces.proofs.NodeTokens.{AtNode, node-inside, node-payload}
+use Rattle.faces.proofs.NodeTokens.{AtNode, node_inside, node_payload}
 use Rattle.sources.proofs.RecordedDemands.{slot_fits}
 use Rattle.said.specs.Said.{item_of, entry_tag, TermAt, EntryAt, SaidBy}
 use Rattle.said.specs.declared.Said.{Said}
 use Rattle.said.proofs.SaidLaws.{said_item}
 use Rattle.filled.specs.Filled.{value_at, number_at, faced_value_at}
 use Rattle.filled.specs.Ready.{SaidOf, Faced}
-use Rattle.filled.proofs.Cases.{without-value, with_value}
+use Rattle.filled.proofs.Cases.{without_value, with_value}
 use Rattle.filled.proofs.Deciding.{Decides}
 use Rattle.filled.proofs.Moved.{ClosedValues}
-use Rattle.filled.proofs.Across.{node-whole}
+use Rattle.filled.proofs.Across.{node_whole}
 
 -- "Values and bodies have no variable bound outside themselves": nothing is around a text's terms
 pub said_closed : (is : List Item) → ClosedValues (said is)
@@ -73,13 +73,13 @@ module _ (ts : List ℕ) (is : List Item) (s : Said) (by : SaidBy ts is s) where
             → Inside ts (at s.nodes m)
         go absent e a q = absurd (omega arith)
         go left_open e a q = absurd (omega arith)
-        go (value t) e a q = node-whole ts (at s.nodes m) (nameless_term [] t) (text_node ts (at s.nodes m) _ t a)
+        go (value t) e a q = node_whole ts (at s.nodes m) (nameless_term [] t) (text_node ts (at s.nodes m) _ t a)
         go (body t) e a q = absurd (omega arith)
 
     module _ (es : List ℕ) (j : ℕ) (t : Term) (there : AtNode es j t) (expression : IsExpression (one t)) where
       no_value : (at s.tags m ≡ 8 → ⊥) → (value_at ts s es m j ≡ true) ↔ (◌≡◌ {A = Term} (slot (metavariable m), nil) t)
       no_value h = (
-        λ q. absurd (false≢true (sym (without-value ts s es m j h) ∙ q)),
+        λ q. absurd (false≢true (sym (without_value ts s es m j h) ∙ q)),
         λ e. absurd (slot_never (metavariable m) nil t expression e),
       )
 
@@ -100,25 +100,25 @@ module _ (ts : List ℕ) (is : List Item) (s : Said) (by : SaidBy ts is s) where
           (value_given (item_of is m) (by.tags m small) (by.nodes m small))
 
   -- A recorded face of whatever kind, by the number that its token has
-  pub faced-at : (ps es : List ℕ) (n m : ℕ) → pattern_node n < length ps → number_at ps n ≡ m → m < metavariable_count
+  pub faced_at : (ps es : List ℕ) (n m : ℕ) → pattern_node n < length ps → number_at ps n ≡ m → m < metavariable_count
       → Inside es (expression_node n) → Faced ps es ts s n
-  faced-at ps es n m inside e small across =
+  faced_at ps es n m inside e small across =
       record { slot = inside; said = subst (SaidOf ts s) (sym e) (said_of m small); across = across }
 
   -- That of a metavariable
-  pub face-decided : (ps es : List ℕ) (n m : ℕ) (c : Terms) (t : Term) → AtNode ps (pattern_node n) (slot (metavariable m), c)
+  pub face_decided : (ps es : List ℕ) (n m : ℕ) (c : Terms) (t : Term) → AtNode ps (pattern_node n) (slot (metavariable m), c)
       → AtNode es (expression_node n) t → IsExpression (one t)
       → Decides (Faced ps es ts s n) (faced_value_at ps es ts s n) (value_or m (said is m) ≡ t)
   unfolding faced_value_at payload_of
-  face-decided ps es n m c t a there expression =
+  face_decided ps es n m c t a there expression =
       let small : m < metavariable_count = slot_fits ps (pattern_node n) (metavariable m) c a in
-      let number : number_at ps n ≡ m = node-payload ps (pattern_node n) (metavariable m) c a in
+      let number : number_at ps n ≡ m = node_payload ps (pattern_node n) (metavariable m) c a in
       let means = value_means m small es (expression_node n) t there expression in
       let same : value_at ts s es (number_at ps n) (expression_node n) ≡ value_at ts s es m (expression_node n) =
       ap (λ (k : ℕ). value_at ts s es k (expression_node n)) number in
       record {
-        can = faced-at ps es n m (node-inside ps (pattern_node n) (slot (metavariable m), c) a) number small
-            (node-whole es (expression_node n) t there);
+        can = faced_at ps es n m (node_inside ps (pattern_node n) (slot (metavariable m), c) a) number small
+            (node_whole es (expression_node n) t there);
         into = λ q. means.0 (sym same ∙ q);
         back = λ q. same ∙ means.1 q;
       }

@@ -1,4 +1,4 @@
--- What the code asks of the tables, said of the numbers alone. The tables of a problem and of a text have all of it (`grounded-slots`, in
+-- What the code asks of the tables, said of the numbers alone. The tables of a problem and of a text have all of it (`grounded_slots`, in
 -- proofs/Meaning).
 --   Crossing   two subterms that can be walked together, with room for the faces
 --   ProblemTables   those of the problem, with room for the faces of an argument; Text, that of the text, with room for those of a body

@@ -1,5 +1,7 @@
 // The checker's test that "each filled pattern equals its expression", for any filling that a text names: by walks over the token tables of
 // the problem and of the text, with no pattern filled. That its answer is document 01's is proofs/Meaning.
+#![tactic(auto)]
+
 ghost use Rattle.std.specs.Prelude.{◌≡◌};
 ghost use Rattle.meaning.specs.Basics.{All, every};
 ghost use Rattle.tokens.specs.Key.{Inside};

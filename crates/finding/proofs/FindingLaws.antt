@@ -16,7 +16,7 @@ use Rattle.meaning.specs.Entry.{HostReply, SearchCall, SearchOn, WriteCall, not_
 use Rattle.meaning.proofs.Lists.{never}
 use Rattle.meaning.proofs.ByteLaws.{refused_not}
 use Rattle.meaning.proofs.ProblemReading.{accept_accepted}
-use Rattle.meaning.proofs.OneCall.{reply-named}
+use Rattle.meaning.proofs.OneCall.{reply_named}
 use Rattle.meaning.proofs.WriteLaws.{when_large, write_on}
 use Rattle.masks.specs.Sets.{masks_in}
 use Rattle.masks.specs.declared.NodeSet.{NodeSet}
@@ -41,7 +41,7 @@ found_written {s} {v} {row} {next} {n} {before} {after} {a} b room c w = go c re
     go : {reply : HostReply} → SearchCall s v n reply → reply ≡ found row next → (k : ℕ) × (a ≡ got k)
     go (not_accepted r e) z = never (cc)
     go (on_accepted p e {reply} on) z =
-        let (r, named, solution) = (reply-named p (subst (λ (y : HostReply). SearchOn p v n y) z on)).0 in
+        let (r, named, solution) = (reply_named p (subst (λ (y : HostReply). SearchOn p v n y) z on)).0 in
         let (k, gives, text) = when_large p row before (accept_accepted s p b e).0 r named solution room (write_on p e w) in (k, gives)
 
 -- An answer with another key than a Found's
@@ -57,9 +57,9 @@ row_value_lem : {sets : List NodeSet} {row : Place} → AtRow sets row → value
 row_value_lem is = cc
 
 module _ {s : Bytes} {place : Place} {n : ℕ} {searched : Searched} (call : Answers s place n searched) where
-  pub nothing-found : {before : Bytes} → (searched.answer ≡ answers.Found → ⊥)
+  pub nothing_found : {before : Bytes} → (searched.answer ≡ answers.Found → ⊥)
       → Finds s place n before before (record { searched = searched; length = 0 })
-  nothing-found none = record { call = call; text = λ e. absurd (none e); nothing = λ h. refl }
+  nothing_found none = record { call = call; text = λ e. absurd (none e); nothing = λ h. refl }
 
   module _ (e : searched.answer ≡ answers.Found) {row : Place} (is : AtRow searched.row row) {before after : Bytes} where
     written_call : (answer : Written) → Writes s row before after answer

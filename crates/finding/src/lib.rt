@@ -1,4 +1,6 @@
 // A search call that hands over the text of what it finds: the row of a Found, written at once into a buffer that is always enough.
+#![tactic(auto)]
+
 ghost use Rattle.std.specs.Prelude.{◌≤◌, length};
 ghost use Rattle.meaning.specs.Limits.{largest_written};
 ghost use Rattle.finding.specs.Finding.{Finds};

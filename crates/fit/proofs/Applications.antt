@@ -25,7 +25,7 @@ use Rattle.meaning.specs.PlaceValue.{mask_of}
 use Rattle.meaning.proofs.Lists.{never, choose_true, choose_false}
 use Rattle.meaning.proofs.RowBodies.{punch_one}
 use Rattle.tokens.specs.Token.{pattern_tokens, expression_tokens}
-use Rattle.tokens.proofs.ProblemTokens.{expression-table}
+use Rattle.tokens.proofs.ProblemTokens.{expression_table_lem}
 use Rattle.numbers.specs.Tests.{Tests, Tells}
 use Rattle.lockstep.specs.Walk.{expression_node}
 use Rattle.lockstep.specs.Span.{span_walk}
@@ -34,15 +34,15 @@ use Rattle.demands.specs.Demand.{each_some, sources_met, lowest_demand, place_de
 use Rattle.demands.specs.Fit.{Suits, SuitsWalked}
 use Rattle.demands.specs.LowestMark.{LowestMark}
 use Rattle.demands.proofs.LowestNode.{Unmarked, unmarked_walk}
-use Rattle.demands.proofs.Suiting.{suits-walked}
+use Rattle.demands.proofs.Suiting.{suits_walked}
 use Rattle.bodies.specs.Suits.{suits_at}
 use Rattle.bodies.proofs.MarkLaws.{lowest_mark, empty_mask}
 use Rattle.bodies.proofs.HoleTests.{Spotted}
-use Rattle.bodies.proofs.SuitsMeaning.{suits-means}
+use Rattle.bodies.proofs.SuitsMeaning.{suits_means}
 use Rattle.sources.specs.Demand.{demands_in, kept_after}
 use Rattle.sources.proofs.KeptMeaning.{Firsts, kept_means}
 use Rattle.fit.specs.Judging.{argument_span, argument_kept, application_kept}
-use Rattle.fit.proofs.Steps.{Step, step-nothing, step-none, step-told, step-guard, step-as}
+use Rattle.fit.proofs.Steps.{Step, step_nothing, step_none, step_told, step_guard, step_as}
 use Rattle.fit.proofs.Arguments.{RecordedFace, SameDemands, Argued, argued}
 
 -- With a node marked the mask is not 0
@@ -74,13 +74,13 @@ module _ (p : Problem) (w : WithinLimits p) (n f : ℕ) (x : Face) (recorded : R
   -- "Filling m(t) puts the filled t in each hole of m's body"
   suited : (suits_at q es node (expression_node n) mask ≡ true) ↔ Suits body x.term
   suited =
-      let s = suits-means p w node x.node face x.term face_at recorded.term ms choice few closed q tells in
+      let s = suits_means p w node x.node face x.term face_at recorded.term ms choice few closed q tells in
       let e : suits_at q es node (expression_node n) mask ≡ suits_at q es node x.node mask =
       ap (λ (j : ℕ). suits_at q es node j mask) recorded.node in
       (λ t. s.0 (sym e ∙ t), λ t. e ∙ s.1 t)
 
   walked_to : Suits body x.term → SuitsWalked x.node body x.term
-  walked_to q = (suits-walked 1 x.node body x.term is_body).0 q
+  walked_to q = (suits_walked 1 x.node body x.term is_body).0 q
 
   -- The body has a hole, or none
   data Holes (s : SuitsWalked x.node body x.term) : Type 0 where
@@ -103,8 +103,8 @@ module _ (p : Problem) (w : WithinLimits p) (n f : ℕ) (x : Face) (recorded : R
           (argued p w n f x recorded applies spotted face is_face ms choice few s j small (subst (λ (k : ℕ). LowestMark k j ms) z low))
 
   -- Where the code walks the argument, there is a lowest hole
-  pub walked-argument : suits_at q es node (expression_node n) mask ≡ true → (mask ≡ 0 → ⊥) → (hs : List Face) × Argued p n mask x hs
-  walked-argument t z = go (walked_to (suited.0 t)) (holes_of_lem (walked_to (suited.0 t)))
+  pub walked_argument : suits_at q es node (expression_node n) mask ≡ true → (mask ≡ 0 → ⊥) → (hs : List Face) × Argued p n mask x hs
+  walked_argument t z = go (walked_to (suited.0 t)) (holes_of_lem (walked_to (suited.0 t)))
     where
       go : (s : SuitsWalked x.node body x.term) → Holes s → (hs : List Face) × Argued p n mask x hs
       go s (without e q) = absurd (z e)
@@ -125,7 +125,7 @@ module _ (p : Problem) (w : WithinLimits p) (n f : ℕ) (x : Face) (recorded : R
         → Step es (argument_kept q ps es n mask kept) ks (Unit {0}) (application_lowest body 1 x)
     unfolding argument_kept
     argued_step a kept ks first =
-        step-as es ks (argument_kept q ps es n mask kept) (Unit {0}) (Unit {0})
+        step_as es ks (argument_kept q ps es n mask kept) (Unit {0}) (Unit {0})
         (join (sources_met (walk x.under a.hole.node (one t) (one a.held))) (some []))
         (application_lowest body 1 x) (λ u. u) (λ u. u) (sym demands)
         (go (span_walk ps es (argument_span ps es n mask)) (walk x.under a.hole.node (one t) (one a.held)) a.met)
@@ -138,31 +138,31 @@ module _ (p : Problem) (w : WithinLimits p) (n f : ℕ) (x : Face) (recorded : R
 
         go : (o : Option (List ℕ)) (v : Option (List Face)) → Both (SameDemands ps es) o v
             → Step es (and_then o (λ ns. kept_after q kept (demands_in ps ns))) ks (Unit {0}) (join (sources_met v) (some []))
-        go none none m = step-none es ks (Unit {0})
+        go none none m = step_none es ks (Unit {0})
         go none (some ys) m = absurd m
         go (some ns) none m = absurd m
         go (some ns) (some ys) m =
-            step-as es ks (kept_after q kept (demands_in ps ns)) (Unit {0}) (Unit {0}) (some (each source_of ys))
+            step_as es ks (kept_after q kept (demands_in ps ns)) (Unit {0}) (Unit {0}) (some (each source_of ys))
             (some (each source_of ys ++ [])) (λ u. u) (λ u. u)
             (ap some (sym (append-nil (each source_of ys))))
-            (step-told es ks (kept_after q kept (demands_in ps ns)) (each source_of ys)
-            (kept_means es (expression-table p w).small q tells kept ks (demands_in ps ns) (each source_of ys) first m.0))
+            (step_told es ks (kept_after q kept (demands_in ps ns)) (each source_of ys)
+            (kept_means es (expression_table_lem p w).small q tells kept ks (demands_in ps ns) (each source_of ys) first m.0))
 
     suited_step : Holes s → (kept : List ℕ) (ks : List Source) → Firsts es kept ks
         → Step es (choose (eqb mask 0) (some kept) (argument_kept q ps es n mask kept)) ks (Unit {0}) (application_lowest body 1 x)
     suited_step (without z e) kept ks first =
         subst (λ (o : Option (List ℕ)). Step es o ks (Unit {0}) (application_lowest body 1 x)) (sym (choose_true _ _ (eq-eqb mask 0 z)))
-        (step-as es ks (some kept) (Unit {0}) (Unit {0}) (some []) (application_lowest body 1 x) (λ u. u) (λ u. u) (sym (lowest_is none e))
-        (step-nothing es ks kept first))
+        (step_as es ks (some kept) (Unit {0}) (Unit {0}) (some []) (application_lowest body 1 x) (λ u. u) (λ u. u) (sym (lowest_is none e))
+        (step_nothing es ks kept first))
     suited_step (with_lowest z a) kept ks first =
         subst (λ (o : Option (List ℕ)). Step es o ks (Unit {0}) (application_lowest body 1 x)) (sym (choose_false _ _ (ne_eqb mask 0 z)))
         (argued_step a kept ks first)
 
   -- THE APPLICATION
-  pub application-step : (kept : List ℕ) (ks : List Source) → Firsts es kept ks
+  pub application_step : (kept : List ℕ) (ks : List Source) → Firsts es kept ks
       → Step es (application_kept q ps es n node mask kept) ks (Suits body x.term) (application_lowest body 1 x)
   unfolding application_kept
-  application-step kept ks first =
-      step-guard es ks (suits_at q es node (expression_node n) mask) (choose (eqb mask 0) (some kept) (argument_kept q ps es n mask kept))
+  application_step kept ks first =
+      step_guard es ks (suits_at q es node (expression_node n) mask) (choose (eqb mask 0) (some kept) (argument_kept q ps es n mask kept))
       (Suits body x.term)
       (application_lowest body 1 x) suited.0 suited.1 (λ u. suited_step (walked_to u) (holes_of_lem (walked_to u)) kept ks first)

@@ -20,20 +20,20 @@ use Rattle.meaning.specs.Read.{in_expression}
 use Rattle.meaning.specs.Readable.{WithinLimits}
 use Rattle.meaning.specs.PlaceValue.{mask_of}
 use Rattle.meaning.proofs.Lists.{all_mem, mem_all}
-use Rattle.meaning.proofs.Nodes.{Stands, node_stands, stands_node, stands_in, relabel-stands, walk_node}
+use Rattle.meaning.proofs.Nodes.{Stands, node_stands, stands_node, stands_in, relabel_stands, walk_node}
 use Rattle.meaning.proofs.Proper.{expressions_readable}
-use Rattle.meaning.proofs.OneWay.{faces-walk}
+use Rattle.meaning.proofs.OneWay.{faces_walk}
 use Rattle.meaning.proofs.ShiftLaws.{shift_lower_term}
 use Rattle.meaning.proofs.Sources.{lowest_is}
 use Rattle.tokens.specs.Token.{depth_in, size_in, tokens, pattern_tokens, expression_tokens}
 use Rattle.tokens.specs.Key.{at}
-use Rattle.tokens.proofs.KeyLaws.{stands-depth}
-use Rattle.tokens.proofs.ProblemTokens.{expressions-room}
+use Rattle.tokens.proofs.KeyLaws.{stands_depth}
+use Rattle.tokens.proofs.ProblemTokens.{expressions_room}
 use Rattle.lockstep.specs.Walk.{pattern_node}
 use Rattle.lockstep.specs.Span.{span_walk}
 use Rattle.lockstep.specs.declared.Span.{Span}
 use Rattle.lockstep.specs.Recorded.{Records, RecordedBy, Both}
-use Rattle.faces.proofs.NodeTokens.{AtNode, node-inside, pattern-node, expression-node}
+use Rattle.faces.proofs.NodeTokens.{AtNode, node_inside, pattern_node_lem, expression_node_lem}
 use Rattle.faces.proofs.ArgumentWalk.{argument_walk_lem}
 use Rattle.demands.specs.Demand.{lowered}
 use Rattle.demands.specs.Fit.{SuitsWalked}
@@ -44,7 +44,7 @@ use Rattle.bodies.proofs.HoleTests.{Spotted, spots}
 use Rattle.sources.specs.Demand.{demands_in}
 use Rattle.sources.specs.Kept.{Demandable}
 use Rattle.sources.proofs.KeptMeaning.{MovedAt, AllSay}
-use Rattle.sources.proofs.RecordedDemands.{MovedFace, recorded-say, recorded-reads}
+use Rattle.sources.proofs.RecordedDemands.{MovedFace, recorded_say, recorded_reads}
 use Rattle.fit.specs.Judging.{hole_node, argument_span}
 
 -- One of a problem's recorded faces
@@ -68,7 +68,7 @@ pub record Argued (p : Problem) (n mask : ℕ) (x : Face) (hs : List Face) : Typ
 
 -- The depth that a token tells
 node_depth : (table : List ℕ) (i : ℕ) (t : Term) (a : AtNode table i t) → depth_in (at table i) ≡ length a.scope
-node_depth table i t a = stands-depth a.levels a.context table i a.scope a.named a.held a.stands
+node_depth table i t a = stands_depth a.levels a.context table i a.scope a.named a.held a.stands
 
 -- Answers that belong together in one way do so in another
 both_map : {A B : Type 0} (R S : A → B → Type 0) (a : Option A) (b : Option B) → ((x : A) (y : B) → b ≡ some y → R x y → S x y) → Both R a b
@@ -86,24 +86,24 @@ module _ (p : Problem) (w : WithinLimits p) where
   es = expression_tokens p
 
   -- What a problem's faces face stands under as many binders as their slots
-  pub faces-spotted : (xs : List Face) → faces p ≡ some xs → All (Spotted es 0) xs
+  pub faces_spotted : (xs : List Face) → faces p ≡ some xs → All (Spotted es 0) xs
   unfolding expression_tokens
-  faces-spotted xs e =
+  faces_spotted xs e =
       spots (expression_tokens p) 0 0 0 max_depth in_expression (patterns p) [] (named_expressions p) []
       (sym (append-nil (tokens [] (named_expressions p)))) refl
-      (expressions_readable p w) (expressions-room p w) xs (faces-walk p xs e)
+      (expressions_readable p w) (expressions_room p w) xs (faces_walk p xs e)
 
   -- What stands below a lowered term stands, under more binders, below the term itself
   moved_in : (j under : ℕ) (t u : Term) → node_at j (expressions p) ≡ some t → lower_term under t ≡ some u → (i : ℕ) (v : Term) → j ≤ i
       → node_at (i - j) (one u) ≡ some v → MovedAt es i v
   moved_in j under t u e d i v h q =
-      let r = relabel-stands inner (shift_label under) (node_stands (i - j) (one u) v q) 0 in
+      let r = relabel_stands inner (shift_label under) (node_stands (i - j) (one u) v q) 0 in
       let z : i ≡ j + (i - j) = omega arith in
       let v' : Term = (shift_label under r.0 v.0, shift under (inner v.0 r.0) v.1) in
       let there : node_at i (expressions p) ≡ some v' =
       stands_node (stands_in (node_stands j (expressions p) t e)
       (subst (λ (x : Term). Stands (i - j) (one x) v') (shift_lower_term under t u d) r.1) z) in
-      record { whole = v'; stands = expression-node p w i v' there; more = under; under = r.0; moved = refl }
+      record { whole = v'; stands = expression_node_lem p w i v' there; more = under; under = r.0; moved = refl }
 
   -- One application, with a body that suits what it faces and has a hole: node j of the choice is the lowest
   module _ (n f : ℕ) (x : Face) (recorded : RecordedFace p n x) (applies : x.what ≡ function f 1) (spotted : Spotted es 0 x)
@@ -136,7 +136,7 @@ module _ (p : Problem) (w : WithinLimits p) where
         omega (arith, recorded.node, hole_at.is_node)
 
     faced : AtNode es x.node x.term
-    faced = expression-node p w x.node x.term recorded.term
+    faced = expression_node_lem p w x.node x.term recorded.term
 
     spotted_hole : Spotted es (length faced.scope) h
     spotted_hole =
@@ -195,10 +195,10 @@ module _ (p : Problem) (w : WithinLimits p) where
             mem_all (MovedFace es) ys (λ y m. let (g, q) =
             walk_node x.under h.node (one (argument x.children 0)) (one holds.0) ys e y m in
             moved_in h.node h.under h.term holds.0 there holds.1 y.node y.term g q) in (
-              recorded-say ps es (λ i. node_at i (patterns p)) (λ i. node_at (i - h.node) (one holds.0)) (λ i. depth_in (at ps i))
-                  (pattern-node p w) ns ys r moved,
-              λ ks long. recorded-reads ps es (λ i. node_at i (patterns p)) (λ i. node_at (i - h.node) (one holds.0))
-                  (λ i. depth_in (at ps i)) (pattern-node p w) ks long ns ys r moved,
+              recorded_say ps es (λ i. node_at i (patterns p)) (λ i. node_at (i - h.node) (one holds.0)) (λ i. depth_in (at ps i))
+                  (pattern_node_lem p w) ns ys r moved,
+              λ ks long. recorded_reads ps es (λ i. node_at i (patterns p)) (λ i. node_at (i - h.node) (one holds.0))
+                  (λ i. depth_in (at ps i)) (pattern_node_lem p w) ks long ns ys r moved,
             )
 
     -- THE ARGUMENT IS WALKED
@@ -209,6 +209,6 @@ module _ (p : Problem) (w : WithinLimits p) where
       is_lowest = hole_at.is_lowest;
       held = holds.0;
       holds = holds.1;
-      inside = subst (λ (i : ℕ). i < length es) (sym number) (node-inside es h.node h.term spotted_hole.there);
+      inside = subst (λ (i : ℕ). i < length es) (sym number) (node_inside es h.node h.term spotted_hole.there);
       met = met;
     }

@@ -30,7 +30,7 @@ use Rattle.bodies.specs.Suits.{suits_at}
 use Rattle.sources.specs.Demand.{open_node, demand_at, demands_in, kept_after}
 use Rattle.sources.specs.Kept.{Kept, Askable, Demandable, Answers}
 use Rattle.sources.specs.declared.Agreed.{Agreed}
-use Rattle.sources.proofs.KeptLaws.{answer-some, answer-none, kept_stays}
+use Rattle.sources.proofs.KeptLaws.{answer_some, answer_none, kept_stays}
 use Rattle.fit.specs.Judging.{bodies_closed, argument_span, argument_kept, application_kept, rank_at, face_kept, faces_kept, none_kept}
 use Rattle.fit.specs.Judging.{demanded_at, judged_at, Judges}
 use Rattle.fit.specs.Ready.{Tables, Walkable, Applicable, Slots}
@@ -47,9 +47,9 @@ module _ (es nodes row : List ℕ) (end k : ℕ) (fits : end ≤ length nodes) (
   abbrev left : List ℕ
   left = drop k (take end nodes)
 
-  pub closed-ends : end ≤ k → true ≡ bodies_closed es (drop k (take end nodes)) (drop k row)
+  pub closed_ends : end ≤ k → true ≡ bodies_closed es (drop k (take end nodes)) (drop k row)
   unfolding bodies_closed
-  closed-ends h =
+  closed_ends h =
       sym (ap (λ (js : List ℕ). bodies_closed es js (drop k row))
       (drop_of_length-le (take end nodes) {i = k} (omega (arith, length-take-le end nodes fits))))
 
@@ -106,24 +106,24 @@ answers_yes : (nodes : List ℕ) → Answers (some nodes) (record { ok = true; s
 answers_yes nodes = record { ok = refl; nodes = λ kept e. cc }
 
 module _ (ps es ns : List ℕ) (n mask : ℕ) (kept : List ℕ) where
-  pub argument-disagrees : span_walk ps es (argument_span ps es n mask) ≡ none
+  pub argument_disagrees : span_walk ps es (argument_span ps es n mask) ≡ none
       → Answers (argument_kept (told ns) ps es n mask kept) (record { ok = false; sources = record { nodes = kept } })
   unfolding argument_kept
-  argument-disagrees e = rw e (answers_no kept)
+  argument_disagrees e = rw e (answers_no kept)
 
-  pub argument-demands : (new : List ℕ) (count : ℕ) → Found (span_walk ps es (argument_span ps es n mask)) new count → (r : Agreed)
+  pub argument_demands : (new : List ℕ) (count : ℕ) → Found (span_walk ps es (argument_span ps es n mask)) new count → (r : Agreed)
       → Answers (kept_after (told ns) kept (demands_in ps (take count new))) r → Answers (argument_kept (told ns) ps es n mask kept) r
   unfolding argument_kept
-  argument-demands new count f r a = rw (f.walked, ← f.front) a
+  argument_demands new count f r a = rw (f.walked, ← f.front) a
 
 -- ---- one application
 
 module _ (ps es ns : List ℕ) (n node mask : ℕ) (kept : List ℕ) (suits : Bool)
     (is : suits ≡ suits_at (told ns) es node (expression_node n) mask) where
-  pub application-unsuited : not suits ≡ true
+  pub application_unsuited : not suits ≡ true
       → Answers (application_kept (told ns) ps es n node mask kept) (record { ok = false; sources = record { nodes = kept } })
   unfolding application_kept
-  application-unsuited e =
+  application_unsuited e =
       let f : suits_at (told ns) es node (expression_node n) mask ≡ false = sym is ∙ sym (not-not suits) ∙ ap not e in
       rw f (answers_no kept)
 
@@ -145,16 +145,16 @@ module _ (ps es ns : List ℕ) (n node mask : ℕ) (kept : List ℕ) (suits : Bo
 
 module _ (ps es ns : List ℕ) (functions : ℕ) (nodes row : List ℕ) (n : ℕ) (kept : List ℕ) (tag : ℕ)
     (is : tag ≡ tag_in (at ps (pattern_node n))) where
-  pub face-plain : (tag ≡ 6 → ⊥)
+  pub face_plain : (tag ≡ 6 → ⊥)
       → Answers (face_kept (told ns) ps es functions nodes row n kept) (record { ok = true; sources = record { nodes = kept } })
   unfolding face_kept
-  face-plain h = rw (← is, ne_eqb tag 6 h) (answers_yes kept)
+  face_plain h = rw (← is, ne_eqb tag 6 h) (answers_yes kept)
 
-  pub face-applies : tag ≡ 6 → (k mask : ℕ) → k ≡ rank_at ps functions n → mask ≡ at row k → (r : Agreed)
+  pub face_applies : tag ≡ 6 → (k mask : ℕ) → k ≡ rank_at ps functions n → mask ≡ at row k → (r : Agreed)
       → Answers (application_kept (told ns) ps es n (at nodes k) mask kept) r
       → Answers (face_kept (told ns) ps es functions nodes row n kept) r
   unfolding face_kept
-  face-applies h k mask e i r a = rw (← is, eq-eqb tag 6 h, ← e, ← i) a
+  face_applies h k mask e i r a = rw (← is, eq-eqb tag 6 h, ← e, ← i) a
 
 -- The nodes kept stay nodes of the table
 reads_ask : (ps ns ms : List ℕ) → All (Demandable ps ns) ms → All (Askable ns) (demands_in ps ms)
@@ -205,9 +205,9 @@ pub record Going (ps es ns : List ℕ) (functions : ℕ) (nodes row faces : List
 
 module _ (ps es ns : List ℕ) (functions : ℕ) (nodes row faces : List ℕ) (end : Option (List ℕ)) (k : ℕ) (kept : List ℕ)
     (g : Going ps es ns functions nodes row faces end k kept) where
-  pub going-ends : length faces ≤ k → Answers end (record { ok = true; sources = record { nodes = kept } })
+  pub going_ends : length faces ≤ k → Answers end (record { ok = true; sources = record { nodes = kept } })
   unfolding faces_kept
-  going-ends h =
+  going_ends h =
       subst (λ (o : Option (List ℕ)). Answers o (record { ok = true; sources = record { nodes = kept } }))
       (sym (ap (λ (ms : List ℕ). faces_kept (told ns) ps es functions nodes row ms kept) (drop_of_length-le faces {i = k} h)) ∙ g.leads)
       (answers_yes kept)
@@ -234,14 +234,14 @@ module _ (ps es ns : List ℕ) (functions : ℕ) (nodes row faces : List ℕ) (e
       unfolding next
       going_fails t =
           let e : r.ok ≡ false = sym (not-not r.ok) ∙ ap not t in
-          let q = answer-none (face_kept (told ns) ps es functions nodes row (at faces k) kept) r a e in
+          let q = answer_none (face_kept (told ns) ps es functions nodes row (at faces k) kept) r a e in
           subst (λ (o : Option (List ℕ)). Answers o r) (sym (ap next q) ∙ goes) (record { ok = e; nodes = λ ms f. never (cc) })
 
       pub going_on : not r.ok ≡ false → Going ps es ns functions nodes row faces end (k + 1) r.sources.nodes
       unfolding next
       going_on t =
           let q =
-          answer-some (face_kept (told ns) ps es functions nodes row (at faces k) kept) r a (sym (not-not r.ok) ∙ ap not t) in
+          answer_some (face_kept (told ns) ps es functions nodes row (at faces k) kept) r a (sym (not-not r.ok) ∙ ap not t) in
           let z : k + 1 ≡ suc k = omega arith in
           rw z (record {
             inside = face_stays ps es ns functions nodes row (at faces k) kept r.sources.nodes both.0 g.inside q;
@@ -258,16 +258,16 @@ none_kept_lem ns = record { long = refl; inside = λ m h o. absurd (o (get_or-re
 
 module _ (ps es ns faces : List ℕ) (functions : ℕ) (firsts : Firsts) (row : List ℕ) (r : Agreed)
     (a : Answers (kept_after (told ns) none_kept (demands_in ps faces)) r) where
-  pub plain-fails : not r.ok ≡ true → Answers (demanded_at (told ns) ps es faces functions firsts row) r
+  pub plain_fails : not r.ok ≡ true → Answers (demanded_at (told ns) ps es faces functions firsts row) r
   unfolding demanded_at
-  plain-fails t =
+  plain_fails t =
       let e : r.ok ≡ false = sym (not-not r.ok) ∙ ap not t in
-      let q = answer-none (kept_after (told ns) none_kept (demands_in ps faces)) r a e in
+      let q = answer_none (kept_after (told ns) none_kept (demands_in ps faces)) r a e in
       rw q (record { ok = e; nodes = λ ms f. never (cc) })
 
   module _ (t : not r.ok ≡ false) where
     plain_some : kept_after (told ns) none_kept (demands_in ps faces) ≡ some r.sources.nodes
-    plain_some = answer-some (kept_after (told ns) none_kept (demands_in ps faces)) r a (sym (not-not r.ok) ∙ ap not t)
+    plain_some = answer_some (kept_after (told ns) none_kept (demands_in ps faces)) r a (sym (not-not r.ok) ∙ ap not t)
 
     pub plain_stays : All (Demandable ps ns) faces → Kept ns r.sources.nodes
     plain_stays s =
@@ -281,19 +281,19 @@ module _ (ps es ns faces : List ℕ) (functions : ℕ) (firsts : Firsts) (row : 
 -- ---- the answer
 
 module _ (ps es ns faces : List ℕ) (functions : ℕ) (firsts : Firsts) (row : List ℕ) where
-  pub judges-open : not (bodies_closed es (listed firsts) row) ≡ true → (nodes : List ℕ)
+  pub judges_open : not (bodies_closed es (listed firsts) row) ≡ true → (nodes : List ℕ)
       → Judges (judged_at (told ns) ps es faces functions firsts row) (record { solves = false; sources = record { nodes = nodes } })
   unfolding judged_at
-  judges-open e nodes =
+  judges_open e nodes =
       let f : bodies_closed es (listed firsts) row ≡ false = sym (not-not _) ∙ ap not e in
       rw f (record { solves = refl; nodes = λ kept q. never (cc) })
 
   pub closed_all : not (bodies_closed es (listed firsts) row) ≡ false → bodies_closed es (listed firsts) row ≡ true
   closed_all e = sym (not-not _) ∙ ap not e
 
-  pub judges-closed : bodies_closed es (listed firsts) row ≡ true → (r : Agreed)
+  pub judges_closed : bodies_closed es (listed firsts) row ≡ true → (r : Agreed)
       → Answers (demanded_at (told ns) ps es faces functions firsts row) r
       → Judges (judged_at (told ns) ps es faces functions firsts row)
       (record { solves = r.ok; sources = record { nodes = r.sources.nodes } })
   unfolding judged_at
-  judges-closed e r a = rw e (record { solves = a.ok; nodes = a.nodes })
+  judges_closed e r a = rw e (record { solves = a.ok; nodes = a.nodes })

@@ -24,36 +24,36 @@ use Rattle.meaning.specs.Field.{tag_of}
 use Rattle.meaning.specs.PlaceValue.{mask_of, masks_of}
 use Rattle.meaning.proofs.Lists.{never, choose_true, choose_false}
 use Rattle.meaning.proofs.Proper.{Proper, accepted_proper, one_place, applied_functions}
-use Rattle.meaning.proofs.OneWay.{faces-walk}
+use Rattle.meaning.proofs.OneWay.{faces_walk}
 use Rattle.meaning.proofs.ShiftLaws.{shift_closed}
 use Rattle.meaning.proofs.ViewLaws.{nameless_closed}
-use Rattle.meaning.proofs.Slots.{faced-applied}
-use Rattle.meaning.proofs.RowBodies.{face-expression}
+use Rattle.meaning.proofs.Slots.{faced_applied}
+use Rattle.meaning.proofs.RowBodies.{face_expression}
 use Rattle.meaning.proofs.ChoiceLaws.{rows_are}
 use Rattle.meaning.proofs.Solutions.{row_body_shape}
 use Rattle.tokens.specs.Token.{tag_in, payload_in, payload_of, pattern_tokens, expression_tokens}
 use Rattle.tokens.specs.Key.{at}
-use Rattle.tokens.proofs.ProblemTokens.{expression-table}
+use Rattle.tokens.proofs.ProblemTokens.{expression_table_lem}
 use Rattle.numbers.specs.Tests.{Tests}
 use Rattle.metavariables.specs.Survey.{count}
 use Rattle.lockstep.specs.Walk.{pattern_node}
 use Rattle.faces.specs.Recorded.{Recorded}
 use Rattle.faces.specs.declared.first.Firsts.{Firsts}
-use Rattle.faces.proofs.NodeTokens.{AtNode, node-tag, node-payload, pattern-node}
+use Rattle.faces.proofs.NodeTokens.{AtNode, node_tag, node_payload, pattern_node_lem}
 use Rattle.demands.specs.Demand.{each_some, application_lowest, slot_lowest, lowest_in}
 use Rattle.demands.specs.Fit.{Suits}
 use Rattle.bodies.proofs.HoleTests.{Spotted}
 use Rattle.sources.specs.Demand.{open_node, demands_in, kept_after}
 use Rattle.sources.proofs.KeptMeaning as meaning
 use Rattle.sources.proofs.KeptMeaning.{kept_means}
-use Rattle.sources.proofs.RecordedDemands.{MovedFace, slot_fits, recorded-say}
+use Rattle.sources.proofs.RecordedDemands.{MovedFace, slot_fits, recorded_say}
 use Rattle.fit.specs.Judging.{application_kept, rank_at, face_kept, faces_kept, none_kept, demanded_at}
 use Rattle.fit.specs.Laid.{Laid}
-use Rattle.fit.proofs.Ranks.{rank-at}
-use Rattle.fit.proofs.Steps.{Step, step-nothing, step-told, step_then}
+use Rattle.fit.proofs.Ranks.{rank_at_lem}
+use Rattle.fit.proofs.Steps.{Step, step_nothing, step_told, step_then}
 use Rattle.fit.proofs.Functions.{FunctionAt, function_at}
-use Rattle.fit.proofs.Arguments.{RecordedFace, faces-spotted}
-use Rattle.fit.proofs.Applications.{application-step}
+use Rattle.fit.proofs.Arguments.{RecordedFace, faces_spotted}
+use Rattle.fit.proofs.Applications.{application_step}
 
 abbrev pub SlotFits : (ℕ → Term) → Face → Slot → Type 0
 SlotFits b x (metavariable m) = Unit {0}
@@ -108,28 +108,28 @@ module _ (p : Problem) (q : Tests) (ns : List ℕ) (s : ℕ) (firsts : Firsts)
   proper : Proper p
   proper = accepted_proper p l.accepted
 
-  pub all-spotted : All (Spotted es 0) l.found
-  all-spotted = faces-spotted p l.accepted.within l.found l.agree
+  pub all_spotted : All (Spotted es 0) l.found
+  all_spotted = faces_spotted p l.accepted.within l.found l.agree
 
   -- A face that is that of an application
-  pub applied-at : (n : ℕ) (x : Face) → RecordedFace p n x → x ∈ l.found → (f k : ℕ) → x.what ≡ function f k → Applied p s firsts r n x f
+  pub applied_at_lem : (n : ℕ) (x : Face) → RecordedFace p n x → x ∈ l.found → (f k : ℕ) → x.what ≡ function f k → Applied p s firsts r n x f
   unfolding payload_of
-  applied-at n x recorded m f k e =
+  applied_at_lem n x recorded m f k e =
       let slots = recorded.slots ∙ ap (λ (z : Slot). some (slot z, x.children)) e in
-      let a = pattern-node p l.accepted.within (pattern_node n) (slot (function f k), x.children) slots in
+      let a = pattern_node_lem p l.accepted.within (pattern_node n) (slot (function f k), x.children) slots in
       let (few, single) = slot_fits ps (pattern_node n) (function f k) x.children a in
-      let is_applied : f ∈ applied (patterns p) = faced-applied p proper l.found (faces-walk p l.found l.agree) f k x m e in
+      let is_applied : f ∈ applied (patterns p) = faced_applied p proper l.found (faces_walk p l.found l.agree) f k x m e in
       let is_function : f ∈ functions p = applied_functions p proper f is_applied in
-      let number : payload_in (at ps (pattern_node n)) ≡ f = node-payload ps (pattern_node n) (function f k) x.children a in
+      let number : payload_in (at ps (pattern_node n)) ≡ f = node_payload ps (pattern_node n) (function f k) x.children a in
       record {
         applies = e ∙ ap (function f) single;
         is_function = is_function;
-        tag = node-tag ps (pattern_node n) (function f k) x.children a;
+        tag = node_tag ps (pattern_node n) (function f k) x.children a;
         number = number;
         few = few;
         rank = function_at p q ns s firsts l r i (rank_at ps s n) f
-            (ap (λ (g : ℕ). get_elem? (functions p) (count g s)) number ∙ rank-at p s l.set f is_function);
-        is_face = face-expression p proper l.found l.agree f is_applied;
+            (ap (λ (g : ℕ). get_elem? (functions p) (count g s)) number ∙ rank_at_lem p s l.set f is_function);
+        is_face = face_expression p proper l.found l.agree f is_applied;
         is_body = subst (λ (c : ℕ). IsBody c (one (row_body p r f))) (one_place p l.accepted.within f is_applied)
             (row_body_shape p r proper ((rows_are p r).0 i) f is_applied);
       }
@@ -141,8 +141,8 @@ module _ (p : Problem) (q : Tests) (ns : List ℕ) (s : ℕ) (firsts : Firsts)
   plain_slot n x recorded kept e =
       choose_false _ _
       (ap (λ (g : ℕ). eqb g 6)
-      (node-tag ps (pattern_node n) x.what x.children
-      (pattern-node p l.accepted.within (pattern_node n) (slot x.what, x.children) recorded.slots)) ∙ e)
+      (node_tag ps (pattern_node n) x.what x.children
+      (pattern_node_lem p l.accepted.within (pattern_node n) (slot x.what, x.children) recorded.slots)) ∙ e)
 
   module _ (closed : (f : ℕ) → f ∈ functions p → ClosedTerm (row_body p r f)) where
     -- That of an application
@@ -162,7 +162,7 @@ module _ (p : Problem) (q : Tests) (ns : List ℕ) (s : ℕ) (firsts : Firsts)
         subst (λ (c : ℕ). Step es (face_kept q ps es s firsts.nodes row n kept) ks (Suits (row_body p r f) x.term)
         (application_lowest (row_body p r f) c x)) one_argument
         (subst (λ (o : Option (List ℕ)). Step es o ks (Suits (row_body p r f) x.term) (application_lowest (row_body p r f) 1 x)) same
-        (application-step p l.accepted.within n f x recorded a.applies spotted node (face_of p f) a.rank.face a.is_face ms
+        (application_step p l.accepted.within n f x recorded a.applies spotted node (face_of p f) a.rank.face a.is_face ms
         a.rank.choice
         a.rank.small a.is_body (closed f a.is_function) q l.tells kept ks first))
 
@@ -177,13 +177,13 @@ module _ (p : Problem) (q : Tests) (ns : List ℕ) (s : ℕ) (firsts : Firsts)
             → Step es (face_kept q ps es s firsts.nodes row n kept) ks (Unit {0}) (some [])
         plain z e t =
             subst (λ (o : Option (List ℕ)). Step es o ks (Unit {0}) (some []))
-            (sym (plain_slot n x recorded kept (ap (λ (y : Slot). eqb (tag_of (slot y)) 6) e ∙ t))) (step-nothing es ks kept first)
+            (sym (plain_slot n x recorded kept (ap (λ (y : Slot). eqb (tag_of (slot y)) 6) e ∙ t))) (step_nothing es ks kept first)
 
         go : (z : Slot) → x.what ≡ z
             → Step es (face_kept q ps es s firsts.nodes row n kept) ks (SlotFits (row_body p r) x z) (slot_lowest (row_body p r) x z)
         go (metavariable k) e = plain (metavariable k) e refl
         go (hole k) e = plain (hole k) e refl
-        go (function f k) e = application_face n x recorded spotted f k e (applied-at n x recorded m f k e) kept ks first
+        go (function f k) e = application_face n x recorded spotted f k e (applied_at_lem n x recorded m f k e) kept ks first
 
     -- All of them
     faces_step : (ms : List ℕ) (xs : List Face) → Recorded p ms xs → ((x : Face) → x ∈ xs → x ∈ l.found) → All (Spotted es 0) xs
@@ -191,7 +191,7 @@ module _ (p : Problem) (q : Tests) (ns : List ℕ) (s : ℕ) (firsts : Firsts)
         → Step es (faces_kept q ps es s firsts.nodes row ms kept) ks (All (λ x. SlotFits (row_body p r) x x.what) xs)
         (each_some (λ x. slot_lowest (row_body p r) x x.what) xs)
     unfolding faces_kept
-    faces_step [] [] recorded h a kept ks first = step-nothing es ks kept first
+    faces_step [] [] recorded h a kept ks first = step_nothing es ks kept first
     faces_step [] (x ∷ xs) recorded h a kept ks first = absurd recorded
     faces_step (n ∷ ms) [] recorded h a kept ks first = absurd recorded
     faces_step (n ∷ ms) (x ∷ xs) recorded h a kept ks first =
@@ -209,9 +209,9 @@ module _ (p : Problem) (q : Tests) (ns : List ℕ) (s : ℕ) (firsts : Firsts)
         step_then es [] (kept_after q none_kept (demands_in ps ns)) (λ kept. faces_kept q ps es s firsts.nodes row ns kept) (Unit {0})
         (All (λ x. SlotFits (row_body p r) x x.what) l.found) (some (each source_of l.found))
         (each_some (λ x. slot_lowest (row_body p r) x x.what) l.found)
-        (step-told es [] (kept_after q none_kept (demands_in ps ns)) (each source_of l.found)
-        (kept_means es (expression-table p l.accepted.within).small q l.tells none_kept [] (demands_in ps ns)
+        (step_told es [] (kept_after q none_kept (demands_in ps ns)) (each source_of l.found)
+        (kept_means es (expression_table_lem p l.accepted.within).small q l.tells none_kept [] (demands_in ps ns)
         (each source_of l.found) (none_first es)
-        (recorded-say ps es _ _ _ (pattern-node p l.accepted.within) ns l.found l.recorded
-        (recorded_moved p ns l.found l.recorded all-spotted))))
-        (λ kept ds first. faces_step ns l.found l.recorded (λ x m. m) all-spotted kept ds first)
+        (recorded_say ps es _ _ _ (pattern_node_lem p l.accepted.within) ns l.found l.recorded
+        (recorded_moved p ns l.found l.recorded all_spotted))))
+        (λ kept ds first. faces_step ns l.found l.recorded (λ x m. m) all_spotted kept ds first)

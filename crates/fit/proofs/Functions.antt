@@ -89,8 +89,8 @@ pub record FunctionAt (p : Problem) (firsts : Firsts) (row : List ℕ) (ms : Mar
 
 module _ (p : Problem) (q : Tests) (ns : List ℕ) (s : ℕ) (firsts : Firsts)
     (l : Laid p q (pattern_tokens p) (expression_tokens p) ns s firsts) where
-  pub listed-long : length (listed firsts) ≡ firsts.count
-  listed-long = length-take-le firsts.count firsts.nodes (omega (arith, l.fits.array, l.fits.count))
+  pub listed_long : length (listed firsts) ≡ firsts.count
+  listed_long = length-take-le firsts.count firsts.nodes (omega (arith, l.fits.array, l.fits.count))
 
   module _ (r : Row) (i : r ∈ rows p) where
     is_row : IsRow p r
@@ -105,7 +105,7 @@ module _ (p : Problem) (q : Tests) (ns : List ℕ) (s : ℕ) (firsts : Firsts)
     function_at k f e =
         let m : f ∈ functions p = at_mem (functions p) k f e in
         let (first, small) = first_at_lem p l.found (functions p) (listed firsts) k f l.nodes e in
-        let place : k < firsts.count = omega (arith, listed-long) in
+        let place : k < firsts.count = omega (arith, listed_long) in
         record {
           place = place;
           few = omega (arith, l.fits.count);
@@ -140,7 +140,7 @@ module _ (p : Problem) (q : Tests) (ns : List ℕ) (s : ℕ) (firsts : Firsts)
         let (k, e) = mem_at (functions p) f m in
         let a = function_at k f e in
         (body_at k f e).0
-        (closed_at (expression_tokens p) (listed firsts) (masks_of r) q k (omega (arith, a.place, listed-long))
+        (closed_at (expression_tokens p) (listed firsts) (masks_of r) q k (omega (arith, a.place, listed_long))
         (omega (arith, a.few, row_masks)))
 
     pub bodies_closed_out : ((f : ℕ) → f ∈ functions p → ClosedTerm (row_body p r f))

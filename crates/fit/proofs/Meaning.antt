@@ -17,8 +17,8 @@ use Rattle.meaning.specs.Candidate.{solves}
 use Rattle.meaning.specs.PlaceValue.{masks_of}
 use Rattle.meaning.proofs.Lists.{never, all_mem, mem_all, is_some_lem}
 use Rattle.meaning.proofs.Proper.{accepted_proper, applied_functions}
-use Rattle.meaning.proofs.OneWay.{faces-walk}
-use Rattle.meaning.proofs.Slots.{faced-applied}
+use Rattle.meaning.proofs.OneWay.{faces_walk}
+use Rattle.meaning.proofs.Slots.{faced_applied}
 use Rattle.tokens.specs.Token.{pattern_tokens, expression_tokens}
 use Rattle.tokens.specs.Key.{at}
 use Rattle.numbers.specs.Tests.{Tests}
@@ -29,7 +29,7 @@ use Rattle.demands.specs.Demand.{lowest_in, lowest_demands}
 use Rattle.demands.specs.Fit.{Suits, faced_by, FitsTogether}
 use Rattle.demands.proofs.Agreement.{agreeing_tested}
 use Rattle.demands.proofs.DemandedSources.{demands_are_sources}
-use Rattle.demands.proofs.FitLaws.{faced-by, by-faced, solves_together}
+use Rattle.demands.proofs.FitLaws.{faced_by_lem, by_faced, solves_together}
 use Rattle.sources.proofs.KeptMeaning as meaning
 use Rattle.sources.proofs.KeptMeaning.{node_of}
 use Rattle.fit.specs.Judging.{bodies_closed, demanded_at, judged_at, Judges}
@@ -57,19 +57,19 @@ module _ (p : Problem) (q : Tests) (ns : List ℕ) (s : ℕ) (firsts : Firsts)
   abbrev b : ℕ → Term
   b = row_body p r
 
-  demands-are : lowest_demands p r ≡ lowest_in b l.found
+  demands_are : lowest_demands p r ≡ lowest_in b l.found
   unfolding lowest_demands
-  demands-are = ap (λ (o : Option (List Face)). and_then o (lowest_in b)) l.agree
+  demands_are = ap (λ (o : Option (List Face)). and_then o (lowest_in b)) l.agree
 
   -- An answer is that of a row that fits, and its nodes are those of the sources
-  judged-in : (kept : List ℕ) → answer ≡ some kept → FitsTogether p r × meaning.Firsts es kept (sources p r)
+  judged_in : (kept : List ℕ) → answer ≡ some kept → FitsTogether p r × meaning.Firsts es kept (sources p r)
   unfolding judged_at row_body
-  judged-in kept e =
+  judged_in kept e =
       let (c, d) =
       guarded (bodies_closed es (listed firsts) (masks_of r)) (demanded_at q (pattern_tokens p) es ns s firsts (masks_of r)) kept e in
       let closed = bodies_closed_in p q ns s firsts l r i c in
       let (u, (ds, met, a, f)) = (demanded_step p q ns s firsts l r i closed).into kept d in
-      let demanded : lowest_demands p r ≡ some ds = demands-are ∙ met in (
+      let demanded : lowest_demands p r ≡ some ds = demands_are ∙ met in (
         record {
           alone = λ g m. record { suits = λ t w. suits u.1 g t w; closed = closed g m };
           list = ds;
@@ -81,36 +81,36 @@ module _ (p : Problem) (q : Tests) (ns : List ℕ) (s : ℕ) (firsts : Firsts)
     where
       suits : All fits l.found → (g : ℕ) (t : Term) → t ∈ faced_by p g → Suits (row_body p r g) t
       suits v g t w =
-          let (x, n, m, z, d) = faced-by p l.found l.agree g t w in
+          let (x, n, m, z, d) = faced_by_lem p l.found l.agree g t w in
           subst (Suits (row_body p r g)) (sym d) (subst (SlotFits b x) z (all_mem fits x l.found v m))
 
-  judged-out : FitsTogether p r → is_some answer ≡ true
+  judged_out : FitsTogether p r → is_some answer ≡ true
   unfolding judged_at row_body
-  judged-out x =
+  judged_out x =
       let closed : (f : ℕ) → f ∈ functions p → ClosedTerm (row_body p r f) = λ f m. (x.alone f m).closed in
       let c : bodies_closed es (listed firsts) (masks_of r) ≡ true = bodies_closed_out p q ns s firsts l r i closed in
       ap (λ (t : Bool). is_some (guard t (demanded_at q (pattern_tokens p) es ns s firsts (masks_of r)))) c
       ∙ (demanded_step p q ns s firsts l r i closed).back (tt, mem_all fits l.found (λ y m. suits y m y.what refl)) x.list
-      (sym demands-are ∙ x.demanded) ((agreeing_tested x.list).0 x.agreeing)
+      (sym demands_are ∙ x.demanded) ((agreeing_tested x.list).0 x.agreeing)
     where
       suits : (y : Face) → y ∈ l.found → (z : Slot) → y.what ≡ z → SlotFits b y z
       suits y m (metavariable k) e = tt
       suits y m (hole k) e = tt
       suits y m (function f k) e =
           let proper = accepted_proper p l.accepted in
-          let walk = faces-walk p l.found l.agree in
-          (x.alone f (applied_functions p proper f (faced-applied p proper l.found walk f k y m e))).suits y.term
-          (by-faced p l.found l.agree f y k m e)
+          let walk = faces_walk p l.found l.agree in
+          (x.alone f (applied_functions p proper f (faced_applied p proper l.found walk f k y m e))).suits y.term
+          (by_faced p l.found l.agree f y k m e)
 
   solved : is_some answer ≡ solves p r
   solved =
       let t = solves_together p r l.accepted i in
       same_truth (is_some answer) (solves p r)
-      (λ b. let (kept, e) = is_some_lem answer b in t.1 (judged-in kept e).0)
-      (λ b. judged-out (t.0 b))
+      (λ b. let (kept, e) = is_some_lem answer b in t.1 (judged_in kept e).0)
+      (λ b. judged_out (t.0 b))
 
-  judged-sources : (kept : List ℕ) → answer ≡ some kept → (m : ℕ) → m < metavariable_count → at kept m ≡ node_of (lookup m (sources p r))
-  judged-sources kept e m h = (judged-in kept e).1.nodes m h
+  judged_sources : (kept : List ℕ) → answer ≡ some kept → (m : ℕ) → m < metavariable_count → at kept m ≡ node_of (lookup m (sources p r))
+  judged_sources kept e m h = (judged_in kept e).1.nodes m h
 
 -- The answer for a row
 pub record Judgement (p : Problem) (r : Row) (a : Judged) : Type 0 where
@@ -133,5 +133,5 @@ judge_means p q ps es ns s firsts l row o a j =
       solution = mine.solves ∙ solved p q ns s firsts own r o.is_row;
       source = λ b m h.
           let (kept, e) = is_some_lem (judged_at q (pattern_tokens p) (expression_tokens p) ns s firsts (masks_of r)) (sym mine.solves ∙ b) in
-          ap (λ (ks : List ℕ). at ks m) (mine.nodes kept e) ∙ judged-sources p q ns s firsts own r o.is_row kept e m h;
+          ap (λ (ks : List ℕ). at ks m) (mine.nodes kept e) ∙ judged_sources p q ns s firsts own r o.is_row kept e m h;
     }

@@ -64,10 +64,10 @@ module _ (p : Problem) where
   choice_mask r k f c e = mask_at p (functions p) r _ k f c functions_distinct e
 
   -- THE RANK of a function, among the functions as a set
-  pub rank-at : (s : ℕ) → keep (has s) (up_to metavariable_count) ≡ functions p → (f : ℕ) → f ∈ functions p
+  pub rank_at_lem : (s : ℕ) → keep (has s) (up_to metavariable_count) ≡ functions p → (f : ℕ) → f ∈ functions p
       → get_elem? (functions p) (count f s) ≡ some f
   unfolding count
-  rank-at s e f m =
+  rank_at_lem s e f m =
       let (i, t) = keep_mem (has s) f (up_to metavariable_count) (subst (λ (l : List ℕ). f ∈ l) (sym e) m) in
       ap (λ (l : List ℕ). get_elem? l (length (keep (has s) (up_to f)))) (sym e)
       ∙ kept_at (has s) 0 metavariable_count f f (omega arith) (up_to_mem metavariable_count f i) t

@@ -20,27 +20,27 @@ use Rattle.meaning.specs.PlaceValue.{masks_of}
 use Rattle.meaning.proofs.Lists.{never}
 use Rattle.tokens.specs.Token.{tag_in, pattern_tokens, expression_tokens}
 use Rattle.tokens.specs.Key.{at, Inside}
-use Rattle.tokens.proofs.ProblemTokens.{pattern-table, expression-table}
-use Rattle.tokens.proofs.KeyLaws.{stands-inside}
+use Rattle.tokens.proofs.ProblemTokens.{pattern_table_lem, expression_table_lem}
+use Rattle.tokens.proofs.KeyLaws.{stands_inside}
 use Rattle.numbers.specs.Tests.{told}
 use Rattle.lockstep.specs.Walk.{pattern_node}
 use Rattle.lockstep.specs.Recorded.{Both}
 use Rattle.faces.specs.Recorded.{Recorded}
 use Rattle.faces.specs.First.{listed}
 use Rattle.faces.specs.declared.first.Firsts.{Firsts}
-use Rattle.faces.proofs.NodeTokens.{AtNode, node-inside, node-tag, pattern-node, expression-node}
-use Rattle.faces.proofs.ArgumentWalk.{argument-inside}
+use Rattle.faces.proofs.NodeTokens.{AtNode, node_inside, node_tag, pattern_node_lem, expression_node_lem}
+use Rattle.faces.proofs.ArgumentWalk.{argument_inside}
 use Rattle.bodies.proofs.HoleTests.{Spotted}
-use Rattle.numbers.proofs.ProblemTable.{table-numerable}
+use Rattle.numbers.proofs.ProblemTable.{table_numerable}
 use Rattle.sources.specs.Kept.{Demandable}
-use Rattle.sources.proofs.RecordedDemands.{recorded-reads}
+use Rattle.sources.proofs.RecordedDemands.{recorded_reads}
 use Rattle.fit.specs.Judging.{rank_at}
 use Rattle.fit.specs.Laid.{Laid, RowOf}
 use Rattle.fit.specs.Ready.{Bodies, Applicable, Slots, Ready}
-use Rattle.fit.proofs.Functions.{laid_own, listed-long, row_masks, function_of, function_at, bodies_closed_in}
+use Rattle.fit.proofs.Functions.{laid_own, listed_long, row_masks, function_of, function_at, bodies_closed_in}
 use Rattle.fit.proofs.Arguments.{RecordedFace, SameDemands}
-use Rattle.fit.proofs.Applications.{walked-argument}
-use Rattle.fit.proofs.FacesMeaning.{Applied, applied-at, all-spotted, recorded_moved}
+use Rattle.fit.proofs.Applications.{walked_argument}
+use Rattle.fit.proofs.FacesMeaning.{Applied, applied_at_lem, all_spotted, recorded_moved}
 
 -- What is recorded, where the two walks meet the same
 met_reads : (ps es ks ns : List ℕ) → length ks ≡ length es → (o : Option (List ℕ)) (v : Option (List Face)) → Both (SameDemands ps es) o v
@@ -61,19 +61,19 @@ module _ (p : Problem) (ks ns : List ℕ) (s : ℕ) (firsts : Firsts) (l : Laid 
   abbrev row : List ℕ
   row = masks_of r
 
-  expression-inside : (j : ℕ) (t : Term) → node_at j (expressions p) ≡ some t → Inside es j
-  expression-inside j t e =
-      let a = expression-node p l.accepted.within j t e in
-      stands-inside a.levels a.context es j a.scope a.named a.held a.stands
+  expression_inside : (j : ℕ) (t : Term) → node_at j (expressions p) ≡ some t → Inside es j
+  expression_inside j t e =
+      let a = expression_node_lem p l.accepted.within j t e in
+      stands_inside a.levels a.context es j a.scope a.named a.held a.stands
 
-  bodies-ready : Bodies es firsts row
-  bodies-ready = record {
-    table = expression-table p l.accepted.within;
+  bodies_ready : Bodies es firsts row
+  bodies_ready = record {
+    table = expression_table_lem p l.accepted.within;
     fits = l.fits;
     inside = λ k h.
         let (f, e) =
-        function_of p l.found (functions p) (listed firsts) k l.nodes (omega (arith, listed-long p (told ks) ns s firsts l)) in
-        expression-inside (at firsts.nodes k) (face_of p f) (function_at p (told ks) ns s firsts l r i k f e).face;
+        function_of p l.found (functions p) (listed firsts) k l.nodes (omega (arith, listed_long p (told ks) ns s firsts l)) in
+        expression_inside (at firsts.nodes k) (face_of p f) (function_at p (told ks) ns s firsts l r i k f e).face;
     masks = row_masks p (told ks) ns s firsts l r i;
   }
 
@@ -85,16 +85,16 @@ module _ (p : Problem) (ks ns : List ℕ) (s : ℕ) (firsts : Firsts) (l : Laid 
     application_ready n x recorded spotted f a =
         subst (λ (m : ℕ). Applicable ps es ks n node m) (sym a.rank.mask)
         (record {
-          face = (expression-inside node (face_of p f) a.rank.face).starts;
-          faced = subst (λ (j : ℕ). j < length es) (sym recorded.node) (expression-inside x.node x.term recorded.term).starts;
+          face = (expression_inside node (face_of p f) a.rank.face).starts;
+          faced = subst (λ (j : ℕ). j < length es) (sym recorded.node) (expression_inside x.node x.term recorded.term).starts;
           walks = λ t z.
               let (hs, g) =
-              walked-argument p l.accepted.within n f x recorded a.applies spotted node (face_of p f) a.rank.face a.is_face ms
+              walked_argument p l.accepted.within n f x recorded a.applies spotted node (face_of p f) a.rank.face a.is_face ms
               a.rank.choice a.rank.small a.is_body (closed f a.is_function) (told ks) l.tells t z in
               record {
-                slot = node-inside ps (pattern_node n) (slot (function f 1), x.children)
-                    (pattern-node p l.accepted.within (pattern_node n) (slot (function f 1), x.children) slots);
-                ends = argument-inside p l.accepted.within (pattern_node n) f 1 x.children slots;
+                slot = node_inside ps (pattern_node n) (slot (function f 1), x.children)
+                    (pattern_node_lem p l.accepted.within (pattern_node n) (slot (function f 1), x.children) slots);
+                ends = argument_inside p l.accepted.within (pattern_node n) f 1 x.children slots;
                 hole = g.inside;
                 reads = λ ms e. met_reads ps es ks ms long _ _ g.met e;
               };
@@ -112,22 +112,22 @@ module _ (p : Problem) (ks ns : List ℕ) (s : ℕ) (firsts : Firsts) (l : Laid 
     -- One face of whatever kind
     slot_ready : (n : ℕ) (x : Face) → RecordedFace p n x → x ∈ l.found → Spotted es 0 x → Slots ps es ks s firsts.nodes row n
     slot_ready n x recorded m spotted = record {
-      slot = node-inside ps (pattern_node n) (slot x.what, x.children) there;
+      slot = node_inside ps (pattern_node n) (slot x.what, x.children) there;
       number = λ t. let (f, a) = application t in subst (λ (g : ℕ). g < metavariable_count) (sym a.number) a.few;
       rank = λ t. let (f, a) = application t in a.rank.few;
       applies = λ t. let (f, a) = application t in application_ready n x recorded spotted f a;
     }
       where
         there : AtNode ps (pattern_node n) (slot x.what, x.children)
-        there = pattern-node p l.accepted.within (pattern_node n) (slot x.what, x.children) recorded.slots
+        there = pattern_node_lem p l.accepted.within (pattern_node n) (slot x.what, x.children) recorded.slots
 
         kind : (z : Slot) → x.what ≡ z → tag_of (slot z) ≡ 6 → (f : ℕ) × Applied p s firsts r n x f
         kind (metavariable k) e t = absurd (omega arith)
-        kind (function f k) e t = (f, applied-at p (told ks) ns s firsts l r i n x recorded m f k e)
+        kind (function f k) e t = (f, applied_at_lem p (told ks) ns s firsts l r i n x recorded m f k e)
         kind (hole k) e t = absurd (omega arith)
 
         application : tag_in (at ps (pattern_node n)) ≡ 6 → (f : ℕ) × Applied p s firsts r n x f
-        application t = kind x.what refl (sym (node-tag ps (pattern_node n) x.what x.children there) ∙ t)
+        application t = kind x.what refl (sym (node_tag ps (pattern_node n) x.what x.children there) ∙ t)
 
     slots_ready : (ms : List ℕ) (xs : List Face) → Recorded p ms xs → ((x : Face) → x ∈ xs → x ∈ l.found) → All (Spotted es 0) xs
         → All (Slots ps es ks s firsts.nodes row) ms
@@ -140,20 +140,20 @@ module _ (p : Problem) (ks ns : List ℕ) (s : ℕ) (firsts : Firsts) (l : Laid 
   ready : (scratch : List ℕ) → length ps ≤ length scratch → Ready ps es ks ns s firsts row scratch
   ready scratch room = record {
     tables = record {
-      patterns = pattern-table p l.accepted.within;
-      expressions = expression-table p l.accepted.within;
-      nested = (table-numerable p l.accepted.within).inside;
+      patterns = pattern_table_lem p l.accepted.within;
+      expressions = expression_table_lem p l.accepted.within;
+      nested = (table_numerable p l.accepted.within).inside;
       numbers = long;
       room = room;
     };
-    bodies = bodies-ready;
-    reads = recorded-reads ps es _ _ _ (pattern-node p l.accepted.within) ks long ns l.found l.recorded
+    bodies = bodies_ready;
+    reads = recorded_reads ps es _ _ _ (pattern_node_lem p l.accepted.within) ks long ns l.found l.recorded
         (recorded_moved p ns l.found l.recorded spotted);
     slots = λ c. slots_ready (bodies_closed_in p (told ks) ns s firsts l r i c) ns l.found l.recorded (λ x m. m) spotted;
   }
     where
       spotted : All (Spotted es 0) l.found
-      spotted = all-spotted p (told ks) ns s firsts l r i
+      spotted = all_spotted p (told ks) ns s firsts l r i
 
 -- THE CODE CAN BE CALLED
 pub laid_ready : (p : Problem) (ps es ks ns : List ℕ) (s : ℕ) (firsts : Firsts) → Laid p (told ks) ps es ns s firsts → length ks ≡ length es

@@ -32,8 +32,8 @@ agree_append ks (d ∷ ds) ds' =
 
 module _ (es : List ℕ) (ks : List Source) where
   -- Nothing is demanded
-  pub step-nothing : (kept : List ℕ) → Firsts es kept ks → Step es (some kept) ks (Unit {0}) (some [])
-  step-nothing kept f = record {
+  pub step_nothing : (kept : List ℕ) → Firsts es kept ks → Step es (some kept) ks (Unit {0}) (some [])
+  step_nothing kept f = record {
     into = λ k e. (
       tt,
       (
@@ -48,24 +48,24 @@ module _ (es : List ℕ) (ks : List Source) where
   }
 
   -- A walk that disagrees
-  pub step-none : (fits : Type 0) → Step es none ks fits none
-  step-none fits = record { into = λ k e. never (cc); back = λ u ds e a. never (cc) }
+  pub step_none : (fits : Type 0) → Step es none ks fits none
+  step_none fits = record { into = λ k e. never (cc); back = λ u ds e a. never (cc) }
 
   -- Demands on the table
-  pub step-told : (o : Option (List ℕ)) (ss : List Source) → Told es o ks ss → Step es o ks (Unit {0}) (some ss)
-  step-told o ss t = record {
+  pub step_told : (o : Option (List ℕ)) (ss : List Source) → Told es o ks ss → Step es o ks (Unit {0}) (some ss)
+  step_told o ss t = record {
     into = λ k e. (tt, (ss, refl, sym t.test ∙ ap is_some e, t.nodes k e));
     back = λ u ds e a. t.test ∙ ap (agree_after ks) (let q : ss ≡ ds = cc in q) ∙ a;
   }
 
   -- Something that has to fit besides
-  pub step-guard : (b : Bool) (o : Option (List ℕ)) (fits : Type 0) (demands : Option (List Source)) → (b ≡ true → fits) → (fits → b ≡ true)
+  pub step_guard : (b : Bool) (o : Option (List ℕ)) (fits : Type 0) (demands : Option (List Source)) → (b ≡ true → fits) → (fits → b ≡ true)
       → (fits → Step es o ks (Unit {0}) demands) → Step es (guard b o) ks fits demands
-  step-guard true o fits demands to from s = record {
+  step_guard true o fits demands to from s = record {
     into = λ k e. (to refl, ((s (to refl)).into k e).1);
     back = λ u ds e a. (s u).back tt ds e a;
   }
-  step-guard false o fits demands to from s = record { into = λ k e. never (cc); back = λ u ds e a. never (cc (from u)) }
+  step_guard false o fits demands to from s = record { into = λ k e. never (cc); back = λ u ds e a. never (cc (from u)) }
 
   -- One step and then another
   pub step_then : (o : Option (List ℕ)) (next : List ℕ → Option (List ℕ)) (fits fits' : Type 0) (demands demands' : Option (List Source))
@@ -102,9 +102,9 @@ module _ (es : List ℕ) (ks : List Source) where
           ∙ (s' k ds (subst (λ (l : List Source). Firsts es k (ks ++ l)) same f)).back u.1 ds' d' (T_true t')
 
   -- The same demands, and what fits said in another way
-  pub step-as : (o : Option (List ℕ)) (fits fits' : Type 0) (demands demands' : Option (List Source)) → (fits → fits') → (fits' → fits)
+  pub step_as : (o : Option (List ℕ)) (fits fits' : Type 0) (demands demands' : Option (List Source)) → (fits → fits') → (fits' → fits)
       → demands ≡ demands' → Step es o ks fits demands → Step es o ks fits' demands'
-  step-as o fits fits' demands demands' to from e s = record {
+  step_as o fits fits' demands demands' to from e s = record {
     into = λ k q. let (u, (ds, d, a, f)) = s.into k q in (to u, (ds, sym e ∙ d, a, f));
     back = λ u ds d a. s.back (from u) ds (e ∙ d) a;
   }

@@ -1,5 +1,7 @@
 // The test of a row: whether it is a solution row, and where the value of each metavariable is copied from. It looks at the token tables,
 // at the numbers of the expressions' nodes and at the recorded faces alone. That its answer is document 01's is proofs/Meaning.
+#![tactic(auto)]
+
 ghost use Rattle.std.specs.Prelude.{◌≡◌, true};
 ghost use Rattle.faces.specs.First.{listed};
 ghost use Rattle.masks.specs.Sets.{mask, masks_in};

@@ -51,13 +51,13 @@ both true r = refl
 both false r = refl
 
 module _ (ctx : Context) (says : NamedTerm → Entry NamedTerm) (c : Bytes) where
-  numbered-none : length c ≡ 0 → read_numbered ctx says c ≡ refused 20
+  numbered_none : length c ≡ 0 → read_numbered ctx says c ≡ refused 20
   unfolding read_numbered
-  numbered-none z = rw (le-ltb 0 (length c) (omega arith))
+  numbered_none z = rw (le-ltb 0 (length c) (omega arith))
 
-  numbered-over : metavariable_count ≤ get_or c 0 0 → read_numbered ctx says c ≡ refused 20
+  numbered_over : metavariable_count ≤ get_or c 0 0 → read_numbered ctx says c ≡ refused 20
   unfolding read_numbered
-  numbered-over h = rw (le-ltb (get_or c 0 0) metavariable_count h) (both (ltb 0 (length c)) (refused 20))
+  numbered_over h = rw (le-ltb (get_or c 0 0) metavariable_count h) (both (ltb 0 (length c)) (refused 20))
 
 open_none : (c : Bytes) → length c ≡ 0 → read_open c ≡ refused 20
 unfolding read_open
@@ -77,19 +77,19 @@ module _ (s : Bytes) (tag end : ℕ) (h : FieldInside s end) where
   content : Bytes
   content = take (end - 3) (drop 3 s)
 
-  content-long : length content ≡ end - 3
+  content_long : length content ≡ end - 3
   unfolding content
-  content-long = part_length 3 end s h.head h.within
+  content_long = part_length 3 end s h.head h.within
 
-  pub content-none : (o : List ℕ) → end ≡ 3 → FieldDone s (content_read tag end s) o o fields.Refused
+  pub content_none : (o : List ℕ) → end ≡ 3 → FieldDone s (content_read tag end s) o o fields.Refused
   unfolding content
-  content-none o z =
-      let none : length content ≡ 0 = omega (arith, content-long) in
+  content_none o z =
+      let none : length content ≡ 0 = omega (arith, content_long) in
       item_refused (parts_to tag end s) s o o
-      (unnumbered (parts_to tag end s) (λ ctx says. numbered-none ctx says content none) (open_none content none))
+      (unnumbered (parts_to tag end s) (λ ctx says. numbered_none ctx says content none) (open_none content none))
 
-  taken-whole : length s - length (drop end s) ≡ end
-  taken-whole = omega (arith, length-drop end s, h.within)
+  taken_whole : length s - length (drop end s) ≡ end
+  taken_whole = omega (arith, length-drop end s, h.within)
 
   module _ (some : end ≡ 3 → ⊥) where
     number_at : get_or content 0 0 ≡ get_or s 3 0
@@ -101,7 +101,7 @@ module _ (s : Bytes) (tag end : ℕ) (h : FieldInside s end) where
     content_over o l =
         let over : metavariable_count ≤ get_or content 0 0 = omega (arith, number_at) in
         item_refused (parts_to tag end s) s o o
-        (unnumbered (parts_to tag end s) (λ ctx says. numbered-over ctx says content over) (open_over content over))
+        (unnumbered (parts_to tag end s) (λ ctx says. numbered_over ctx says content over) (open_over content over))
 
     module _ (number : get_or s 3 0 < 32) where
       term_at_lem : drop 1 content ≡ take (end - 4) (drop 4 s)
@@ -119,7 +119,7 @@ module _ (s : Bytes) (tag end : ℕ) (h : FieldInside s end) where
           (λ x. choose (eqb (length x.1) 0) (got (get_or s 3 0, says x.0)) (refused 20))
       unfolding read_numbered
       numbered_term ctx says =
-          let some : ltb 0 (length content) ≡ true = lt-ltb 0 (length content) (omega (arith, content-long, h.head)) in
+          let some : ltb 0 (length content) ≡ true = lt-ltb 0 (length content) (omega (arith, content_long, h.head)) in
           rw (some, known, term_at_lem, number_at)
 
       -- A field with a term, 8 or 9
@@ -140,7 +140,7 @@ module _ (s : Bytes) (tag end : ℕ) (h : FieldInside s end) where
             → FieldDone s (after (choose b (got (get_or s 3 0, says t)) (refused 20)) (λ i. got (i, drop end s))) o o'
             (choose b (fields.Item end tag (record { 0 = get_or s 3 0 }) (length (tokens [] (one t)))) fields.Refused)
         unfolding field_answer Written
-        ended t true w = record { answer = rw (taken-whole, tagged t, tokened t); table = rw (tokened t) w }
+        ended t true w = record { answer = rw (taken_whole, tagged t, tokened t); table = rw (tokened t) w }
         ended t false w = record { answer = refl; table = tt }
 
         term_ended : (a : Answer (NamedTerm × Bytes)) → read_term max_depth ctx term ≡ a → Written (term_tokens []) a o o'
@@ -176,20 +176,20 @@ module _ (s : Bytes) (tag end : ℕ) (h : FieldInside s end) where
       open_test : eqb (length content) 1 ≡ eqb 0 (end - 4)
       open_test =
           by_test (eqb 0 (end - 4))
-          (λ e. eq-eqb (length content) 1 (omega (arith, content-long, h.head, eqb-true 0 (end - 4) e)) ∙ sym e)
-          (λ e. ne_eqb (length content) 1 (λ q. eqb-false 0 (end - 4) e (omega (arith, content-long))) ∙ sym e)
+          (λ e. eq-eqb (length content) 1 (omega (arith, content_long, h.head, eqb-true 0 (end - 4) e)) ∙ sym e)
+          (λ e. ne_eqb (length content) 1 (λ q. eqb-false 0 (end - 4) e (omega (arith, content_long))) ∙ sym e)
 
-      pub content-open : (o : List ℕ) (r : Field) → tag ≡ 11 → r ≡ ended_of tag (record { 0 = get_or s 3 0 }) end (terms.Took 0 0)
+      pub content_open : (o : List ℕ) (r : Field) → tag ≡ 11 → r ≡ ended_of tag (record { 0 = get_or s 3 0 }) end (terms.Took 0 0)
           → FieldDone s (content_read tag end s) o o r
       unfolding content read_item read_open field_answer Written
-      content-open o r g f = rw (f, g, open_test, known, number_at) (go (eqb 0 (end - 4)))
+      content_open o r g f = rw (f, g, open_test, known, number_at) (go (eqb 0 (end - 4)))
         where
           go : (b : Bool)
               → FieldDone s (after (choose b (got (get_or s 3 0, left_open)) (refused 20)) (λ i. got (i, drop end s))) o o
               (choose b (fields.Item end 11 (record { 0 = get_or s 3 0 }) 0) fields.Refused)
-          go true = record { answer = rw taken-whole; table = refl }
+          go true = record { answer = rw taken_whole; table = refl }
           go false = record { answer = refl; table = tt }
 
-  pub content-other : (o : List ℕ) → (tag ≡ 8 → ⊥) → (tag ≡ 9 → ⊥) → (tag ≡ 11 → ⊥) → FieldDone s (content_read tag end s) o o fields.Refused
+  pub content_other : (o : List ℕ) → (tag ≡ 8 → ⊥) → (tag ≡ 9 → ⊥) → (tag ≡ 11 → ⊥) → FieldDone s (content_read tag end s) o o fields.Refused
   unfolding read_item
-  content-other o a b c = item_refused (parts_to tag end s) s o o (rw (ne_eqb tag 8 a, ne_eqb tag 9 b, ne_eqb tag 11 c))
+  content_other o a b c = item_refused (parts_to tag end s) s o o (rw (ne_eqb tag 8 a, ne_eqb tag 9 b, ne_eqb tag 11 c))

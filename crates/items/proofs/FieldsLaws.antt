@@ -105,19 +105,19 @@ reading_begins text table s h l =
 
 -- The loop
 module _ (text table : List ℕ) (used at : ℕ) (s : Said) (o : Order) (r : Reading text table used at s o) where
-  pub used-inside : used ≤ length table
-  used-inside = omega (arith, r.few, r.within, r.short, r.long)
+  pub used_inside : used ≤ length table
+  used_inside = omega (arith, r.few, r.within, r.short, r.long)
 
   abbrev found : Bool → Fields
   found readable = record { readable = readable; rising = o.rising; used = used; said = s }
 
-  pub reading-ends : length text ≤ at → FieldsDone (read_items (length text) text) table (found true)
+  pub reading_ends : length text ≤ at → FieldsDone (read_items (length text) text) table (found true)
   unfolding FieldsDone
-  reading-ends h =
+  reading_ends h =
       let none : read_items r.bound (drop at text) ≡ got [] =
       items_none r.bound (drop at text) (omega (arith, length-drop at text)) in
       let all : read_items (length text) text ≡ got r.items = r.leads ∙ rw (none, append-nil r.items) in
-      rw (all, FieldsDone) (record { readable = refl; rising = r.order.rising; within = used-inside; says = r.says })
+      rw (all, FieldsDone) (record { readable = refl; rising = r.order.rising; within = used_inside; says = r.says })
 
   module _ (some : at < length text) where
     abbrev rest : Bytes
@@ -186,7 +186,7 @@ module _ (text table : List ℕ) (used at : ℕ) (s : Said) (o : Order) (r : Rea
       row = entry_tokens one.item.1
 
       front_long : length front ≡ used
-      front_long = length-take-le used table used-inside
+      front_long = length-take-le used table used_inside
 
       grown : put_mid used (length table - used) table x ≡ (front ++ row) ++ drop (length (front ++ row)) table
       unfolding row

@@ -50,8 +50,8 @@ module _ (front : List ℕ) (is : List Item) (s : Said) (h : SaidBy front is s) 
   abbrev more : Said
   more = noted_of s i.0 (entry_tag i.1) (length front)
 
-  tag-more : (m : ℕ) → m < metavariable_count → at more.tags m ≡ entry_tag (item_of (is ++ (i ∷ [])) m)
-  tag-more m l =
+  tag_more : (m : ℕ) → m < metavariable_count → at more.tags m ≡ entry_tag (item_of (is ++ (i ∷ [])) m)
+  tag_more m l =
       put_at s.tags i.0 m (entry_tag i.1) (rw h.tags_long r.0)
       ∙ rw (item_more is i m new, h.tags m l) (go (eqb m i.0))
     where
@@ -59,8 +59,8 @@ module _ (front : List ℕ) (is : List Item) (s : Said) (h : SaidBy front is s) 
       go true = refl
       go false = refl
 
-  node-more : (m : ℕ) → m < metavariable_count → EntryAt (front ++ entry_tokens i.1) (at more.nodes m) (item_of (is ++ (i ∷ [])) m)
-  node-more m l =
+  node_more : (m : ℕ) → m < metavariable_count → EntryAt (front ++ entry_tokens i.1) (at more.nodes m) (item_of (is ++ (i ∷ [])) m)
+  node_more m l =
       rw (put_at s.nodes i.0 m (length front) (rw h.nodes_long r.0), item_more is i m new) (go (eqb m i.0))
     where
       go : (b : Bool)
@@ -77,6 +77,6 @@ module _ (front : List ℕ) (is : List Item) (s : Said) (h : SaidBy front is s) 
         readable = all_append ReadableItem is (i ∷ []) h.readable (r, tt);
         tags_long = length-set s.tags i.0 (entry_tag i.1) ∙ h.tags_long;
         nodes_long = length-set s.nodes i.0 (length front) ∙ h.nodes_long;
-        tags = tag-more;
-        nodes = node-more;
+        tags = tag_more;
+        nodes = node_more;
       })

@@ -37,8 +37,8 @@ module _ (ctx : Context) (t : NamedTerm) (r : Readable max_depth ctx (one t)) (s
   unfolding Counted
   counted = (tokens_table max_depth ctx (one t) r (record { depths = held.depths; sizes = held.sizes })).counted
 
-  at-end : (front : List ℕ) → TermAt (front ++ tokens [] (one t)) (length front) ctx t
-  at-end front =
+  at_end_lem : (front : List ℕ) → TermAt (front ++ tokens [] (one t)) (length front) ctx t
+  at_end_lem front =
       record {
         held = held;
         stands =
@@ -66,8 +66,8 @@ pub entry_new : (front : List ℕ) (e : Entry NamedTerm) → ReadableEntry e →
     → EntryAt (front ++ entry_tokens e) (length front) e
 entry_new front absent r h = tt
 entry_new front left_open r h = tt
-entry_new front (value t) r h = at-end in_expression t r h front
-entry_new front (body t) r h = at-end in_body t r h front
+entry_new front (value t) r h = at_end_lem in_expression t r h front
+entry_new front (body t) r h = at_end_lem in_body t r h front
 
 term_stays : (front more : List ℕ) (n : ℕ) (ctx : Context) (t : NamedTerm) → TermAt front n ctx t → TermAt (front ++ more) n ctx t
 term_stays front more n ctx t a =

@@ -15,9 +15,9 @@ use Rattle.items.specs.declared.TextRead.{TextRead}
 use Rattle.items.specs.declared.Answer.TheVariants as answers
 
 module _ (text table : List ℕ) where
-  pub text-over : (r : TextRead) → 8192 < length text → RefusedText 19 r → TextDone (read_text text) table r
+  pub text_over : (r : TextRead) → 8192 < length text → RefusedText 19 r → TextDone (read_text text) table r
   unfolding read_text largest_text TextDone
-  text-over r h d = rw (lt-ltb 8192 (length text) h, TextDone) d
+  text_over r h d = rw (lt-ltb 8192 (length text) h, TextDone) d
 
   module _ (short : length text ≤ 8192) (found : Fields) (done : FieldsDone (read_items (length text) text) table found) where
     abbrev Answered : Answer (List Item) → TextRead → Type 0
@@ -49,10 +49,10 @@ module _ (text table : List ℕ) where
       unfolding TextDone
       text_falls r n d = when_readable r (λ is f. rw (sym f.rising ∙ not-true found.rising n, TextDone) d)
 
-      pub text-got : (r : TextRead) → not found.rising ≡ false → r ≡ record { answer = answers.Read found.used; said = found.said }
+      pub text_got : (r : TextRead) → not found.rising ≡ false → r ≡ record { answer = answers.Read found.used; said = found.said }
           → TextDone (read_text text) table r
       unfolding TextDone
-      text-got r n e =
+      text_got r n e =
           when_readable r (λ is f.
           let up : rises (numbers is) ≡ true = sym f.rising ∙ not-false found.rising n in
           rw (up, TextDone, e) (found.used, refl, f.within, f.says up))

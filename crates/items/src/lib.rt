@@ -1,6 +1,8 @@
 // Reads a solution text: 19, then its fields to the end, "8 (value), 9 (body), 11 (open)", with 20 for whatever is not as document 01 says,
 // and then 27 if their numbers do not rise (T-07). Their terms go into one table, one after the other, and what the text says of each
 // metavariable stands beside it.
+#![tactic(auto)]
+
 ghost use Rattle.std.specs.Prelude.{◌≡◌, ◌<◌, ◌≤◌, length};
 ghost use Rattle.meaning.specs.Limits.{metavariable_count};
 ghost use Rattle.meaning.specs.Text.{read_items, read_text};

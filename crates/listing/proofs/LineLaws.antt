@@ -20,7 +20,7 @@ use Rattle.meaning.specs.Program.{allowance, ascii, decimal, hexadecimal, most_p
 use Rattle.meaning.proofs.Lists.{choose_false, choose_true, never}
 use Rattle.meaning.proofs.ByteLaws.{got_is, refused_not}
 use Rattle.meaning.proofs.ProblemReading.{accept_accepted}
-use Rattle.meaning.proofs.OneCall.{reply-named}
+use Rattle.meaning.proofs.OneCall.{reply_named}
 use Rattle.meaning.proofs.WriteLaws.{write_on, written_text}
 use Rattle.masks.specs.Sets.{masks_in}
 use Rattle.places.specs.Places.{Starts, value_of}
@@ -32,7 +32,7 @@ use Rattle.search.specs.Calling.{reply_with, row_value}
 use Rattle.finding.specs.Finding.{Finds}
 use Rattle.finding.specs.declared.Finding.{Finding}
 use Rattle.ascii.specs.Put.{Put}
-use Rattle.ascii.proofs.PutLaws.{hexadecimal_length, put_both, put-till}
+use Rattle.ascii.proofs.PutLaws.{hexadecimal_length, put_both, put_till}
 use Rattle.listing.specs.declared.Listing.{Listing}
 use Rattle.listing.specs.declared.Line.{Line}
 use Rattle.listing.specs.Listing as line
@@ -41,7 +41,7 @@ use Rattle.listing.specs.Listing.{Begins, FoundLine, LastLine, LineOf, NextLine,
 -- What comes after a word and a number
 pub count_put : (word : Bytes) (n : ℕ) {rest before middle after : Bytes} {e r : ℕ} → Put 0 (word ++ decimal n) before middle e
     → Put e rest middle after r → Put 0 (word ++ (decimal n ++ rest)) before after r
-count_put word n {rest} counted put = put-till (put_both counted put) (append_assoc word (decimal n) rest) refl
+count_put word n {rest} counted put = put_till (put_both counted put) (append_assoc word (decimal n) rest) refl
 
 -- All of it lies in the buffer
 pub put_stands : {bytes before after : Bytes} {r : ℕ} → Put 0 bytes before after r → Stands bytes after r
@@ -72,15 +72,15 @@ begins s r h = record {
 
 -- A Found, by the solutions so far
 module _ {now : Listing} {next : Place} {text after : Bytes} {r : Line} where
-  pub more-line : 1000 ≤ now.count → LastLine (ascii "more ") now.count after r → FoundLine now next text after r
+  pub more_line : 1000 ≤ now.count → LastLine (ascii "more ") now.count after r → FoundLine now next text after r
   unfolding most_printed
-  more-line h l = line.more h l.line l.over
+  more_line h l = line.more h l.line l.over
 
-  pub next-line : {before : Bytes} → now.count < 1000 → Put 0 (solution_line (now.count + 1) text) before after r.length
+  pub next_line : {before : Bytes} → now.count < 1000 → Put 0 (solution_line (now.count + 1) text) before after r.length
       → r.then.place ≡ next → r.then.count ≡ now.count + 1 → r.then.over ≡ false → FoundLine now next text after r
   unfolding most_printed
-  next-line h put place count over =
-      line.solution h (put_stands (put-till put (ap (λ (k : ℕ). solution_line k text) (add-one now.count)) refl))
+  next_line h put place count over =
+      line.solution h (put_stands (put_till put (ap (λ (k : ℕ). solution_line k text) (add-one now.count)) refl))
       (record { place = ap value_of place; count = count ∙ add-one now.count; goes_on = over })
 
 -- A text has the length that its call returned, and that is no more than the room for it
@@ -135,7 +135,7 @@ module _ {s : Bytes} (now : Listing) {before text : Bytes} (f : Finding) (finds 
             → NextLine s now after r
         go (not_accepted q z) w = never (cc)
         go (on_accepted p z on) w =
-            let (q, named, solves) = (reply-named p (subst (SearchOn p (value_of now.place) allowance) w on)).0 in
+            let (q, named, solves) = (reply_named p (subst (SearchOn p (value_of now.place) allowance) w on)).0 in
             let accepted : Accepted p = (accept_accepted s p b z).0 in
             let said : take f.length text ≡ row_text p q = written_text p row before accepted q named (write_on p z (finds.text e)) in
             line_is (subst (λ (t : Bytes). Stands (solution_line (suc now.count) t) after r.length) said is)
@@ -150,18 +150,18 @@ module _ {k : ℕ} (then : Listing) where
   ended : then.over ≡ true → k ≤ 1000 → (left then < 1001 - k) × (then.over ≡ false → then.count ≤ 1000)
   ended o few = (omega (arith, choose_true 0 (1001 - then.count) o), λ goes_on. absurd (false≢true (sym goes_on ∙ o)))
 
-  fewer-left : {s x : Bytes} {place : PlaceValue} → LineOf s place k x then → k ≤ 1000
+  fewer_left : {s x : Bytes} {place : PlaceValue} → LineOf s place k x then → k ≤ 1000
       → (left then < 1001 - k) × (then.over ≡ false → then.count ≤ 1000)
   unfolding most_printed
-  fewer-left (line.solution p e call r named few goes) h =
+  fewer_left (line.solution p e call r named few goes) h =
       (omega (arith, choose_false 0 (1001 - then.count) goes.goes_on, goes.count), λ goes_on. omega (arith, goes.count))
-  fewer-left (line.more call many o) h = ended o h
-  fewer-left (line.ends call o) h = ended o h
-  fewer-left (line.pauses call o) h = ended o h
-  fewer-left (line.refuses call o) h = ended o h
+  fewer_left (line.more call many o) h = ended o h
+  fewer_left (line.ends call o) h = ended o h
+  fewer_left (line.pauses call o) h = ended o h
+  fewer_left (line.refuses call o) h = ended o h
 
 pub lines_end : {s : Bytes} {now : Listing} {after : Bytes} {r : Line} → NextLine s now after r → now.over ≡ false → now.count ≤ 1000
     → (left r.then < left now) × (r.then.over ≡ false → r.then.count ≤ 1000)
 lines_end {now = now} {r = r} l goes_on few =
-    let all = fewer-left r.then l.is_next few in
+    let all = fewer_left r.then l.is_next few in
     (omega (arith, all.0, choose_false 0 (1001 - now.count) goes_on), all.1)

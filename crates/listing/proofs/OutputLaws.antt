@@ -18,8 +18,8 @@ use Rattle.meaning.specs.Program as program
 use Rattle.meaning.proofs.Lists.{never}
 use Rattle.meaning.proofs.ByteLaws.{got_is, refused_not}
 use Rattle.meaning.proofs.PlaceLaws.{from_place}
-use Rattle.meaning.proofs.OneCall.{not-refused, reply-named, search_on, when_refused}
-use Rattle.meaning.proofs.ProgramLaws.{Printing, calls_output, found-call, last-call, some_allowance}
+use Rattle.meaning.proofs.OneCall.{not_refused, reply_named, search_on, when_refused}
+use Rattle.meaning.proofs.ProgramLaws.{Printing, calls_output, found_call, last_call, some_allowance}
 use Rattle.places.specs.Places.{value_of}
 use Rattle.listing.specs.declared.Listing.{Listing}
 use Rattle.listing.specs.Listing as line
@@ -38,61 +38,61 @@ module _ (s : Bytes) (p : Problem) (accepted : accept s ≡ got p) where
   stops : {k : ℕ} {v : PlaceValue} {then : Listing} {lines : List Bytes} {line : Bytes} {reply : HostReply} → SearchOn p v allowance reply
       → Lines p k (reply ∷ []) (line ∷ []) → then.over ≡ true → Steps s then lines → Printing p k v (line ∷ lines)
   stops {k} {v} {line = line} c l o rest =
-      subst (λ (ls : List Bytes). Printing p k v (line ∷ ls)) (sym (none_after o rest)) (last-call c l)
+      subst (λ (ls : List Bytes). Printing p k v (line ∷ ls)) (sym (none_after o rest)) (last_call c l)
 
   -- a line, with those that come after it
-  by-line : {v : PlaceValue} {k : ℕ} {line : Bytes} {then : Listing} {lines : List Bytes} → LineOf s v k line then → Steps s then lines
+  by_line : {v : PlaceValue} {k : ℕ} {line : Bytes} {then : Listing} {lines : List Bytes} → LineOf s v k line then → Steps s then lines
       → k ≤ most_printed → (place : Place Row) → Names p v place
       → (then.over ≡ false → then.count ≤ most_printed → (next : Place Row) → Names p (value_of then.place) next
       → Printing p then.count (value_of then.place) lines)
       → Printing p k v (line ∷ lines)
-  by-line {v} {k} {lines = lines} (line.solution q e {row} {next} call r is l {then} goes) rest few place named later =
+  by_line {v} {k} {lines = lines} (line.solution q e {row} {next} call r is l {then} goes) rest few place named later =
       let same : q ≡ p = got_is (sym e ∙ accepted) in
-      let (after, m) = (reply-named p (on call)).1 in
+      let (after, m) = (reply_named p (on call)).1 in
       let all : Printing p then.count (value_of then.place) lines =
       later goes.goes_on (omega (arith, goes.count)) after (subst (λ (u : PlaceValue). Names p u after) (sym goes.place) m) in
       let from : Printing p (suc k) next lines =
       subst (λ (n : ℕ). Printing p n next lines) goes.count (subst (λ (u : PlaceValue). Printing p then.count u lines) goes.place all) in
       subst (λ (y : Problem). Printing p k v (solution_line (suc k) (row_text y r) ∷ lines)) (sym same)
-      (found-call (on call) l r (subst (λ (y : Problem). Names y row (at r)) same is) from)
-  by-line {v} {k} (line.more {row} {next} call many o) rest few place named later =
+      (found_call (on call) l r (subst (λ (y : Problem). Names y row (at r)) same is) from)
+  by_line {v} {k} (line.more {row} {next} call many o) rest few place named later =
       let all : most_printed ≡ k = omega arith in
       stops (on call) (subst (λ (n : ℕ). Lines p n (found row next ∷ []) (count_line "more " n ∷ [])) all program.more) o rest
-  by-line (line.ends call o) rest few place named later = stops (on call) program.ended o rest
-  by-line (line.pauses call o) rest few place named later = stops (on call) program.pauses o rest
-  by-line {v} (line.refuses call o) rest few place named later = absurd (not-refused p place named some_allowance (on call))
+  by_line (line.ends call o) rest few place named later = stops (on call) program.ended o rest
+  by_line (line.pauses call o) rest few place named later = stops (on call) program.pauses o rest
+  by_line {v} (line.refuses call o) rest few place named later = absurd (not_refused p place named some_allowance (on call))
 
   printing : {now : Listing} {lines : List Bytes} → Steps s now lines → now.over ≡ false → now.count ≤ most_printed
       → (place : Place Row) → Names p (value_of now.place) place → Printing p now.count (value_of now.place) lines
   printing (over h) goes_on few place named = absurd (false≢true (sym goes_on ∙ h))
   printing {now} (next h after r l {lines} rest) goes_on few place named =
       subst (λ (line : Bytes). Printing p now.count (value_of now.place) (line ∷ lines)) (sym l.stands.front)
-      (by-line l.is_next rest few place named (λ o n q m. printing rest o n q m))
+      (by_line l.is_next rest few place named (λ o n q m. printing rest o n q m))
 
 -- A problem that is not accepted
 module _ (s : Bytes) (r : ℕ) (e : accept s ≡ refused r) where
-  refused-line : {v : PlaceValue} {k : ℕ} {line : Bytes} {then : Listing} {lines : List Bytes} → LineOf s v k line then
+  refused_line : {v : PlaceValue} {k : ℕ} {line : Bytes} {then : Listing} {lines : List Bytes} → LineOf s v k line then
       → Steps s then lines → Output s (line ∷ lines)
-  refused-line (line.solution q f call x is l goes) rest = absurd (refused_not (sym e ∙ f))
-  refused-line (line.more call many o) rest = never (let z = when_refused r e call in cc)
-  refused-line (line.ends call o) rest = never (let z = when_refused r e call in cc)
-  refused-line (line.pauses call o) rest = never (let z = when_refused r e call in cc)
-  refused-line (line.refuses {r = q} call o) rest =
+  refused_line (line.solution q f call x is l goes) rest = absurd (refused_not (sym e ∙ f))
+  refused_line (line.more call many o) rest = never (let z = when_refused r e call in cc)
+  refused_line (line.ends call o) rest = never (let z = when_refused r e call in cc)
+  refused_line (line.pauses call o) rest = never (let z = when_refused r e call in cc)
+  refused_line (line.refuses {r = q} call o) rest =
       let z : q ≡ r = let w = when_refused r e call in cc in
       subst (λ (ls : List Bytes). Output s (count_line "refused " q ∷ ls)) (sym (none_after o rest))
       (program.refuses q (e ∙ ap refused (sym z)))
 
-  refused-lines : {now : Listing} {lines : List Bytes} → now.over ≡ false → Steps s now lines → Output s lines
-  refused-lines goes_on (over h) = absurd (false≢true (sym goes_on ∙ h))
-  refused-lines goes_on (next h after q l {lines} rest) =
-      subst (λ (line : Bytes). Output s (line ∷ lines)) (sym l.stands.front) (refused-line l.is_next rest)
+  refused_lines : {now : Listing} {lines : List Bytes} → now.over ≡ false → Steps s now lines → Output s lines
+  refused_lines goes_on (over h) = absurd (false≢true (sym goes_on ∙ h))
+  refused_lines goes_on (next h after q l {lines} rest) =
+      subst (λ (line : Bytes). Output s (line ∷ lines)) (sym l.stands.front) (refused_line l.is_next rest)
 
 -- THE OUTPUT
 pub listing_output : (s : Bytes) {now : Listing} {lines : List Bytes} → Begins s now → Steps s now lines → Output s lines
 listing_output s {now} {lines} begins steps = go (accept s) refl
   where
     go : (a : Answer Problem) → accept s ≡ a → Output s lines
-    go (refused r) e = refused-lines s r e begins.goes_on steps
+    go (refused r) e = refused_lines s r e begins.goes_on steps
     go (got p) e =
         let from : From (rows p) (start p) (rows p) = record { before = []; whole = refl; begins = refl } in
         let here = begins.place p e in

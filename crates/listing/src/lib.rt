@@ -1,4 +1,6 @@
 // What document 01's program `readings` prints: its lines, one after the other, each made in a buffer.
+#![tactic(auto)]
+
 ghost use Rattle.std.specs.Prelude.{◌+◌, ◌*◌, ◌≤◌, [], ◌∷◌, ◌++◌, length, take};
 ghost use Rattle.meaning.specs.Program.{decimal, solution_line};
 ghost use Rattle.ascii.specs.Put.{Put};

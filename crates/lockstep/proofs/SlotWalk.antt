@@ -22,7 +22,7 @@ use Rattle.meaning.specs.Field.{tag_of}
 use Rattle.meaning.proofs.Lists.{T_true, true_T, never, by_test, choose_true, choose_false}
 use Rattle.meaning.proofs.Alike.{variable_eq, variable_refl, own_eq, own_refl}
 use Rattle.meaning.proofs.ShiftLaws.{relabel_size}
-use Rattle.meaning.proofs.ViewLaws.{ToldAlike, label-injective, inner_plus}
+use Rattle.meaning.proofs.ViewLaws.{ToldAlike, label_injective, inner_plus}
 use Rattle.tokens.specs.Key.{level_from}
 use Rattle.tokens.proofs.Codes.{Coded, code, code_injective, seen_label, view_from}
 use Rattle.tokens.proofs.ProblemTokens.{tag_at}
@@ -81,10 +81,10 @@ slot_code (hole i) = omega arith
 
 -- "Kinds, symbol and binder numbers and child counts must agree": codes are the same just when the labels agree
 module _ (root : List ℕ) (k : ℕ) (o : Own Variable (Unit {0})) (closed : ClosedLabel (k + length root) (own o)) where
-  code-agrees : (l : Nameless) → ClosedLabel (k + length root) l
+  code_agrees : (l : Nameless) → ClosedLabel (k + length root) l
       → eqb (code (seen_label root k (own o))) (code (seen_label root k l)) ≡ agrees o l
-  code-agrees (slot z) h = ne_eqb (code (seen_label root k (own o))) (code (slot z)) (λ e. omega (arith, own_code root k o, slot_code z))
-  code-agrees (own q) h =
+  code_agrees (slot z) h = ne_eqb (code (seen_label root k (own o))) (code (slot z)) (λ e. omega (arith, own_code root k o, slot_code z))
+  code_agrees (own q) h =
       by_test (same_own same_variable o q)
       (λ t. eq-eqb _ _ (ap (λ (x : Own Variable (Unit {0})). code (seen_label root k (own x)))
       (own_eq same_variable variable_eq o q (true_T t))) ∙ sym t)
@@ -94,7 +94,7 @@ module _ (root : List ℕ) (k : ℕ) (o : Own Variable (Unit {0})) (closed : Clo
       same : code (seen_label root k (own o)) ≡ code (seen_label root k (own q)) → o ≡ q
       same e =
           let labels : own o ≡ own q =
-          label-injective (length root) (level_from root) (level_from root) (told_levels root) k (own o) (own q) closed h
+          label_injective (length root) (level_from root) (level_from root) (told_levels root) k (own o) (own q) closed h
           (code_injective (seen_label root k (own o)) (seen_label root k (own q)) (own_coded root k o) (own_coded root k q) e) in
           cc
 
@@ -107,16 +107,16 @@ abbrev pub Looks : (ℕ → Option Term) → ℕ → Terms → Type 0
 Looks look i u = (m : ℕ) → m < size u → look (i + m) ≡ node_at m u
 
 module _ (look : ℕ → Option Term) (i : ℕ) (l : Nameless) (c s : Terms) (h : Looks look i (cons l c s)) where
-  look-here : look i ≡ some (l, c)
-  look-here = let e : i ≡ i + 0 = omega arith in ap look e ∙ h 0 (omega arith)
+  look_here : look i ≡ some (l, c)
+  look_here = let e : i ≡ i + 0 = omega arith in ap look e ∙ h 0 (omega arith)
 
-  pub look-below : Looks look (suc i) c
-  look-below m g =
+  pub look_below : Looks look (suc i) c
+  look_below m g =
       let e : suc i + m ≡ i + suc m = omega arith in
       ap look e ∙ h (suc m) (omega arith) ∙ choose_true _ _ (lt-ltb m (size c) g)
 
-  look-later : Looks look (suc i + size c) s
-  look-later m g =
+  look_later : Looks look (suc i + size c) s
+  look_later m g =
       let e : suc i + size c + m ≡ i + suc (size c + m) = omega arith in
       let d : size c + m - size c ≡ m = omega arith in
       ap look e ∙ h (suc (size c + m)) (omega arith) ∙ choose_false _ _ (le-ltb (size c + m) (size c) (omega arith))
@@ -146,22 +146,22 @@ guard_both R false true a b e h = absurd (false≢true e)
 guard_both R false false a b e h = tt
 
 module _ (p e : ℕ → Option Term) (d : ℕ → ℕ) where
-  append-recorded : (ns ns' : List ℕ) (xs xs' : List Face) → RecordedBy p e d ns xs → RecordedBy p e d ns' xs'
+  append_recorded : (ns ns' : List ℕ) (xs xs' : List Face) → RecordedBy p e d ns xs → RecordedBy p e d ns' xs'
       → RecordedBy p e d (ns ++ ns') (xs ++ xs')
-  append-recorded [] ns' [] xs' r r' = r'
-  append-recorded [] ns' (x ∷ xs) xs' r r' = absurd r
-  append-recorded (n ∷ ns) ns' [] xs' r r' = absurd r
-  append-recorded (n ∷ ns) ns' (x ∷ xs) xs' r r' = (r.0, append-recorded ns ns' xs xs' r.1 r')
+  append_recorded [] ns' [] xs' r r' = r'
+  append_recorded [] ns' (x ∷ xs) xs' r r' = absurd r
+  append_recorded (n ∷ ns) ns' [] xs' r r' = absurd r
+  append_recorded (n ∷ ns) ns' (x ∷ xs) xs' r r' = (r.0, append_recorded ns ns' xs xs' r.1 r')
 
-  join-both : (a b : Option (List ℕ)) (x y : Option (List Face)) → Both (RecordedBy p e d) a x → Both (RecordedBy p e d) b y
+  join_both : (a b : Option (List ℕ)) (x y : Option (List Face)) → Both (RecordedBy p e d) a x → Both (RecordedBy p e d) b y
       → Both (RecordedBy p e d) (join a b) (join x y)
-  join-both none b none y r r' = tt
-  join-both none b (some x) y r r' = absurd r
-  join-both (some a) b none y r r' = absurd r
-  join-both (some a) none (some x) none r r' = tt
-  join-both (some a) none (some x) (some y) r r' = absurd r'
-  join-both (some a) (some b) (some x) none r r' = absurd r'
-  join-both (some a) (some b) (some x) (some y) r r' = append-recorded a b x y r r'
+  join_both none b none y r r' = tt
+  join_both none b (some x) y r r' = absurd r
+  join_both (some a) b none y r r' = absurd r
+  join_both (some a) none (some x) none r r' = tt
+  join_both (some a) none (some x) (some y) r r' = absurd r'
+  join_both (some a) (some b) (some x) none r r' = absurd r'
+  join_both (some a) (some b) (some x) (some y) r r' = append_recorded a b x y r r'
 
   module _ (root : List ℕ) where
     face_both : (n i j : ℕ) (z : Slot) (c : Terms) (t : Term) → i < 65536 → d i ≡ n → p i ≡ some (slot z, c) → e j ≡ some t
@@ -180,7 +180,7 @@ module _ (p e : ℕ → Option Term) (d : ℕ → ℕ) where
     meet_both n k i j (own o) l' c c' h h' few dp lp le a x ih =
         subst (λ (w : Option (List ℕ)). Both (RecordedBy p e d) w (guard (agrees o l') x)) (sym (choose_false _ _ (own_goes root k o)))
         (guard_both (RecordedBy p e d) (eqb (code (seen_label root k (own o))) (code (seen_label root k l'))) (agrees o l') a x
-        (code-agrees root k o h l' h') (λ t. ih (agree_label o l' t)))
+        (code_agrees root k o h l' h') (λ t. ih (agree_label o l' t)))
     meet_both n k i j (slot z) l' c c' h h' few dp lp le a x ih = face_both n i j z c (l', c') few dp lp le
 
     -- THE THEOREM
@@ -192,18 +192,18 @@ module _ (p e : ℕ → Option Term) (d : ℕ → ℕ) where
     seen_both n k i j nil (cons l c s) h h' lp le dp few = tt
     seen_both n k i j (cons l c s) nil h h' lp le dp few = tt
     seen_both n k i j (cons l c s) (cons l' c' s') h h' lp le dp few =
-        join-both (seen_meet seen_slots i j (seen_label root k l) (seen_label root k l') below)
+        join_both (seen_meet seen_slots i j (seen_label root k l) (seen_label root k l') below)
         (seen_walk seen_slots (suc i + size (view_from root (inner l k) c)) (suc j + size (view_from root (inner l' k) c'))
         (view_from root k s) (view_from root k s'))
         (meet n j l c (l', c') (walk (inner l n) (suc j) c c')) (walk n (suc j + size c') s s')
-        (meet_both n k i j l l' c c' h.0 h'.0 (omega arith) dp.0 (look-here p i l c s lp)
-        (look-here e j l' c' s' le) below (walk (inner l n) (suc j) c c')
+        (meet_both n k i j l l' c c' h.0 h'.0 (omega arith) dp.0 (look_here p i l c s lp)
+        (look_here e j l' c' s' le) below (walk (inner l n) (suc j) c c')
         (λ z. children z (seen_both (inner l n) (inner l k) (suc i) (suc j) c c'
         (subst (λ (m : ℕ). Closed m c) (inner_plus (length root) k l) h.1)
         (subst (λ (m : ℕ). Closed m c') (ap (λ (m : Nameless). inner m (k + length root)) (sym z) ∙ inner_plus (length root) k l) h'.1)
-        (look-below p i l c s lp) (look-below e j l' c' s' le) dp.1 (omega arith))))
+        (look_below p i l c s lp) (look_below e j l' c' s' le) dp.1 (omega arith))))
         (later (seen_both n k (suc i + size c) (suc j + size c') s s' h.2 h'.2
-        (look-later p i l c s lp) (look-later e j l' c' s' le) dp.2 (omega arith)))
+        (look_later p i l c s lp) (look_later e j l' c' s' le) dp.2 (omega arith)))
       where
         below : Option (List ℕ)
         below = seen_walk seen_slots (suc i) (suc j) (view_from root (inner l k) c) (view_from root (inner l' k) c')

@@ -19,8 +19,8 @@ use Rattle.lockstep.specs.declared.Shapes.TheVariants as shapes
 use Rattle.lockstep.specs.declared.Span.{Span}
 use Rattle.lockstep.specs.Walk.{is_slot, at_slots, face_code, lockstep}
 use Rattle.lockstep.specs.Span.{span_walk, Lent, answer_of, Walked}
-use Rattle.lockstep.proofs.WalkLaws.{join_assoc, join_nothing, lockstep-end, lockstep-out, lockstep_differs, lockstep_same}
-use Rattle.lockstep.proofs.WalkLaws.{lockstep_face, lockstep-skip}
+use Rattle.lockstep.proofs.WalkLaws.{join_assoc, join_nothing, lockstep_end, lockstep_out, lockstep_differs, lockstep_same}
+use Rattle.lockstep.proofs.WalkLaws.{lockstep_face, lockstep_skip}
 
 -- What the code computes of one token
 pub slot_tag_lem : (x g : ℕ) → g ≡ tag_in x → ltb 4 g ≡ is_slot x
@@ -41,7 +41,7 @@ module _ (ps es : List ℕ) (s : Span) (inside : s.to ≤ length ps) where
     left_end h =
         let g : length (take s.to ps) ≤ i = omega (arith, long) in
         ap (λ (l : List ℕ). lockstep at_slots s.d s.e 0 i j l (drop j es)) (drop_of_length-le (take s.to ps) g)
-        ∙ lockstep-end at_slots s.d s.e i j (drop j es)
+        ∙ lockstep_end at_slots s.d s.e i j (drop j es)
 
     module _ (hi : i < s.to) where
       front : drop i (take s.to ps) ≡ at ps i ∷ drop (suc i) (take s.to ps)
@@ -53,7 +53,7 @@ module _ (ps es : List ℕ) (s : Span) (inside : s.to ≤ length ps) where
       unfolding left
       left_out h =
           ap₂ (lockstep at_slots s.d s.e 0 i j) front (drop_of_length-le es h)
-          ∙ lockstep-out at_slots s.d s.e i j (at ps i) (drop (suc i) (take s.to ps))
+          ∙ lockstep_out at_slots s.d s.e i j (at ps i) (drop (suc i) (take s.to ps))
 
       module _ (hj : j < length es) where
         opened : left ps es s i j ≡ lockstep at_slots s.d s.e 0 i j (at ps i ∷ drop (suc i) (take s.to ps))
@@ -84,7 +84,7 @@ module _ (ps es : List ℕ) (s : Span) (inside : s.to ≤ length ps) where
             opened
             ∙ lockstep_face at_slots s.d s.e i j (at ps i) (at es j) (drop (suc i) qs) (drop (suc j) es) f
             ∙ ap (join (some (face_code i j ∷ [])))
-            (lockstep-skip at_slots s.d s.e (m - 1) (suc i) (j + k) (drop (suc i) qs) (drop k (at es j ∷ drop (suc j) es))
+            (lockstep_skip at_slots s.d s.e (m - 1) (suc i) (j + k) (drop (suc i) qs) (drop k (at es j ∷ drop (suc j) es))
             ∙ ap₂ (λ (u v : List ℕ). lockstep at_slots s.d s.e 0 (suc i + (m - 1)) (j + k) u v)
             (drop-drop (m - 1) (suc i) qs)
             (ap (drop k) (sym (drop-cons es j 0 hj)) ∙ drop-drop k j es)

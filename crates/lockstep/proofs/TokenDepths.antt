@@ -16,7 +16,7 @@ use Rattle.tokens.specs.Token.{depth_in, payload_of, tokens}
 use Rattle.tokens.specs.Key.{at}
 use Rattle.tokens.proofs.TokenParts.{depth_token, tag_room, tokens_length}
 use Rattle.tokens.proofs.Levels.{enter_deep}
-use Rattle.tokens.proofs.ProblemTokens.{token_at, Room, room-depth, room-below, room-later}
+use Rattle.tokens.proofs.ProblemTokens.{token_at, Room, room_depth, room_below, room_later}
 use Rattle.lockstep.proofs.SlotWalk.{Deep}
 
 pub tokens_deep : (table : List ℕ) (i levels : ℕ) (ctx : Context) (sc : List ℕ) (u : Forest Named) (rest : List ℕ)
@@ -37,11 +37,11 @@ tokens_deep table i (suc levels) ctx sc (cons l c s) rest split r h =
     ap (at table) (sym (add-zero i)) ∙ sym (get_or-drop i table 0 0) ∙ ap (λ (ts : List ℕ). at ts 0) split in
     let inside : length (enter l sc) ≡ inner (nameless_label sc l) (length sc) =
     enter_deep (length sc) 0 sc l (sym (add-zero (length sc))) ∙ add-zero (inner (nameless_label sc l) (length sc)) in (
-      ap depth_in here ∙ depth_token (tag_of l) (length sc) (suc (size c)) (payload_of sc l) (tag_room l) (room-depth levels sc l c s h),
+      ap depth_in here ∙ depth_token (tag_of l) (length sc) (suc (size c)) (payload_of sc l) (tag_room l) (room_depth levels sc l c s h),
       subst (λ (k : ℕ). Deep (λ m. depth_in (at table m)) (suc i) k (nameless (enter l sc) c)) inside
           (tokens_deep table (suc i) levels (context_below l ctx) (enter l sc) c (tokens sc s ++ rest) below r.1
-          (room-below levels sc l c s h)),
+          (room_below levels sc l c s h)),
       subst (λ (m : ℕ). Deep (λ n. depth_in (at table n)) (suc i + m) (length sc) (nameless sc s))
           (sym (relabel_size enter nameless_label (enter l sc) c))
-          (tokens_deep table (suc i + size c) (suc levels) ctx sc s rest later r.2 (room-later levels sc l c s h)),
+          (tokens_deep table (suc i + size c) (suc levels) ctx sc s rest later r.2 (room_later levels sc l c s h)),
     )

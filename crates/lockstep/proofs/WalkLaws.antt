@@ -28,13 +28,13 @@ join_end none = refl
 join_end (some x) = ap some (append-nil x)
 
 module _ (stop : Stop) (d e : ℕ) where
-  pub lockstep-end : (i j : ℕ) (es : List ℕ) → lockstep stop d e 0 i j [] es ≡ some []
+  pub lockstep_end : (i j : ℕ) (es : List ℕ) → lockstep stop d e 0 i j [] es ≡ some []
   unfolding lockstep
-  lockstep-end i j es = refl
+  lockstep_end i j es = refl
 
-  pub lockstep-out : (i j x : ℕ) (ps : List ℕ) → lockstep stop d e 0 i j (x ∷ ps) [] ≡ none
+  pub lockstep_out : (i j x : ℕ) (ps : List ℕ) → lockstep stop d e 0 i j (x ∷ ps) [] ≡ none
   unfolding lockstep
-  lockstep-out i j x ps = refl
+  lockstep_out i j x ps = refl
 
   -- One token of each table
   module _ (i j x y : ℕ) (ps es : List ℕ) where
@@ -52,11 +52,11 @@ module _ (stop : Stop) (d e : ℕ) where
     unfolding lockstep
     lockstep_face f = rw f refl
 
-  pub lockstep-skip : (k i j : ℕ) (ps es : List ℕ) → lockstep stop d e k i j ps es ≡ lockstep stop d e 0 (i + k) j (drop k ps) es
+  pub lockstep_skip : (k i j : ℕ) (ps es : List ℕ) → lockstep stop d e k i j ps es ≡ lockstep stop d e 0 (i + k) j (drop k ps) es
   unfolding lockstep
-  lockstep-skip zero i j [] es = refl
-  lockstep-skip (suc k) i j [] es = refl
-  lockstep-skip zero i j (x ∷ ps) es = let q : i ≡ i + 0 = omega arith in ap (λ (m : ℕ). lockstep stop d e 0 m j (x ∷ ps) es) q
-  lockstep-skip (suc k) i j (x ∷ ps) es =
+  lockstep_skip zero i j [] es = refl
+  lockstep_skip (suc k) i j [] es = refl
+  lockstep_skip zero i j (x ∷ ps) es = let q : i ≡ i + 0 = omega arith in ap (λ (m : ℕ). lockstep stop d e 0 m j (x ∷ ps) es) q
+  lockstep_skip (suc k) i j (x ∷ ps) es =
       let q : suc i + k ≡ i + suc k = omega arith in
-      lockstep-skip k (suc i) j ps es ∙ ap (λ (m : ℕ). lockstep stop d e 0 m j (drop k ps) es) q
+      lockstep_skip k (suc i) j ps es ∙ ap (λ (m : ℕ). lockstep stop d e 0 m j (drop k ps) es) q

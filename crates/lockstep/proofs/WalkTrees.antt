@@ -27,10 +27,10 @@ use Rattle.tokens.proofs.TokenParts.{tokens_length}
 use Rattle.tokens.proofs.Levels.{enter_deep}
 use Rattle.meaning.proofs.CompareLaws.{arity}
 use Rattle.tokens.proofs.Codes.{Viewed, code, code_injective, seen_label, view_from, label_code, fits_label}
-use Rattle.tokens.proofs.ProblemTokens.{token_at, size-at, Room, room-depth, room-size, room-below, room-later}
+use Rattle.tokens.proofs.ProblemTokens.{token_at, size_at_lem, Room, room_depth, room_size, room_below, room_later}
 use Rattle.lockstep.specs.Walk.{Stop, face_code, lockstep}
-use Rattle.lockstep.proofs.WalkLaws.{join_assoc, join_nothing, join_end, lockstep-end, lockstep_differs, lockstep_same}
-use Rattle.lockstep.proofs.WalkLaws.{lockstep_face, lockstep-skip}
+use Rattle.lockstep.proofs.WalkLaws.{join_assoc, join_nothing, join_end, lockstep_end, lockstep_differs, lockstep_same}
+use Rattle.lockstep.proofs.WalkLaws.{lockstep_face, lockstep_skip}
 
 abbrev pub SeenStop : Type 0
 SeenStop = ℕ → Viewed → Bool
@@ -86,8 +86,8 @@ module _ (stop : Stop) (seen : SeenStop) (root root' : List ℕ) (tells : Tells 
         lockstep_face stop (length root) (length root') i j x y below below' f
         ∙ ap (join (some (face_code i j ∷ [])))
         (ap₂ (λ (a b : ℕ). lockstep stop (length root) (length root') (a - 1) (suc i) (j + b) below (drop b (y ∷ below')))
-        (size-at sc l c room small) (size-at sc' l' c' room' small')
-        ∙ lockstep-skip stop (length root) (length root') (suc (size c) - 1) (suc i) (j + suc (size c')) below
+        (size_at_lem sc l c room small) (size_at_lem sc' l' c' room' small')
+        ∙ lockstep_skip stop (length root) (length root') (suc (size c) - 1) (suc i) (j + suc (size c')) below
         (drop (suc (size c')) (y ∷ below'))
         ∙ ap₂ (λ (a b : ℕ). flat (suc i + a) b (drop a below) (drop (suc (size c')) (y ∷ below'))) n m
         ∙ ap₂ (flat (suc i + size c) (suc j + size c'))
@@ -177,43 +177,43 @@ module _ (stop : Stop) (seen : SeenStop) (root root' : List ℕ) (tells : Tells 
         (flat (i + suc (size c + size s)) (j + suc (size c' + size s')) ps es))
 
   -- THE THEOREM, with the tokens of what follows the two forests
-  pub flat-from : (i j k k' levels levels' : ℕ) (ctx ctx' : Context) (sc sc' : List ℕ) (u v : Forest Named) (ps es : List ℕ)
+  pub flat_from : (i j k k' levels levels' : ℕ) (ctx ctx' : Context) (sc sc' : List ℕ) (u v : Forest Named) (ps es : List ℕ)
       → length sc ≡ k + length root → length sc' ≡ k' + length root' → Readable levels ctx u → Readable levels' ctx' v
       → Room levels sc u → Room levels' sc' v → trees u ≡ trees v
       → lockstep stop (length root) (length root') 0 i j (tokens sc u ++ ps) (tokens sc' v ++ es)
       ≡ join (seen_walk seen i j (view_from root k (nameless sc u)) (view_from root' k' (nameless sc' v)))
       (lockstep stop (length root) (length root') 0 (i + size u) (j + size v) ps es)
   unfolding tokens here x y below below' o o'
-  flat-from i j k k' levels levels' ctx ctx' sc sc' nil nil ps es deep deep' r r' m m' t =
+  flat_from i j k k' levels levels' ctx ctx' sc sc' nil nil ps es deep deep' r r' m m' t =
       let a : i ≡ i + 0 = omega arith in
       let b : j ≡ j + 0 = omega arith in
       ap₂ (λ (h n : ℕ). flat h n ps es) a b ∙ sym (join_nothing (flat (i + 0) (j + 0) ps es))
-  flat-from i j k k' levels levels' ctx ctx' sc sc' nil (cons l' c' s') ps es deep deep' r r' m m' t = absurd (omega arith)
-  flat-from i j k k' levels levels' ctx ctx' sc sc' (cons l c s) nil ps es deep deep' r r' m m' t = absurd (omega arith)
-  flat-from i j k k' zero levels' ctx ctx' sc sc' (cons l c s) (cons l' c' s') ps es deep deep' r r' m m' t = absurd r
-  flat-from i j k k' (suc levels) zero ctx ctx' sc sc' (cons l c s) (cons l' c' s') ps es deep deep' r r' m m' t = absurd r'
-  flat-from i j k k' (suc levels) (suc levels') ctx ctx' sc sc' (cons l c s) (cons l' c' s') ps es deep deep' r r' m m' t =
+  flat_from i j k k' levels levels' ctx ctx' sc sc' nil (cons l' c' s') ps es deep deep' r r' m m' t = absurd (omega arith)
+  flat_from i j k k' levels levels' ctx ctx' sc sc' (cons l c s) nil ps es deep deep' r r' m m' t = absurd (omega arith)
+  flat_from i j k k' zero levels' ctx ctx' sc sc' (cons l c s) (cons l' c' s') ps es deep deep' r r' m m' t = absurd r
+  flat_from i j k k' (suc levels) zero ctx ctx' sc sc' (cons l c s) (cons l' c' s') ps es deep deep' r r' m m' t = absurd r'
+  flat_from i j k k' (suc levels) (suc levels') ctx ctx' sc sc' (cons l c s) (cons l' c' s') ps es deep deep' r r' m m' t =
       then_later i j k k' sc sc' l l' c s c' s' ps es
       (node i j k k' sc sc' l l' c c' (tokens sc s ++ ps) (tokens sc' s' ++ es)
-      (room-depth levels sc l c s m) (room-size levels sc l c s m) (room-depth levels' sc' l' c' s' m') (room-size levels' sc' l' c' s' m')
+      (room_depth levels sc l c s m) (room_size levels sc l c s m) (room_depth levels' sc' l' c' s' m') (room_size levels' sc' l' c' s' m')
       deep deep' ctx ctx' r.0 r'.0
       (walked (suc i) (suc j) (inner (nameless_label sc l) k) (inner (nameless_label sc' l') k') (enter l sc) (enter l' sc') c c')
-      (λ q. flat-from (suc i) (suc j) (inner (nameless_label sc l) k) (inner (nameless_label sc' l') k') levels levels' (context_below l ctx)
+      (λ q. flat_from (suc i) (suc j) (inner (nameless_label sc l) k) (inner (nameless_label sc' l') k') levels levels' (context_below l ctx)
       (context_below l' ctx')
       (enter l sc) (enter l' sc') c c' (tokens sc s ++ ps) (tokens sc' s' ++ es) (enter_deep k (length root) sc l deep)
       (enter_deep k' (length root') sc' l' deep')
-      r.1 r'.1 (room-below levels sc l c s m) (room-below levels' sc' l' c' s' m') q))
-      (flat-from (suc i + size c) (suc j + size c') k k' (suc levels) (suc levels') ctx ctx' sc sc' s s' ps es deep deep'
-      r.2 r'.2 (room-later levels sc l c s m) (room-later levels' sc' l' c' s' m') (omega arith))
+      r.1 r'.1 (room_below levels sc l c s m) (room_below levels' sc' l' c' s' m') q))
+      (flat_from (suc i + size c) (suc j + size c') k k' (suc levels) (suc levels') ctx ctx' sc sc' s s' ps es deep deep'
+      r.2 r'.2 (room_later levels sc l c s m) (room_later levels' sc' l' c' s' m') (omega arith))
 
   -- The left forest alone, each forest seen from its own scope
-  pub flat-trees : (i j levels levels' : ℕ) (ctx ctx' : Context) (u v : Forest Named) (es : List ℕ) → Readable levels ctx u
+  pub flat_trees : (i j levels levels' : ℕ) (ctx ctx' : Context) (u v : Forest Named) (es : List ℕ) → Readable levels ctx u
       → Readable levels' ctx' v
       → Room levels root u → Room levels' root' v → trees u ≡ trees v
       → lockstep stop (length root) (length root') 0 i j (tokens root u) (tokens root' v ++ es)
       ≡ seen_walk seen i j (view_from root 0 (nameless root u)) (view_from root' 0 (nameless root' v))
-  flat-trees i j levels levels' ctx ctx' u v es r r' m m' t =
+  flat_trees i j levels levels' ctx ctx' u v es r r' m m' t =
       ap (λ (l : List ℕ). flat i j l (tokens root' v ++ es)) (sym (append-nil (tokens root u)))
-      ∙ flat-from i j 0 0 levels levels' ctx ctx' root root' u v [] es (omega arith) (omega arith) r r' m m' t
-      ∙ ap (join (walked i j 0 0 root root' u v)) (lockstep-end stop (length root) (length root') (i + size u) (j + size v) es)
+      ∙ flat_from i j 0 0 levels levels' ctx ctx' root root' u v [] es (omega arith) (omega arith) r r' m m' t
+      ∙ ap (join (walked i j 0 0 root root' u v)) (lockstep_end stop (length root) (length root') (i + size u) (j + size v) es)
       ∙ join_end (walked i j 0 0 root root' u v)

@@ -1,4 +1,6 @@
 // Two token tables walked together, each from a node on.
+#![tactic(auto)]
+
 ghost use Rattle.std.specs.Prelude.{◌≡◌};
 ghost use Rattle.lockstep.specs.Walk.{is_slot};
 ghost use Rattle.lockstep.specs.Span.{Lent, Walked, span_walk};

@@ -1,6 +1,6 @@
 -- The problem (P(X), e), whatever e is.
 --   proper            it is one of those that the theorems on solutions speak of, also where no input can hold it
---   rows-count        it has as many rows as e has choices
+--   rows_count        it has as many rows as e has choices
 --   giving            a body for P and an entry for X
 --   solution_valued   these are a solution where the body has a hole, X a value, and the body filled with it is e
 --   solution_open     and where the body has no hole and is e, and X is open
@@ -98,30 +98,30 @@ module _ (e : NamedTerm) where
       keep_first (is_function p) metavariable_count some_metavariable refl
       (λ m h. ap (λ (b : Bool). b || false) (eqb_other m 0 (λ q. omega arith)))
 
-  places-are : places_of p 0 ≡ 1
+  places_are : places_of p 0 ≡ 1
   unfolding places_of
-  places-are = refl
+  places_are = refl
 
-  pub face-is : face_of p 0 ≡ whole
+  pub face_is : face_of p 0 ≡ whole
   unfolding faces both_ways metavariable_count
-  face-is = refl
+  face_is = refl
 
-  rows-over : rows p ≡ product (map (λ f. choices (places_of p f) (face_of p f)) (functions p))
+  rows_over_lem : rows p ≡ product (map (λ f. choices (places_of p f) (face_of p f)) (functions p))
   unfolding rows faces both_ways metavariable_count
-  rows-over = refl
+  rows_over_lem = refl
 
-  pub rows-count : length (rows p) ≡ length (choices 1 whole)
-  rows-count =
-      ap length rows-over
+  pub rows_count : length (rows p) ≡ length (choices 1 whole)
+  rows_count =
+      ap length rows_over_lem
       ∙ ap (λ (fs : List ℕ). length (product (map (λ f. choices (places_of p f) (face_of p f)) fs))) functions_are
-      ∙ ap₂ (λ (n : ℕ) (t : Term). length (product (choices n t ∷ []))) places-are face-is
+      ∙ ap₂ (λ (n : ℕ) (t : Term). length (product (choices n t ∷ []))) places_are face_is
       ∙ product_one (choices 1 whole)
 
-  is-P : (m : ℕ) → m ∈ applied (patterns p) → m ≡ 0
-  is-P m q = Memᴰ.eq_of_singleton q
+  is_P : (m : ℕ) → m ∈ applied (patterns p) → m ≡ 0
+  is_P m q = Memᴰ.eq_of_singleton q
 
-  is-X : (m : ℕ) → m ∈ plain (patterns p) → m ≡ 1
-  is-X m q = Memᴰ.eq_of_singleton q
+  is_X : (m : ℕ) → m ∈ plain (patterns p) → m ≡ 1
+  is_X m q = Memᴰ.eq_of_singleton q
 
   pub proper : IsExpression (one e) → Proper p
   unfolding metavariable_count
@@ -129,8 +129,8 @@ module _ (e : NamedTerm) where
       record {
         expression = nameless_expression [] (one e) x;
         pattern = ((refl, (refl, tt, tt)), ((refl, tt, tt)), tt);
-        small_applied = λ m q. let h = is-P m q in omega arith;
-        small_plain = λ m q. let h = is-X m q in omega arith;
+        small_applied = λ m q. let h = is_P m q in omega arith;
+        small_plain = λ m q. let h = is_X m q in omega arith;
       }
 
   -- Its solutions: a set of nodes of e as holes, all of the first place; w is e with its names resolved
@@ -152,7 +152,7 @@ module _ (e : NamedTerm) where
         → (a : Term) × (giving b v f ≡ body a) × IsBody (places_of p f) (one a) × ClosedTerm a
     unfolding places_of
     bodies v f q =
-        subst (λ (g : ℕ). (a : Term) × (giving b v g ≡ body a) × IsBody (places_of p g) (one a) × ClosedTerm a) (sym (is-P f q))
+        subst (λ (g : ℕ). (a : Term) × (giving b v g ≡ body a) × IsBody (places_of p g) (one a) × ClosedTerm a) (sym (is_P f q))
         (b, refl, shape, closed)
 
     others : (v : Entry Term) (m : ℕ) → (m ∈ applied (patterns p) → ⊥) → (m ∈ plain (patterns p) → ⊥) → giving b v m ≡ absent
@@ -167,10 +167,10 @@ module _ (e : NamedTerm) where
           one_way = one_way_lem;
           meets = fills ∙ ap one (sym resolved);
           bodies = bodies (value t);
-          values = λ m q. inr (t, ap (giving b (value t)) (is-X m q), expression, value_closed);
+          values = λ m q. inr (t, ap (giving b (value t)) (is_X m q), expression, value_closed);
           others = others (value t);
           open_idle = never_open;
-          idle_open = λ m q idle. absurd (true≢false (sym has ∙ idle (argument_of 0 0) (stands m (is-X m q))));
+          idle_open = λ m q idle. absurd (true≢false (sym has ∙ idle (argument_of 0 0) (stands m (is_X m q))));
         }
       where
         never_open : (m : ℕ) → giving b (value t) m ≡ left_open → Idle p (giving b (value t)) m
@@ -188,8 +188,8 @@ module _ (e : NamedTerm) where
           one_way = one_way_lem;
           meets = fills ∙ ap one (sym resolved);
           bodies = bodies left_open;
-          values = λ m q. inl (ap (giving b left_open) (is-X m q));
+          values = λ m q. inl (ap (giving b left_open) (is_X m q));
           others = others left_open;
           open_idle = λ m q y s. ap (λ (z : Standing). needs (giving b left_open) z.1) (Memᴰ.eq_of_singleton s) ∙ lacks;
-          idle_open = λ m q idle. ap (giving b left_open) (is-X m q);
+          idle_open = λ m q idle. ap (giving b left_open) (is_X m q);
         }

@@ -13,7 +13,7 @@ use Rattle.meaning.specs.Read.{Answer, got, refused}
 use Rattle.meaning.specs.Longest.{LongestCall, buffer_after, length_of, longest_bytes, longest_into, over}
 use Rattle.meaning.proofs.Lists.{never}
 use Rattle.longest.specs.Writing.{Nodes}
-use Rattle.longest.proofs.IntoLaws.{into-by, into-room, not_outside}
+use Rattle.longest.proofs.IntoLaws.{into_by, into_room, not_outside}
 use Rattle.longest.proofs.LongestAccepted.{longest_accepted}
 
 pub record Delivered (n k : ℕ) (out : Bytes) : Type 0 where
@@ -22,7 +22,7 @@ pub record Delivered (n k : ℕ) (out : Bytes) : Type 0 where
 
 pub delivered : {n k : ℕ} {buffer after : Bytes} → LongestCall n buffer (got k) after → Delivered n k after
 delivered {n} {k} {buffer} {after} c =
-    into-by n buffer (λ a. got k ≡ length_of a → after ≡ buffer_after buffer a → Delivered n k after) (λ e f. never (cc)) (λ e f. never (cc))
+    into_by n buffer (λ a. got k ≡ length_of a → after ≡ buffer_after buffer a → Delivered n k after) (λ e f. never (cc)) (λ e f. never (cc))
     written c.answers c.leaves
   where
     written : Nodes n → got k ≡ got (length (longest_bytes n)) → after ≡ over (longest_bytes n) buffer → Delivered n k after
@@ -34,7 +34,7 @@ pub roomy_writes : {n : ℕ} {buffer after : Bytes} {a : Answer ℕ} → Nodes n
     → (k : ℕ) × (a ≡ got k)
 roomy_writes {n} {buffer} h room c =
     let fits = (longest_accepted n h).within.input in
-    (length (longest_bytes n), c.answers ∙ ap length_of (into-room n buffer (not_outside n h) (omega arith)))
+    (length (longest_bytes n), c.answers ∙ ap length_of (into_room n buffer (not_outside n h) (omega arith)))
 
 stays : (buffer : Bytes) (r : ℕ) (a : Answer Bytes) → refused r ≡ length_of a → buffer_after buffer a ≡ buffer
 stays buffer r (got s) e = never (cc)

@@ -3,7 +3,7 @@
 --   heavy              the expression with its names resolved
 --   root_filling        P is the hole, X all of the expression
 --   below_filling       P has a hole for each symbol of a set, and X is the symbol, or open where the set is empty
---   fillings           all of these: 2^m + 1 (`fillings_count`), none twice (`fillings_distinct`), each a solution (`fillings-solve`)
+--   fillings           all of these: 2^m + 1 (`fillings_count`), none twice (`fillings_distinct`), each a solution (`fillings_solve`)
 use mathlib.Core.Path.{◌≡◌, refl, ap, ap₂, ◌∙◌, subst, sym}
 use mathlib.Core.Logic.{⊎_elim}
 use Prim.Native.Nat.{ℕ, zero, suc, ◌+◌, ◌-◌, ◌^◌, ◌<◌}
@@ -151,16 +151,16 @@ module _ (m : ℕ) where
   abbrev p : Problem
   p = longest_problem (suc m)
 
-  root-placed : (i : ℕ) → some i ∈ root_alone m → i < 1
-  root-placed i q = all_mem (Placed 1) (some i) (root_alone m) (omega arith, blank_placed m) q
+  root_placed : (i : ℕ) → some i ∈ root_alone m → i < 1
+  root_placed i q = all_mem (Placed 1) (some i) (root_alone m) (omega arith, blank_placed m) q
     where
       blank_placed : (k : ℕ) → All (Placed 1) (blank k)
       blank_placed zero = tt
       blank_placed (suc k) = (tt, blank_placed k)
 
-  root-solves : Solution p (root_filling m)
-  root-solves =
-      solution_valued (heaviest (suc m)) (heavy m) (resolved m) (heaviest_expression m) (root_alone m) root-placed
+  root_solves : Solution p (root_filling m)
+  root_solves =
+      solution_valued (heaviest (suc m)) (heavy m) (resolved m) (heaviest_expression m) (root_alone m) root_placed
       (heavy m) (heavy_expression m) (heavy_closed m) refl (ap one (shift_closed_term 0 (heavy m) (heavy_closed m)))
 
   module _ (ms : Marks) (i : ms ∈ all_marks 1 m) where
@@ -189,8 +189,8 @@ module _ (m : ℕ) where
         (λ h. subst Solves (sym (choose_true (value the_symbol) left_open h)) (valued h))
         (λ h. subst Solves (sym (choose_false (value the_symbol) left_open h)) (opened h))
 
-  pub fillings-solve : (σ : Filling) → σ ∈ fillings m → Solution p σ
-  fillings-solve σ i =
-      ⊎_elim (λ e. subst (Solution p) (sym e) root-solves)
+  pub fillings_solve : (σ : Filling) → σ ∈ fillings m → Solution p σ
+  fillings_solve σ i =
+      ⊎_elim (λ e. subst (Solution p) (sym e) root_solves)
       (λ k. let (ms, j, e) = map_mem (below_filling m) σ (all_marks 1 m) k in subst (Solution p) (sym e) (below_solves ms j))
       (Memᴰ.cases_cons i)

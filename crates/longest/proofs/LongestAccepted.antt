@@ -21,7 +21,7 @@ use Rattle.meaning.proofs.Lists.{choose_false}
 use Rattle.meaning.proofs.ShiftLaws.{ltb_no, relabel_size}
 use Rattle.meaning.proofs.ProblemReading.{accepted_accept}
 use Rattle.longest.specs.Writing.{Nodes}
-use Rattle.longest.proofs.Applied.{face-is, functions_are}
+use Rattle.longest.proofs.Applied.{face_is, functions_are}
 use Rattle.longest.proofs.EqualSymbols.{heaviest_is, heaviest_size, top}
 use Rattle.longest.proofs.LongestBytes.{expression_most, problem_length}
 
@@ -35,7 +35,7 @@ unfolding overlarge
 small_face e h =
     let p : Problem = applied_to e in
     let nodes : size (one (face_of p 0)) ≡ size (one e) =
-    ap (λ (t : Term). size (one t)) (face-is e) ∙ relabel_size enter nameless_label [] (one e) in
+    ap (λ (t : Term). size (one t)) (face_is e) ∙ relabel_size enter nameless_label [] (one e) in
     let few : ltb max_face_nodes (size (one (face_of p 0))) ≡ false = ltb_no max_face_nodes (size (one (face_of p 0))) (omega arith) in
     ap (λ (fs : List ℕ). is_some (faces p) && not (every (λ f. not (ltb max_face_nodes (size (one (face_of p f))))) fs)) (functions_are e)
     ∙ ap (λ (b : Bool). is_some (faces p) && not (not b && true)) few

@@ -1,7 +1,7 @@
 -- T-13, for every n and whatever the depth of e: "It has 2^(n-1) + 1 solutions, and every other expression of n nodes in such a problem
 -- has at most as many."
---   applied-list    (P(X), e) has a full list, also where no input can hold e
---   list-most       with at most 2^(n-1) + 1 entries, where e has n nodes
+--   applied_list    (P(X), e) has a full list, also where no input can hold e
+--   list_most       with at most 2^(n-1) + 1 entries, where e has n nodes
 --   longest_count   that of T-13's problem has as many
 use mathlib.Core.Path.{◌≡◌, ap}
 use Prim.Native.Nat.{ℕ, zero, suc, ◌+◌, ◌-◌, ◌^◌, ◌≤◌}
@@ -19,10 +19,10 @@ use Rattle.meaning.specs.Candidate.{candidate, full_list, solution_rows, solves}
 use Rattle.meaning.specs.Longest.{applied_to, heaviest, longest_problem}
 use Rattle.meaning.proofs.Lists.{distinct_within, keep_length}
 use Rattle.meaning.proofs.ShiftLaws.{relabel_size}
-use Rattle.meaning.proofs.FullListLaws.{full_list_every, full-list-is, full_list_only}
+use Rattle.meaning.proofs.FullListLaws.{full_list_every, full_list_is, full_list_only}
 use Rattle.longest.proofs.SetCounts.{choices_most}
-use Rattle.longest.proofs.Applied.{proper, rows-count}
-use Rattle.longest.proofs.EqualSymbols.{fillings, fillings_count, fillings_distinct, fillings-solve, heaviest_expression, heaviest_size}
+use Rattle.longest.proofs.Applied.{proper, rows_count}
+use Rattle.longest.proofs.EqualSymbols.{fillings, fillings_count, fillings_distinct, fillings_solve, heaviest_expression, heaviest_size}
 
 -- A full list is no longer than the list of rows
 listed_rows : (p : Problem) → length (full_list p) ≤ length (rows p)
@@ -32,12 +32,12 @@ listed_rows p =
     omega (arith, length-map {B = Listed} (keep (solves p) (rows p)) (λ (r : Row). (r, candidate p r)))
 
 module _ (e : NamedTerm) (x : IsExpression (one e)) where
-  pub applied-list : IsFullList (applied_to e) (full_list (applied_to e))
-  applied-list = full-list-is (applied_to e) (proper e x)
+  pub applied_list : IsFullList (applied_to e) (full_list (applied_to e))
+  applied_list = full_list_is (applied_to e) (proper e x)
 
   -- AT MOST
-  pub list-most : (full : List Listed) → IsFullList (applied_to e) full → length full ≤ 2 ^ (size (one e) - 1) + 1
-  list-most full is_full =
+  pub list_most : (full : List Listed) → IsFullList (applied_to e) full → length full ≤ 2 ^ (size (one e) - 1) + 1
+  list_most full is_full =
       let nodes = relabel_size enter nameless_label [] (one e) in
       let below : size (nameless_term [] e).1 ≡ size (one e) - 1 = omega arith in
       let powers = ap (λ (n : ℕ). 2 ^ n) below in
@@ -45,7 +45,7 @@ module _ (e : NamedTerm) (x : IsExpression (one e)) where
         arith,
         ap length (full_list_only (applied_to e) (proper e x) full is_full),
         listed_rows (applied_to e),
-        rows-count e,
+        rows_count e,
         choices_most (nameless_term [] e),
       )
 
@@ -54,8 +54,8 @@ pub longest_count : (n : ℕ) → 1 ≤ n → (full : List Listed) → IsFullLis
 longest_count zero h full is_full = absurd (omega arith)
 longest_count (suc m) h full is_full =
     let all = distinct_within (fillings m) (map (λ (y : Listed). y.1) full) (fillings_distinct m)
-    (λ σ i. full_list_every (longest_problem (suc m)) (proper (heaviest (suc m)) (heaviest_expression m)) full is_full σ (fillings-solve m σ i)) in
-    let most = list-most (heaviest (suc m)) (heaviest_expression m) full is_full in
+    (λ σ i. full_list_every (longest_problem (suc m)) (proper (heaviest (suc m)) (heaviest_expression m)) full is_full σ (fillings_solve m σ i)) in
+    let most = list_most (heaviest (suc m)) (heaviest_expression m) full is_full in
     let powers : 2 ^ (size (one (heaviest (suc m))) - 1) ≡ 2 ^ (suc m - 1) = ap (λ (n : ℕ). 2 ^ (n - 1)) (heaviest_size m) in
     let same : 2 ^ (suc m - 1) ≡ 2 ^ m = ap (λ (n : ℕ). 2 ^ n) (let q : suc m - 1 ≡ m = omega arith in q) in
     omega (arith, fillings_count m, length-map full (λ (y : Listed). y.1))

@@ -16,7 +16,7 @@ use Rattle.meaning.specs.Term.{Term, one, size}
 use Rattle.meaning.specs.Choice.{Choice, Earlier, Mark, Marks}
 use Rattle.meaning.specs.Choices.{all_marks, choices}
 use Rattle.meaning.proofs.Lists.{distinct_within, mem_all, mem_at, mem_map}
-use Rattle.meaning.proofs.Ordered.{Placed, all_marks_are, all_marks_ordered, earlier_strict, ordered-distinct}
+use Rattle.meaning.proofs.Ordered.{Placed, all_marks_are, all_marks_ordered, earlier_strict, ordered_distinct}
 use Rattle.meaning.proofs.ChoiceLaws.{choices_are, choices_once}
 use Rattle.meaning.proofs.Punching.{blank}
 use Rattle.meaning.proofs.Apart.{choice_clear}
@@ -28,7 +28,7 @@ abbrev sets : ℕ → List Marks
 sets m = root_alone m ∷ map (λ ms. none ∷ ms) (all_marks 1 m)
 
 pub all_marks_distinct : (m : ℕ) → Distinct (all_marks 1 m)
-all_marks_distinct m = ordered-distinct Earlier earlier_strict (all_marks 1 m) (all_marks_ordered 1 m)
+all_marks_distinct m = ordered_distinct Earlier earlier_strict (all_marks 1 m) (all_marks_ordered 1 m)
 
 -- THEIR NUMBER
 all_marks_count : (m : ℕ) → length (all_marks 1 m) ≡ 2 ^ m

@@ -20,9 +20,9 @@ use Rattle.meaning.proofs.ByteLaws.{field_length}
 use Rattle.meaning.proofs.ShiftLaws.{ltb_no, ltb_yes}
 use Rattle.slices.proofs.Slices.{part_length}
 use Rattle.copying.specs.Fixed.{HeadRoom}
-use Rattle.copying.proofs.WriteLaws.{Part, headed, part_begins, part-ends, part-goes}
+use Rattle.copying.proofs.WriteLaws.{Part, headed, part_begins, part_ends, part_goes}
 use Rattle.longest.specs.Writing.{Nodes, ProblemRoom, Room, expression_bytes, pattern_bytes, terms_bytes}
-use Rattle.longest.proofs.IntoLaws.{inside, into-outside, into-room, into-short}
+use Rattle.longest.proofs.IntoLaws.{inside, into_outside, into_room, into_short}
 use Rattle.longest.proofs.LongestBytes.{application_is, expression_length, expression_most, problem_is, problem_length, symbol_more}
 use Rattle.longest.proofs.LongestBytes.{symbols_length, symbol_field}
 
@@ -62,11 +62,11 @@ symbols_begin m o =
     }
 
 module _ {m i : ℕ} {before out : Bytes} (w : Symbols m i before out) where
-  pub symbols-end : m ≤ i → out ≡ over (encode (symbols m)) before
+  pub symbols_end : m ≤ i → out ≡ over (encode (symbols m)) before
   unfolding encode
-  symbols-end h =
+  symbols_end h =
       let none : encode (symbols (m - i)) ≡ [] = ap (λ (k : ℕ). encode (symbols k)) (let e : m - i ≡ 0 = omega (arith, w.few) in e) in
-      let (long, is) = part-ends w.part none in
+      let (long, is) = part_ends w.part none in
       is ∙ ap (λ (k : ℕ). encode (symbols m) ++ drop k before) long
 
   module _ (more : i < m) where
@@ -97,7 +97,7 @@ module _ {m i : ℕ} {before out : Bytes} (w : Symbols m i before out) where
           same = same_len_mid (5 * i) (length out - 5 * i) out x kept ∙ w.same;
           part =
               subst (λ (k : ℕ). Part (encode (symbols m)) later k before (put_mid (5 * i) (length out - 5 * i) out x))
-              (let e : 5 * i + 5 ≡ 5 * (i + 1) = omega arith in e) (part-goes w.part symbol_field later next_symbol (refl, is));
+              (let e : 5 * i + 5 ≡ 5 * (i + 1) = omega arith in e) (part_goes w.part symbol_field later next_symbol (refl, is));
         }
 
 -- A field: its head before the content, which stands in the part after it
@@ -114,11 +114,11 @@ head_room k o y room counted kept = record { room = omega (arith, same_len_mid 3
 
 -- The returns of `write_expression`, and what it asks of its callees
 module _ {n : ℕ} {o : Bytes} (h : Room n (length (expression_bytes n)) o) where
-  pub symbol-room-one : n ≡ 1 → length (encode (symbols 1)) ≤ length o
-  symbol-room-one e = rw e at h.room
+  pub symbol_room_one : n ≡ 1 → length (encode (symbols 1)) ≤ length o
+  symbol_room_one e = rw e at h.room
 
-  pub symbol-wrote : {o' : Bytes} → n ≡ 1 → o' ≡ over (encode (symbols 1)) o → o' ≡ over (expression_bytes n) o
-  symbol-wrote e w = rw e w
+  pub symbol_wrote : {o' : Bytes} → n ≡ 1 → o' ≡ over (encode (symbols 1)) o → o' ≡ over (expression_bytes n) o
+  symbol_wrote e w = rw e w
 
   module _ (other : n ≡ 1 → ⊥) where
     several : 2 ≤ n
@@ -170,35 +170,35 @@ length_several {n} other h =
 
 -- `write_problem`: what it asks of its callees, and its return
 module _ {n bytes : ℕ} {o : Bytes} (h : ProblemRoom n bytes o) where
-  terms-long : bytes ≡ 3 + length (terms_bytes n)
-  terms-long = omega (arith, h.counted, ap length (problem_is n), field_length 7 (terms_bytes n))
+  terms_long : bytes ≡ 3 + length (terms_bytes n)
+  terms_long = omega (arith, h.counted, ap length (problem_is n), field_length 7 (terms_bytes n))
 
-  pub constraint-long : 3 ≤ bytes
-  constraint-long = omega (arith, terms-long)
+  pub constraint_long : 3 ≤ bytes
+  constraint_long = omega (arith, terms_long)
 
-  pub problem-long : 3 ≤ length o
-  problem-long = omega (arith, constraint-long, h.fits.room)
+  pub problem_long : 3 ≤ length o
+  problem_long = omega (arith, constraint_long, h.fits.room)
 
-  problem-counted : bytes - 3 < 65536
+  problem_counted : bytes - 3 < 65536
   unfolding max_face_nodes
-  problem-counted = omega (arith, h.counted, problem_length n, expression_most n h.fits.nodes.some, h.fits.nodes.few)
+  problem_counted = omega (arith, h.counted, problem_length n, expression_most n h.fits.nodes.some, h.fits.nodes.few)
 
-  pub terms-room : Room n (length (terms_bytes n)) (take (length o - 3) (drop 3 o))
-  terms-room =
-      let long = problem-long in
+  pub terms_room : Room n (length (terms_bytes n)) (take (length o - 3) (drop 3 o))
+  terms_room =
+      let long = problem_long in
       record {
         nodes = h.fits.nodes;
-        room = omega (arith, terms-long, h.fits.room, part_length 3 (length o) o (omega arith) (omega arith));
+        room = omega (arith, terms_long, h.fits.room, part_length 3 (length o) o (omega arith) (omega arith));
       }
 
   pub constraint_head_lem : (y : Bytes) → length y ≡ length (take (length o - 3) (drop 3 o))
       → HeadRoom (bytes - 3) (put_mid 3 (length o - 3) o y)
-  constraint_head_lem y kept = head_room (bytes - 3) o y problem-long problem-counted kept
+  constraint_head_lem y kept = head_room (bytes - 3) o y problem_long problem_counted kept
 
-  pub problem-wrote : {y o' : Bytes} → y ≡ over (terms_bytes n) (take (length o - 3) (drop 3 o))
+  pub problem_wrote : {y o' : Bytes} → y ≡ over (terms_bytes n) (take (length o - 3) (drop 3 o))
       → o' ≡ 7 ∷ (word (bytes - 3) ++ drop 3 (put_mid 3 (length o - 3) o y)) → o' ≡ over (longest_bytes n) o
-  problem-wrote {y} {o'} is_y e =
-      field_wrote 7 (bytes - 3) (terms_bytes n) o y o' (omega (arith, terms-long)) problem-long is_y e
+  problem_wrote {y} {o'} is_y e =
+      field_wrote 7 (bytes - 3) (terms_bytes n) o y o' (omega (arith, terms_long)) problem_long is_y e
       ∙ ap (λ (b : Bytes). over b o) (sym (problem_is n))
 
 -- The returns of `write_longest`
@@ -206,15 +206,15 @@ module _ (n : ℕ) (o : Bytes) where
   refuses : {r : ℕ} → longest_into n o ≡ refused r → LongestCall n o (refused r) o
   refuses a = record { answers = sym (ap length_of a); leaves = sym (ap (buffer_after o) a) }
 
-  pub outside-refused : {outside : Bool} → outside ≡ is_outside n → outside ≡ true → LongestCall n o (refused 28) o
-  outside-refused is e = refuses (into-outside n o (sym is ∙ e))
+  pub outside_refused : {outside : Bool} → outside ≡ is_outside n → outside ≡ true → LongestCall n o (refused 28) o
+  outside_refused is e = refuses (into_outside n o (sym is ∙ e))
 
   module _ (bytes : ℕ) {outside : Bool} (is : outside ≡ is_outside n) (e : outside ≡ false) (counted : Nodes n → bytes ≡ length (longest_bytes n)) where
     long : bytes ≡ length (longest_bytes n)
     long = counted (inside n (sym is ∙ e))
 
     pub short_refused : length o < bytes → LongestCall n o (refused 29) o
-    short_refused h = refuses (into-short n o (sym is ∙ e) (omega (arith, long)))
+    short_refused h = refuses (into_short n o (sym is ∙ e) (omega (arith, long)))
 
     module _ (room : bytes ≤ length o) where
       pub problem_room : ProblemRoom n bytes o
@@ -222,5 +222,5 @@ module _ (n : ℕ) (o : Bytes) where
 
       pub longest_written : {o' : Bytes} → o' ≡ over (longest_bytes n) o → LongestCall n o (got bytes) o'
       longest_written w =
-          let a = into-room n o (sym is ∙ e) (omega (arith, long)) in
+          let a = into_room n o (sym is ∙ e) (omega (arith, long)) in
           record { answers = ap got long ∙ sym (ap length_of a); leaves = w ∙ sym (ap (buffer_after o) a) }

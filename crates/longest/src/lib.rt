@@ -1,5 +1,7 @@
 // The problem with the longest list for a given number of nodes (T-13), written into a buffer: (P(X), e), where e is a symbol, or an
 // application of equal symbols.
+#![tactic(auto)]
+
 ghost use Rattle.std.specs.Prelude.{◌≡◌, ◌≤◌, length};
 ghost use Rattle.meaning.specs.Field.{encode};
 ghost use Rattle.meaning.specs.Longest.{is_outside, longest_bytes, over, symbols};

@@ -1,6 +1,8 @@
 // What a host may call, and the names that it needs for that: the start of a problem (`Place::start`), a search call that is handed a place
 // or an open search, the writer and the checker, and the writer of T-13's problem. None of them has a `requires`: any bytes, place, open
 // search, text, number of nodes and buffer may be handed in.
+#![tactic(auto)]
+
 ghost use Rattle.matcher.specs.Opened.{OpenAt, OpenAnswers};
 
 pub use checking::{Checked, check};

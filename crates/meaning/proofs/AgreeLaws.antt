@@ -15,7 +15,7 @@ use Rattle.meaning.specs.Face.{Face, agrees, meet, walk, faces}
 use Rattle.meaning.specs.Agree.{SameNode, symbols, free_variables, bound_variables, applications, binders, Agree, ends, nodes, is_met}
 use Rattle.meaning.specs.Rows.{rows_over, rows}
 use Rattle.meaning.proofs.Lockstep.{agrees_eq, agrees_self}
-use Rattle.meaning.proofs.OneWay.{faces-one-way, no_faces_lem, walk-faces}
+use Rattle.meaning.proofs.OneWay.{faces_one_way, no_faces_lem, walk_faces}
 
 -- Answers: both, or a guarded one
 some_join : {A : Type 0} (x y : Option (List A)) → is_some x ≡ true → is_some y ≡ true → is_some (join x y) ≡ true
@@ -87,8 +87,8 @@ walk_agree k n u v = (walk_then_agree k n u v, agree_then_walk k n u v)
 pub faces_agree : (p : Problem) → (is_some (faces p) ≡ true) ↔ ((both_ways p ≡ false) × Agree (patterns p) (expressions p))
 faces_agree p =
     let w = walk_agree 0 0 (patterns p) (expressions p) in (
-      λ e. let b = faces-one-way p e in (b, w.0 (ap is_some (sym (walk-faces p b)) ∙ e)),
-      λ h. ap is_some (walk-faces p h.0) ∙ w.1 h.1,
+      λ e. let b = faces_one_way p e in (b, w.0 (ap is_some (sym (walk_faces p b)) ∙ e)),
+      λ h. ap is_some (walk_faces p h.0) ∙ w.1 h.1,
     )
 
 -- "If they disagree anywhere, the problem has no rows"

@@ -1,6 +1,6 @@
 -- T-07: texts in number order "differ only in bound names exactly when they name the same solution".
 --   Agrees        two texts say the same of each metavariable
---   same_filling  of two texts that can be read; of two that pass it is `passing_texts` (EntryLaws)
+--   same_filling_lem  of two texts that can be read; of two that pass it is `passing_texts` (EntryLaws)
 use mathlib.Core.Path.{◌≡◌, refl, ap, ap₂, sym, ◌∙◌, fun_ext}
 use mathlib.Core.Logic.{⊎_elim, ◌↔◌}
 use Prim.Native.Nat.{ℕ, ◌<◌}
@@ -116,9 +116,9 @@ same_said (i ∷ is) (j ∷ js) a m =
     ∙ ap₂ (choose (eqb m j.0)) (alpha_meant i.1 j.1 a.1) (same_said is js a.2 m)
 
 -- TWO TEXTS THAT CAN BE READ name the same filling exactly when they differ only in bound names
-pub same_filling : (text text' : Bytes) (is js : List Item) → All Byte text → All Byte text' → read_text text ≡ got is
+pub same_filling_lem : (text text' : Bytes) (is js : List Item) → All Byte text → All Byte text' → read_text text ≡ got is
     → read_text text' ≡ got js → (said is ≡ said js) ↔ AlphaText is js
-same_filling text text' is js b c e f = (
+same_filling_lem text text' is js b c e f = (
   λ q. same_fields is js (text_read text is b e).1 (text_read text' js c f).1 (rises_ordered (numbers is) (text_rises text is e))
       (rises_ordered (numbers js) (text_rises text' js f)) (λ m. ap (λ σ. σ m) q),
   λ a. fun_ext (same_said is js a),

@@ -52,55 +52,55 @@ module _ (bs : List ℕ) (n : ℕ) (l : Nameless) (c s : Terms) (ms : Marks) whe
   abbrev in_later : List (View Owner)
   in_later = views_from bs (suc n + size c) s
 
-  apart-node : are_apart ms (in_children ++ in_later) ≡ (are_apart ms in_children && are_apart (drop (size c) ms) in_later)
-  apart-node =
+  apart_node : are_apart ms (in_children ++ in_later) ≡ (are_apart ms in_children && are_apart (drop (size c) ms) in_later)
+  apart_node =
       apart_append ms in_children in_later
       ∙ ap (λ (k : ℕ). are_apart ms in_children && are_apart (drop k ms) in_later) (length_views (below n l bs) (suc n) c)
 
-  node-apart : T (are_apart ms in_children) → T (are_apart (drop (size c) ms) in_later) → T (are_apart ms (in_children ++ in_later))
-  node-apart x y = subst T (sym apart-node) (T_and (are_apart ms in_children) (are_apart (drop (size c) ms) in_later) x y)
+  node_apart : T (are_apart ms in_children) → T (are_apart (drop (size c) ms) in_later) → T (are_apart ms (in_children ++ in_later))
+  node_apart x y = subst T (sym apart_node) (T_and (are_apart ms in_children) (are_apart (drop (size c) ms) in_later) x y)
 
-  children-later : T (are_apart ms (in_children ++ in_later)) → T (are_apart ms in_children) × T (are_apart (drop (size c) ms) in_later)
-  children-later t = and_T (are_apart ms in_children) (are_apart (drop (size c) ms) in_later) (subst T apart-node t)
+  children_later : T (are_apart ms (in_children ++ in_later)) → T (are_apart ms in_children) × T (are_apart (drop (size c) ms) in_later)
+  children_later t = and_T (are_apart ms in_children) (are_apart (drop (size c) ms) in_later) (subst T apart_node t)
 
-  nodes-below : size (view (owner_of bs) (one (l, c))) - 1 ≡ size c
-  nodes-below = let e = size_view bs (l, c) in omega arith
+  nodes_below : size (view (owner_of bs) (one (l, c))) - 1 ≡ size c
+  nodes_below = let e = size_view bs (l, c) in omega arith
 
-  marked-apart : take (size c) ms ≡ blank (size c) → T (are_apart (drop (size c) ms) in_later)
+  marked_apart : take (size c) ms ≡ blank (size c) → T (are_apart (drop (size c) ms) in_later)
       → T (eqb (set_size (take (size (view (owner_of bs) (one (l, c))) - 1) ms)) 0 && are_apart ms (in_children ++ in_later))
-  marked-apart b y =
+  marked_apart b y =
       let none_below : set_size (take (size (view (owner_of bs) (one (l, c))) - 1) ms) ≡ 0 =
-      ap (λ (k : ℕ). set_size (take k ms)) nodes-below ∙ ap set_size b ∙ size_blank (size c) in
+      ap (λ (k : ℕ). set_size (take k ms)) nodes_below ∙ ap set_size b ∙ size_blank (size c) in
       T_and (eqb (set_size (take (size (view (owner_of bs) (one (l, c))) - 1) ms)) 0) (are_apart ms (in_children ++ in_later))
       (true_T (ap (λ (k : ℕ). eqb k 0) none_below))
-      (node-apart (blank_apart ms in_children (rw (length_views (below n l bs) (suc n) c) b)) y)
+      (node_apart (blank_apart ms in_children (rw (length_views (below n l bs) (suc n) c) b)) y)
 
-  apart-marked : size c ≤ length ms
+  apart_marked : size c ≤ length ms
       → T (eqb (set_size (take (size (view (owner_of bs) (one (l, c))) - 1) ms)) 0 && are_apart ms (in_children ++ in_later))
       → (take (size c) ms ≡ blank (size c)) × T (are_apart (drop (size c) ms) in_later)
-  apart-marked h t =
+  apart_marked h t =
       let r = and_T (eqb (set_size (take (size (view (owner_of bs) (one (l, c))) - 1) ms)) 0) (are_apart ms (in_children ++ in_later)) t in
       let none_below = eqb→eq (set_size (take (size (view (owner_of bs) (one (l, c))) - 1) ms)) 0 r.0 in
-      (blank_front (size c) ms h (ap (λ (k : ℕ). set_size (take k ms)) (sym nodes-below) ∙ none_below), (children-later r.1).1)
+      (blank_front (size c) ms h (ap (λ (k : ℕ). set_size (take k ms)) (sym nodes_below) ∙ none_below), (children_later r.1).1)
 
 clear_test : (bs : List ℕ) (n : ℕ) (ms : Marks) (w : Terms) → Clear ms w → T (are_apart ms (views_from bs n w))
 clear_test bs n ms nil g = blank_apart ms [] refl
 clear_test bs n [] (cons l c s) g = tt
 clear_test bs n (none ∷ ms) (cons l c s) g =
-    node-apart bs n l c s ms (clear_test (below n l bs) (suc n) ms c g.0) (clear_test bs (suc n + size c) (drop (size c) ms) s g.1)
+    node_apart bs n l c s ms (clear_test (below n l bs) (suc n) ms c g.0) (clear_test bs (suc n + size c) (drop (size c) ms) s g.1)
 clear_test bs n (some i ∷ ms) (cons l c s) g =
-    marked-apart bs n l c s ms g.0 (clear_test bs (suc n + size c) (drop (size c) ms) s g.1)
+    marked_apart bs n l c s ms g.0 (clear_test bs (suc n + size c) (drop (size c) ms) s g.1)
 
 test_clear : (bs : List ℕ) (n : ℕ) (ms : Marks) (w : Terms) → size w ≤ length ms → T (are_apart ms (views_from bs n w)) → Clear ms w
 test_clear bs n ms nil h t = tt
 test_clear bs n [] (cons l c s) h t = absurd (omega arith)
 test_clear bs n (none ∷ ms) (cons l c s) h t =
-    let r = children-later bs n l c s ms t in (
+    let r = children_later bs n l c s ms t in (
       test_clear (below n l bs) (suc n) ms c (omega arith) r.0,
       test_clear bs (suc n + size c) (drop (size c) ms) s (rw length-drop (omega arith)) r.1,
     )
 test_clear bs n (some i ∷ ms) (cons l c s) h t =
-    let r = apart-marked bs n l c s ms (omega arith) t in
+    let r = apart_marked bs n l c s ms (omega arith) t in
     (r.0, test_clear bs (suc n + size c) (drop (size c) ms) s (rw length-drop (omega arith)) r.1)
 
 -- NO NODE OF A CHOICE LIES BELOW ANOTHER: by the nodes' numbers, and from the top

@@ -26,28 +26,28 @@ Along R [] (v ∷ vs) = ⊥
 Along R (m ∷ ms) (v ∷ vs) = R m v × Along R ms vs
 
 module _ (R : Mark → View Owner → Type 0) where
-  along-append : (ms : Marks) (us vs : List (View Owner)) → Along R ms us → Along R (drop (length us) ms) vs → Along R ms (us ++ vs)
-  along-append ms [] vs a b = b
-  along-append [] (u ∷ us) vs a b = absurd a
-  along-append (m ∷ ms) (u ∷ us) vs a b = (a.0, along-append ms us vs a.1 b)
+  along_append : (ms : Marks) (us vs : List (View Owner)) → Along R ms us → Along R (drop (length us) ms) vs → Along R ms (us ++ vs)
+  along_append ms [] vs a b = b
+  along_append [] (u ∷ us) vs a b = absurd a
+  along_append (m ∷ ms) (u ∷ us) vs a b = (a.0, along_append ms us vs a.1 b)
 
-  along-at : (ms : Marks) (vs : List (View Owner)) → Along R ms vs → (k : ℕ) (m : Mark) (v : View Owner) → get_elem? ms k ≡ some m
+  along_at : (ms : Marks) (vs : List (View Owner)) → Along R ms vs → (k : ℕ) (m : Mark) (v : View Owner) → get_elem? ms k ≡ some m
       → get_elem? vs k ≡ some v → R m v
-  along-at ms [] a k m v e f = never (cc)
-  along-at [] (u ∷ us) a k m v e f = absurd a
-  along-at (x ∷ ms) (u ∷ us) a zero m v e f =
+  along_at ms [] a k m v e f = never (cc)
+  along_at [] (u ∷ us) a k m v e f = absurd a
+  along_at (x ∷ ms) (u ∷ us) a zero m v e f =
       let p : x ≡ m = cc in let q : u ≡ v = cc in subst (λ (y : Mark). R y v) p (subst (R x) q a.0)
-  along-at (x ∷ ms) (u ∷ us) a (suc k) m v e f = along-at ms us a.1 k m v e f
+  along_at (x ∷ ms) (u ∷ us) a (suc k) m v e f = along_at ms us a.1 k m v e f
 
 -- The nodes of a forest
 module _ (R : Mark → View Owner → Type 0) (bs : List ℕ) (n : ℕ) (l : Nameless) (c s : Terms) (ms : Marks) where
   abbrev in_children : List (View Owner)
   in_children = views_from (below n l bs) (suc n) c
 
-  node-along : Along R ms in_children → Along R (drop (size c) ms) (views_from bs (suc n + size c) s)
+  node_along : Along R ms in_children → Along R (drop (size c) ms) (views_from bs (suc n + size c) s)
       → Along R ms (in_children ++ views_from bs (suc n + size c) s)
-  node-along a b =
-      along-append R ms in_children (views_from bs (suc n + size c) s) a
+  node_along a b =
+      along_append R ms in_children (views_from bs (suc n + size c) s) a
       (subst (λ (k : ℕ). Along R (drop k ms) (views_from bs (suc n + size c) s)) (sym (length_views (below n l bs) (suc n) c)) b)
 
 binders_below : (n : ℕ) (l : Nameless) (bs : List ℕ) → inner l (length bs) ≡ length (below n l bs)
@@ -77,13 +77,13 @@ module _ (a : ℕ → Term) where
   fits_along bs n [] (cons l c s) h f g = absurd (omega arith)
   fits_along bs n (none ∷ ms) (cons l c s) h f g = (
     λ i q. unmarked i q,
-    node-along (SeenAs a) bs n l c s ms
+    node_along (SeenAs a) bs n l c s ms
         (fits_along (below n l bs) (suc n) ms c (omega arith) (subst (λ (k : ℕ). Fits a k ms c) (binders_below n l bs) f.0) g.0)
         (fits_along bs (suc n + size c) (drop (size c) ms) s (rw length-drop (omega arith)) f.1 g.1),
   )
   fits_along bs n (some j ∷ ms) (cons l c s) h f g = (
     λ i q. seen i (let w : j ≡ i = cc in w),
-    node-along (SeenAs a) bs n l c s ms
+    node_along (SeenAs a) bs n l c s ms
         (blank_along a ms (views_from (below n l bs) (suc n) c) (rw (length_views (below n l bs) (suc n) c) g.0))
         (fits_along bs (suc n + size c) (drop (size c) ms) s (rw length-drop (omega arith)) f.1 g.1),
   )
@@ -97,13 +97,13 @@ module _ (a : ℕ → Term) where
           )
 
   -- THE HOLES OF A BODY ARE A CHOICE
-  pub fits-choice : (n : ℕ) (face : Term) (ms : Marks) → length ms ≡ size (one face) → ((k i : ℕ) → get_elem? ms k ≡ some (some i) → i < n)
+  pub fits_choice : (n : ℕ) (face : Term) (ms : Marks) → length ms ≡ size (one face) → ((k i : ℕ) → get_elem? ms k ≡ some (some i) → i < n)
       → Fits a 0 ms (one face) → Clear ms (one face) → Choice n face ms
-  fits-choice n face ms l small f g = record {
+  fits_choice n face ms l small f g = record {
     long = l;
     places = small;
     equal = λ j k i x y. seen_at j i x ∙ sym (seen_at k i y);
-    unbound = λ k i u x y. (along-at (SeenAs a) ms (views face) all k (some i) u x y i refl).1;
+    unbound = λ k i u x y. (along_at (SeenAs a) ms (views face) all k (some i) u x y i refl).1;
     apart = clear_apart face ms g;
   }
     where
@@ -113,7 +113,7 @@ module _ (a : ℕ → Term) where
       seen_at : (k i : ℕ) → get_elem? ms k ≡ some (some i) → get_elem? (views face) k ≡ some (view (owner_of []) (one (a i)))
       seen_at k i x =
           let v = at_other ms (views face) k (some i) (l ∙ sym (length_views [] 0 (one face))) x in
-          v.1 ∙ ap some (along-at (SeenAs a) ms (views face) all k (some i) v.0 x v.1 i refl).0
+          v.1 ∙ ap some (along_at (SeenAs a) ms (views face) all k (some i) v.0 x v.1 i refl).0
 
 -- The size of a set
 size_append : (ms ns : Marks) → set_size (ms ++ ns) ≡ set_size ms + set_size ns

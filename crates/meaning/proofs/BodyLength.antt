@@ -17,7 +17,7 @@ use Rattle.meaning.proofs.Lists.{at_append, at_drop}
 use Rattle.meaning.proofs.ChoiceLaws.{length_views, at_other}
 use Rattle.meaning.proofs.BodyChoice.{holes_are_set}
 use Rattle.meaning.proofs.RowBodies.{punch_one}
-use Rattle.meaning.proofs.Nodes.{Stands, here, below, beside, stands_size, relabel-stands, punch_names}
+use Rattle.meaning.proofs.Nodes.{Stands, here, below, beside, stands_size, relabel_stands, punch_names}
 use Rattle.meaning.proofs.Weights.{weight, encode_weight, trees_weight, nameless_weight, view_weight}
 
 -- Where each marked node has x bytes more than a hole, a hole saves x bytes
@@ -74,7 +74,7 @@ pub body_length : (scope : List ℕ) (t : NamedTerm) (ms : Marks) → IsExpressi
     → length (encode (one (punch_term ms t))) + set_size ms * (length (encode (one v)) - 3) ≡ length (encode (one t))
 body_length scope t ms is_face c j i v m e =
     let x : ℕ = weight (one v) - 3 in
-    let (sc, at) = relabel-stands enter nameless_label e scope in
+    let (sc, at) = relabel_stands enter nameless_label e scope in
     let long : weight (one v) ≡ 3 + x = omega (arith, trees_weight (one v)) in
     let body =
     punched_weight x ms (one face) is_face (omega (arith, c.long))

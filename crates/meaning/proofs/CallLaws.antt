@@ -28,8 +28,8 @@ use Rattle.meaning.proofs.Lists.{never, T_true, not_T, choose_true, choose_false
 use Rattle.meaning.proofs.PlaceLaws.{from_place}
 use Rattle.meaning.proofs.ProblemReading.{accept_accepted}
 use Rattle.meaning.proofs.Solutions.{solves_is_right}
-use Rattle.meaning.proofs.FullListLaws.{all_rows_lem, full-list-is}
-use Rattle.meaning.proofs.OneCall.{keeps_same, search_on, when-zero, when-placed, some_reply}
+use Rattle.meaning.proofs.FullListLaws.{all_rows_lem, full_list_is}
+use Rattle.meaning.proofs.OneCall.{keeps_same, search_on, when_zero, when_placed, some_reply}
 
 abbrev row_value : Row → PlaceValue
 row_value r = place_value (at r)
@@ -37,15 +37,15 @@ row_value r = place_value (at r)
 -- Lists
 module _ {A : Type 0} where
   -- What is kept of a list whose front has nothing to keep
-  keep-after : (p : A → Bool) (xs ys : List A) → All (λ x. p x ≡ true → ⊥) xs → keep p (xs ++ ys) ≡ keep p ys
-  keep-after p [] ys a = refl
-  keep-after p (x ∷ xs) ys a =
-      choose_false {b = p x} (x ∷ keep p (xs ++ ys)) (keep p (xs ++ ys)) (not_T (λ t. a.0 (T_true t))) ∙ keep-after p xs ys a.1
+  keep_after : (p : A → Bool) (xs ys : List A) → All (λ x. p x ≡ true → ⊥) xs → keep p (xs ++ ys) ≡ keep p ys
+  keep_after p [] ys a = refl
+  keep_after p (x ∷ xs) ys a =
+      choose_false {b = p x} (x ∷ keep p (xs ++ ys)) (keep p (xs ++ ys)) (not_T (λ t. a.0 (T_true t))) ∙ keep_after p xs ys a.1
 
   -- The first elements, after a common front
-  append-first : (xs ys full : List A) → ys ≡ take (length ys) full → xs ++ ys ≡ take (length (xs ++ ys)) (xs ++ full)
-  append-first [] ys full e = e
-  append-first (x ∷ xs) ys full e = ap (λ (l : List A). x ∷ l) (append-first xs ys full e)
+  append_first : (xs ys full : List A) → ys ≡ take (length ys) full → xs ++ ys ≡ take (length (xs ++ ys)) (xs ++ full)
+  append_first [] ys full e = e
+  append_first (x ∷ xs) ys full e = ap (λ (l : List A). x ∷ l) (append_first xs ys full e)
 
   map_take : {B : Type 0} (f : A → B) (n : ℕ) (xs : List A) → map f (take n xs) ≡ take n (map f xs)
   map_take f n [] = ap (map f) (take-nil n) ∙ sym (take-nil n)
@@ -79,7 +79,7 @@ keeps_step {n = n} p v h (finds skipped r later a e l) =
       next = refl;
       gives =
           ap (map row_value)
-          (keep-after (solves p) skipped (r ∷ later) a ∙ choose_true (r ∷ keep (solves p) later) (keep (solves p) later) e);
+          (keep_after (solves p) skipped (r ∷ later) a ∙ choose_true (r ∷ keep (solves p) later) (keep (solves p) later) e);
       moves = inr (omega (arith, allowed_one n, length-append skipped (r ∷ [])));
       last = λ w q. never (cc);
     }
@@ -89,7 +89,7 @@ keeps_step p v h (ends from a l) =
       later = [];
       splits = sym (append-nil from);
       next = refl;
-      gives = ap (map row_value) (ap (keep (solves p)) (sym (append-nil from)) ∙ keep-after (solves p) from [] a);
+      gives = ap (map row_value) (ap (keep (solves p)) (sym (append-nil from)) ∙ keep_after (solves p) from [] a);
       moves = inl (place_value past, refl);
       last = λ w q. refl;
     }
@@ -99,7 +99,7 @@ keeps_step {n = n} p v h (pauses passed r later a l) =
       later = r ∷ later;
       splits = refl;
       next = refl;
-      gives = ap (map row_value) (keep-after (solves p) passed (r ∷ later) a);
+      gives = ap (map row_value) (keep_after (solves p) passed (r ∷ later) a);
       moves = inr (omega (arith, allowed_one n));
       last = λ w q. never (cc);
     }
@@ -111,14 +111,14 @@ still_step p from r =
 
 -- Lists of calls
 module _ {R P : Type 0} where
-  pub end-here : {c : Call R P} {cs : List (Call R P)} (w : P) → c.reply ≡ end w → HasEnd (c ∷ cs)
-  end-here {c} w e = record { call = c; is_in = Memᴰ.head refl; place = w; is_end = e }
+  pub end_here : {c : Call R P} {cs : List (Call R P)} (w : P) → c.reply ≡ end w → HasEnd (c ∷ cs)
+  end_here {c} w e = record { call = c; is_in = Memᴰ.head refl; place = w; is_end = e }
 
   pub end_later : {c : Call R P} {cs : List (Call R P)} → HasEnd cs → HasEnd (c ∷ cs)
   end_later h = record { call = h.call; is_in = Memᴰ.tail h.is_in; place = h.place; is_end = h.is_end }
 
-  pub which-end : {c : Call R P} {cs : List (Call R P)} → HasEnd (c ∷ cs) → ((w : P) × (c.reply ≡ end w)) ⊎ HasEnd cs
-  which-end {c} {cs} h = ⊎_elim here there (Memᴰ.cases_cons h.is_in)
+  pub which_end : {c : Call R P} {cs : List (Call R P)} → HasEnd (c ∷ cs) → ((w : P) × (c.reply ≡ end w)) ⊎ HasEnd cs
+  which_end {c} {cs} h = ⊎_elim here there (Memᴰ.cases_cons h.is_in)
     where
       here : h.call ≡ c → ((w : P) × (c.reply ≡ end w)) ⊎ HasEnd cs
       here e = inl (h.place, ap (λ (x : Call R P). x.reply) (sym e) ∙ h.is_end)
@@ -147,15 +147,15 @@ add_call : {v : PlaceValue} {from : List Row} (p : Problem) (c : HostCall) (cs :
     → Owes (map row_value (keep (solves p) from)) (length from) (c ∷ cs)
 add_call p c cs s t =
     record {
-      prefix = rw s.gives (append-first (found_in c.reply) (founds cs) (map row_value (keep (solves p) s.later)) t.prefix);
+      prefix = rw s.gives (append_first (found_in c.reply) (founds cs) (map row_value (keep (solves p) s.later)) t.prefix);
       whole =
           λ h.
           ap (λ (l : List PlaceValue). found_in c.reply ++ l)
-          (⊎_elim (λ x. none_left p s.later cs (s.last x.0 x.1) t) t.whole (which-end h)) ∙ sym s.gives;
+          (⊎_elim (λ x. none_left p s.later cs (s.last x.0 x.1) t) t.whole (which_end h)) ∙ sym s.gives;
       ends =
           λ h.
           ⊎_elim
-          (λ x. end-here x.0 x.1)
+          (λ x. end_here x.0 x.1)
           (λ m. end_later (t.ends (omega (arith, ap length s.splits, length-append s.passed s.later))))
           s.moves;
     }
@@ -174,25 +174,25 @@ module _ (p : Problem) (accepted : Accepted p) where
   step : (n : ℕ) {reply : HostReply} (before from : List Row) → rows p ≡ before ++ from
       → SearchOn p (place_value (place_of from)) n reply → Step p (place_value (place_of from)) n from reply
   step zero before from w k =
-      subst (Step p (place_value (place_of from)) 0 from) (sym (when-zero p (place_value (place_of from)) 0 refl k)) (still_step p from 15)
+      subst (Step p (place_value (place_of from)) 0 from) (sym (when_zero p (place_value (place_of from)) 0 refl k)) (still_step p from 15)
   step (suc n) before from w k =
       let f : From (rows p) (place_of from) from = record { before = before; whole = w; begins = refl } in
       let m : Names p (place_value (place_of from)) (place_of from) =
       record { is_place = from_place p (place_of from) from f; is_value = refl } in
-      let (reply, keeps, is) = when-placed p (place_value (place_of from)) (suc n) (place_of from) from accepted (omega arith) m f k in
+      let (reply, keeps, is) = when_placed p (place_value (place_of from)) (suc n) (place_of from) from accepted (omega arith) m f k in
       subst (Step p (place_value (place_of from)) (suc n) from) (sym is)
       (keeps_step p (place_value (place_of from)) (omega arith) (tested before from w keeps))
 
   -- The third demand of the rows from any place on
-  run-from : (before from : List Row) (cs : List HostCall) → rows p ≡ before ++ from
+  run_from : (before from : List Row) (cs : List HostCall) → rows p ≡ before ++ from
       → Run (SearchOn p) (place_value (place_of from)) cs → Owes (map row_value (keep (solves p) from)) (length from) cs
-  run-from before from [] w r = record { prefix = refl; whole = λ h. absurd (no_end h); ends = λ h. absurd (omega arith) }
-  run-from before from (c ∷ cs) w r =
+  run_from before from [] w r = record { prefix = refl; whole = λ h. absurd (no_end h); ends = λ h. absurd (omega arith) }
+  run_from before from (c ∷ cs) w r =
       let one = step c.allowance before from w r.0 in
       let on : rows p ≡ (before ++ one.passed) ++ one.later =
       w ∙ ap (λ (l : List Row). before ++ l) one.splits ∙ sym (append_assoc before one.passed one.later) in
       add_call p c cs one
-      (run-from (before ++ one.passed) one.later cs on (subst (λ (v : PlaceValue). Run (SearchOn p) v cs) one.next r.1))
+      (run_from (before ++ one.passed) one.later cs on (subst (λ (v : PlaceValue). Run (SearchOn p) v cs) one.next r.1))
 
 kept_run : {R P : Type 0} (answers : P → ℕ → Reply R P → Type 0) (place : P) (cs : List (KeptCall R P))
     → Kept answers place cs → Run answers place (calls_of cs)
@@ -208,12 +208,12 @@ full_rows p = map-map given_row (λ (r : Row). (r, candidate p r)) (keep (solves
 -- THE THIRD DEMAND, of calls on an accepted problem
 pub accepted_third_demand : (p : Problem) (cs : List HostCall) → Accepted p → Run (SearchOn p) (place_value (start p)) cs → ThirdDemandOf p cs
 accepted_third_demand p cs a r =
-    let o = run-from p a [] (rows p) cs refl r in
+    let o = run_from p a [] (rows p) cs refl r in
     record {
       rows = rows p;
       are_rows = all_rows_lem p;
       full = full_list p;
-      is_full = full-list-is p (accepted_proper p a);
+      is_full = full_list_is p (accepted_proper p a);
       prefix =
           o.prefix ∙ ap (take (length (founds cs))) (sym (full_rows p)) ∙ sym (map_take given_row (length (founds cs)) (full_list p));
       whole = λ h. o.whole h ∙ sym (full_rows p);

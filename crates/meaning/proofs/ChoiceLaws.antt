@@ -21,7 +21,7 @@ use Rattle.meaning.specs.Rows.{rows_over, rows}
 use Rattle.meaning.proofs.Lists.{never, T_true, true_T, and_T, T_and, eqb_self, eqb_eq, mem_keep, keep_mem, mem_up_to, all_mem}
 use Rattle.meaning.proofs.Lists.{mem_all, every_all, all_every, at_mem, mem_at}
 use Rattle.meaning.proofs.Alike.{same_owned_eq, same_owned_refl}
-use Rattle.meaning.proofs.Ordered.{keep-ordered, ordered-distinct, Placed, all_marks_ordered, all_marks_are, OneOfEach}
+use Rattle.meaning.proofs.Ordered.{keep_ordered, ordered_distinct, Placed, all_marks_ordered, all_marks_are, OneOfEach}
 use Rattle.meaning.proofs.Ordered.{product_ordered, product_are, earlier_strict, earlier_row_strict}
 
 -- Where one list has an element, so has each list of the same length
@@ -107,23 +107,23 @@ abbrev is_free : View Owner → Bool
 is_free u = not (uses_face u)
 
 module _ (us : List (View Owner)) (ms : Marks) (i : ℕ) where
-  fits-equal : T (fits_place us ms i) → length ms ≡ length us
+  fits_equal : T (fits_place us ms i) → length ms ≡ length us
       → (j k : ℕ) → get_elem? ms j ≡ some (some i) → get_elem? ms k ≡ some (some i) → get_elem? us j ≡ get_elem? us k
-  fits-equal t l j k d e =
+  fits_equal t l j k d e =
       let (u, p) = at_other ms us j (some i) l d in
       let (v, q) = at_other ms us k (some i) l e in
       let same = (and_T (all_same (chosen i ms us)) (every is_free (chosen i ms us)) t).0 in
       p ∙ ap some (all_same_eq (chosen i ms us) same u v (mem_chosen i j ms us u d p) (mem_chosen i k ms us v e q)) ∙ sym q
 
-  fits-unbound : T (fits_place us ms i) → (k : ℕ) (u : View Owner) → get_elem? ms k ≡ some (some i) → get_elem? us k ≡ some u
+  fits_unbound : T (fits_place us ms i) → (k : ℕ) (u : View Owner) → get_elem? ms k ≡ some (some i) → get_elem? us k ≡ some u
       → uses_face u ≡ false
-  fits-unbound t k u d e =
+  fits_unbound t k u d e =
       let free = (and_T (all_same (chosen i ms us)) (every is_free (chosen i ms us)) t).1 in
       not-true (all_mem (λ v. is_free v ≡ true) u (chosen i ms us) (every_all is_free (chosen i ms us) free) (mem_chosen i k ms us u d e))
 
-  fits-made : ((j k : ℕ) → get_elem? ms j ≡ some (some i) → get_elem? ms k ≡ some (some i) → get_elem? us j ≡ get_elem? us k)
+  fits_made : ((j k : ℕ) → get_elem? ms j ≡ some (some i) → get_elem? ms k ≡ some (some i) → get_elem? us j ≡ get_elem? us k)
       → ((k : ℕ) (u : View Owner) → get_elem? ms k ≡ some (some i) → get_elem? us k ≡ some u → uses_face u ≡ false) → T (fits_place us ms i)
-  fits-made same unbound =
+  fits_made same unbound =
       T_and (all_same (chosen i ms us)) (every is_free (chosen i ms us))
       (eq_all_same (chosen i ms us)
       (λ u v m n.
@@ -180,24 +180,24 @@ apart_test (some i ∷ ms) (v ∷ us) a =
     (true_T (ap (λ (n : ℕ). eqb n 0) (front_unmarked (size v - 1) ms past))) (apart_test ms us (later_apart (some i) v ms us a))
 
 module _ (n : ℕ) (face : Term) (ms : Marks) where
-  passes-apart : is_choice n face ms ≡ true → Apart ms (views face)
-  passes-apart t = test_apart ms (views face) (and_T (every (fits_place (views face) ms) (up_to n)) (are_apart ms (views face)) (true_T t)).1
+  passes_apart : is_choice n face ms ≡ true → Apart ms (views face)
+  passes_apart t = test_apart ms (views face) (and_T (every (fits_place (views face) ms) (up_to n)) (are_apart ms (views face)) (true_T t)).1
 
-  choices-full : Choice n face ms → ms ∈ choices n face
-  choices-full c =
+  choices_full : Choice n face ms → ms ∈ choices n face
+  choices_full c =
       mem_keep (is_choice n face) ms (all_marks n (size (one face)))
       ((all_marks_are n (size (one face)) ms).1 (c.long, mem_all (Placed n) ms (λ m h. let (k, e) = mem_at ms m h in placed m k e)))
       (T_true (T_and (every (fits_place (views face) ms) (up_to n)) (are_apart ms (views face))
       (all_every (fits_place (views face) ms) (up_to n) (mem_all (λ i. fits_place (views face) ms i ≡ true) (up_to n)
-      (λ i h. T_true (fits-made (views face) ms i (λ j k d e. c.equal j k i d e) (λ k u d e. c.unbound k i u d e)))))
+      (λ i h. T_true (fits_made (views face) ms i (λ j k d e. c.equal j k i d e) (λ k u d e. c.unbound k i u d e)))))
       (apart_test ms (views face) c.apart)))
     where
       placed : (m : Mark) (k : ℕ) → get_elem? ms k ≡ some m → Placed n m
       placed none k e = tt
       placed (some i) k e = c.places k i e
 
-  choices-sound : ms ∈ choices n face → Choice n face ms
-  choices-sound h =
+  choices_sound : ms ∈ choices n face → Choice n face ms
+  choices_sound h =
       let (m, t) = keep_mem (is_choice n face) ms (all_marks n (size (one face))) h in
       let (l, a) = (all_marks_are n (size (one face)) ms).0 m in
       let e : length ms ≡ length (views face) = l ∙ sym (length_views [] 0 (one face)) in
@@ -209,9 +209,9 @@ module _ (n : ℕ) (face : Term) (ms : Marks) where
       record {
         long = l;
         places = low;
-        equal = λ j k i d q. fits-equal (views face) ms i (fits i (low j i d)) e j k d q;
-        unbound = λ k i u d q. fits-unbound (views face) ms i (fits i (low k i d)) k u d q;
-        apart = passes-apart t;
+        equal = λ j k i d q. fits_equal (views face) ms i (fits i (low j i d)) e j k d q;
+        unbound = λ k i u d q. fits_unbound (views face) ms i (fits i (low k i d)) k u d q;
+        apart = passes_apart t;
       }
 
 -- One choice of each list
@@ -221,8 +221,8 @@ each_choice p [] (c ∷ r) = (λ h. h, λ h. h)
 each_choice p (f ∷ fs) [] = (λ h. h, λ h. h)
 each_choice p (f ∷ fs) (c ∷ r) =
     let ih = each_choice p fs r in (
-      λ h. (choices-sound (places_of p f) (face_of p f) c h.0, ih.0 h.1),
-      λ h. (choices-full (places_of p f) (face_of p f) c h.0, ih.1 h.1),
+      λ h. (choices_sound (places_of p f) (face_of p f) c h.0, ih.0 h.1),
+      λ h. (choices_full (places_of p f) (face_of p f) c h.0, ih.1 h.1),
     )
 
 over_are : (p : Problem) (w : Option (List Face)) (r : Row) → (r ∈ rows_over p w) ↔ ((is_some w ≡ true) × ChoiceEach p (functions p) r)
@@ -234,13 +234,13 @@ over_are p (some xs) r =
 
 -- Main theorems: choices
 pub choices_are : (n : ℕ) (face : Term) (ms : Marks) → (ms ∈ choices n face) ↔ Choice n face ms
-choices_are n face ms = (choices-sound n face ms, choices-full n face ms)
+choices_are n face ms = (choices_sound n face ms, choices_full n face ms)
 
 pub choices_ordered : (n : ℕ) (face : Term) → Ordered Earlier (choices n face)
-choices_ordered n face = keep-ordered Earlier (is_choice n face) (all_marks n (size (one face))) (all_marks_ordered n (size (one face)))
+choices_ordered n face = keep_ordered Earlier (is_choice n face) (all_marks n (size (one face))) (all_marks_ordered n (size (one face)))
 
 pub choices_once : (n : ℕ) (face : Term) → Distinct (choices n face)
-choices_once n face = ordered-distinct Earlier earlier_strict (choices n face) (choices_ordered n face)
+choices_once n face = ordered_distinct Earlier earlier_strict (choices n face) (choices_ordered n face)
 
 -- "The empty set is a choice"
 pub empty_choice : (n : ℕ) (face : Term) → Choice n face (replicate (size (one face)) none)
@@ -269,7 +269,7 @@ rows_ordered p = go (faces p)
         (functions p))
 
 pub rows_once : (p : Problem) → Distinct (rows p)
-rows_once p = ordered-distinct EarlierRow earlier_row_strict (rows p) (rows_ordered p)
+rows_once p = ordered_distinct EarlierRow earlier_row_strict (rows p) (rows_ordered p)
 
 pub rows_are : (p : Problem) (r : Row) → (r ∈ rows p) ↔ IsRow p r
 unfolding rows

@@ -115,9 +115,9 @@ module _ {L : Type 0} (same : L → L → Bool) where
   all_alike_refl g [] = tt
   all_alike_refl g (x ∷ xs) = T_and (same x x) (all_alike same xs xs) (g x) (all_alike_refl g xs)
 
-  pairs-self : Fair same → (xs : List L) → pairs same xs xs ≡ length xs
-  pairs-self g [] = refl
-  pairs-self g (x ∷ xs) = ap suc (choose_true {b = same x x} (pairs same xs xs) 0 (T_true (g x)) ∙ pairs-self g xs)
+  pairs_self : Fair same → (xs : List L) → pairs same xs xs ≡ length xs
+  pairs_self g [] = refl
+  pairs_self g (x ∷ xs) = ap suc (choose_true {b = same x x} (pairs same xs xs) 0 (T_true (g x)) ∙ pairs_self g xs)
 
 -- Labels of what is seen
 agree_sound : Sound agree
@@ -219,7 +219,7 @@ equal_counted u v n a b = (λ e. (all e, (last_tells u v n a b).0 e), λ h. (las
   where
     all : u ≡ v → pairs_of u v ≡ size u
     all e =
-        sym (ap (λ (w : View Owner). pairs agree (preorder u) (preorder w)) e) ∙ pairs-self agree agree_fair (preorder u)
+        sym (ap (λ (w : View Owner). pairs agree (preorder u) (preorder w)) e) ∙ pairs_self agree agree_fair (preorder u)
         ∙ length_preorder u
 
 -- The subexpressions of a problem are such views

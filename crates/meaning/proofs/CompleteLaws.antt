@@ -106,8 +106,8 @@ module _ (p : Problem) (x : ℕ) where
     }
 
   -- ONE EXTENSION TELLS
-  extension-meets : (s : Filling) → AllClean x (expressions p) → Satisfies p (extended s) → filled s (patterns p) ≡ expressions p
-  extension-meets s clean f =
+  extension_meets : (s : Filling) → AllClean x (expressions p) → Satisfies p (extended s) → filled s (patterns p) ≡ expressions p
+  extension_meets s clean f =
       let e : filled (extended s) (patterns p) ≡ expressions p = (meets_each (extended s) p).1 f in
       unseen x (extended s) s (λ m. given_loud x m (s m) (gap m) (stand_loud x m (is_function p m) (is_plain p m))) 0 (patterns p)
       (subst (AllClean x) (sym e) clean)
@@ -115,8 +115,8 @@ module _ (p : Problem) (x : ℕ) where
 
 -- WHAT MEETS THE CONSTRAINTS, each of its extensions satisfies, total or not
 module _ (p : Problem) (x : ℕ) (clean : AllClean x (expressions p)) where
-  meets-satisfies : (s s' : Filling) → filled s (patterns p) ≡ expressions p → Extends s' s → Satisfies p s'
-  meets-satisfies s s' e part =
+  meets_satisfies : (s s' : Filling) → filled s (patterns p) ≡ expressions p → Extends s' s → Satisfies p s'
+  meets_satisfies s s' e part =
       (meets_each s' p).0 (unseen x s s' (λ m. agree m (part m)) 0 (patterns p) (subst (AllClean x) (sym e) clean) ∙ e)
     where
       agree : (m : ℕ) → (s m ≡ absent) ⊎ (s m ≡ s' m) → (s' m ≡ s m) ⊎ Loud x m (s m)
@@ -128,7 +128,7 @@ module _ (p : Problem) (x : ℕ) (clean : AllClean x (expressions p)) where
     pub complete_whole : Complete E p s ↔ Whole E p s
     complete_whole = (
       λ c. record { potential = c.potential; meets = (meets_each s p).1 (c.extended s c.potential (λ m. inr refl)) },
-      λ w. record { potential = w.potential; extended = λ s' h part. meets-satisfies s s' w.meets part },
+      λ w. record { potential = w.potential; extended = λ s' h part. meets_satisfies s s' w.meets part },
     )
 
     -- T-12'S WORDS
@@ -136,8 +136,8 @@ module _ (p : Problem) (x : ℕ) (clean : AllClean x (expressions p)) where
     totals_whole here consistent = (
       λ c. record {
         potential = c.potential;
-        meets = extension-meets p x s clean
+        meets = extension_meets p x s clean
             (c.extended (extended p x s) (extended_total p x E here consistent s c.potential) (λ m. given_part (s m) (gap p x m)));
       },
-      λ w. record { potential = w.potential; extended = λ s' h part. meets-satisfies s s' w.meets part },
+      λ w. record { potential = w.potential; extended = λ s' h part. meets_satisfies s s' w.meets part },
     )

@@ -16,20 +16,20 @@ use Rattle.meaning.specs.Choices.{choices}
 use Rattle.meaning.specs.Row.{Row, IsRow, EarlierRow}
 use Rattle.meaning.specs.Rows.{rows}
 use Rattle.meaning.proofs.OrderLaws.{earlier_words, earlier_asymmetric, earlier_compared, row_asymmetric}
-use Rattle.meaning.proofs.Ordered.{ordered-unique}
+use Rattle.meaning.proofs.Ordered.{ordered_unique}
 use Rattle.meaning.proofs.ChoiceLaws.{at_other, choices_are, choices_ordered, rows_are, rows_ordered}
 
 -- Two choices of a face. With one place a mark says no more than whether the node is in the set
 module _ (face : Term) (ms us : Marks) (c : Choice 1 face ms) (d : Choice 1 face us) where
-  earlier-has : ByFirst Before ms us → (k : ℕ) × FirstDifference ms us k × HasNode k ms
-  earlier-has b = (b.place, b.first, hole b.left b.on_left b.related)
+  earlier_has : ByFirst Before ms us → (k : ℕ) × FirstDifference ms us k × HasNode k ms
+  earlier_has b = (b.place, b.first, hole b.left b.on_left b.related)
     where
       hole : (m : Mark) → get_elem? ms b.place ≡ some m → Before m b.right → HasNode b.place ms
       hole none e h = absurd h
       hole (some i) e h = (i, e)
 
-  has-earlier : (k : ℕ) → FirstDifference ms us k → HasNode k ms → ByFirst Before ms us
-  has-earlier k f (i, e) =
+  has_earlier : (k : ℕ) → FirstDifference ms us k → HasNode k ms → ByFirst Before ms us
+  has_earlier k f (i, e) =
       let (u, g) = at_other ms us k (some i) (c.long ∙ sym d.long) e in
       record { place = k; first = f; left = some i; right = u; on_left = e; on_right = g; related = before u g }
     where
@@ -41,10 +41,10 @@ module _ (face : Term) (ms us : Marks) (c : Choice 1 face ms) (d : Choice 1 face
           absurd (f.differ (e ∙ ap (λ (n : ℕ). some (some n)) (omega arith) ∙ sym g))
 
   -- "the earlier is the one that has the lowest node in which they differ"
-  pub earlier-lowest : Earlier ms us ↔ ((k : ℕ) × FirstDifference ms us k × HasNode k ms)
-  earlier-lowest =
+  pub earlier_lowest : Earlier ms us ↔ ((k : ℕ) × FirstDifference ms us k × HasNode k ms)
+  earlier_lowest =
       let w = earlier_words ms us in
-      (λ h. earlier-has (w.0 h), λ h. w.1 (has-earlier h.0 h.1 h.2))
+      (λ h. earlier_has (w.0 h), λ h. w.1 (has_earlier h.0 h.1 h.2))
 
 pub choices_compared : (n : ℕ) (face : Term) (ms us : Marks) → Choice n face ms → Choice n face us → Compared Earlier ms us
 choices_compared n face ms us c d = earlier_compared ms us (c.long ∙ sym d.long)
@@ -52,10 +52,10 @@ choices_compared n face ms us c d = earlier_compared ms us (c.long ∙ sym d.lon
 pub choices_determined : (n : ℕ) (face : Term) (cs : List Marks)
     → Ordered Earlier cs → ((ms : Marks) → (ms ∈ cs) ↔ Choice n face ms) → cs ≡ choices n face
 choices_determined n face cs o f =
-    ordered-unique Earlier earlier_asymmetric cs (choices n face) o (choices_ordered n face)
+    ordered_unique Earlier earlier_asymmetric cs (choices n face) o (choices_ordered n face)
     (λ ms. let g = choices_are n face ms in (λ m. g.1 ((f ms).0 m), λ m. (f ms).1 (g.0 m)))
 
 pub rows_determined : (p : Problem) (rs : List Row) → Ordered EarlierRow rs → ((r : Row) → (r ∈ rs) ↔ IsRow p r) → rs ≡ rows p
 rows_determined p rs o f =
-    ordered-unique EarlierRow row_asymmetric rs (rows p) o (rows_ordered p)
+    ordered_unique EarlierRow row_asymmetric rs (rows p) o (rows_ordered p)
     (λ r. let g = rows_are p r in (λ m. g.1 ((f r).0 m), λ m. (f r).1 (g.0 m)))

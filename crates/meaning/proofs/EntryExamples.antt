@@ -84,8 +84,8 @@ module _ (s : Bytes) (p : Problem) (is_bytes : every (λ b. ltb b 256) s ≡ tru
   right : (solves p r ≡ true) ↔ SolutionRow p r
   right = solves_is_right p r (accepted_proper p (accept_accepted s p (by_bytes s is_bytes) e).0) m
 
-  is-solution : solves p r ≡ true → SolutionRow p r
-  is-solution = right.0
+  is_solution : solves p r ≡ true → SolutionRow p r
+  is_solution = right.0
 
   no_solution_lem : solves p r ≡ false → SolutionRow p r → ⊥
   no_solution_lem f x = true≢false (sym (right.1 x) ∙ f)
@@ -98,11 +98,11 @@ bare_in p e = subst (λ (l : List Row). bare_row ∈ l) (sym e) (Memᴰ.tail (Me
 
 hole_solves : SolutionRow p hole_row
 unfolding texts
-hole_solves = is-solution one p refl one_accepted hole_row (hole_in_lem p rows_one) refl
+hole_solves = is_solution one p refl one_accepted hole_row (hole_in_lem p rows_one) refl
 
 bare_solves : SolutionRow p bare_row
 unfolding texts
-bare_solves = is-solution one p refl one_accepted bare_row (bare_in p rows_one) refl
+bare_solves = is_solution one p refl one_accepted bare_row (bare_in p rows_one) refl
 
 bare_other : SolutionRow q bare_row → ⊥
 unfolding texts

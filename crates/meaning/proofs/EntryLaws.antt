@@ -30,8 +30,8 @@ use Rattle.meaning.proofs.ChoiceLaws.{rows_are}
 use Rattle.meaning.proofs.ProblemReading.{accept_accepted}
 use Rattle.meaning.proofs.Solutions.{solves_is_right}
 use Rattle.meaning.proofs.SecondDemand.{text_names, text_read_back, text_passes, Written, solution_written}
-use Rattle.meaning.proofs.PassLaws.{passes-is-right}
-use Rattle.meaning.proofs.AlphaTexts.{same_filling}
+use Rattle.meaning.proofs.PassLaws.{passes_is_right}
+use Rattle.meaning.proofs.AlphaTexts.{same_filling_lem}
 
 pub check_read : (s text : Bytes) (p : Problem) (is : List Item) → accept s ≡ got p → read_text text ≡ got is
     → check_call s text ≡ got (passes p is)
@@ -43,7 +43,7 @@ pub check_is_right : (s text : Bytes) (p : Problem) (is : List Item) → accept 
     → (check_call s text ≡ got true) ↔ Passes p is
 check_is_right s text p is a r =
     let e = check_read s text p is a r in
-    (λ h. (passes-is-right p is).0 (got_is (sym e ∙ h)), λ h. e ∙ ap got ((passes-is-right p is).1 h))
+    (λ h. (passes_is_right p is).0 (got_is (sym e ∙ h)), λ h. e ∙ ap got ((passes_is_right p is).1 h))
 
 -- WHAT IS WRITTEN PASSES: the text of the row that the place names
 pub record WrittenText (s : Bytes) (v : PlaceValue) (n : ℕ) (after : Bytes) : Type 0 where
@@ -141,5 +141,5 @@ passing_texts s text text' b c y y' =
       items' = js;
       reads' = r';
       solution' = (check_is_right s text' p js a r').0 y';
-      same = same_filling text text' is js b c r r';
+      same = same_filling_lem text text' is js b c r r';
     }

@@ -16,7 +16,7 @@ use Rattle.meaning.specs.Filling.{absent}
 use Rattle.meaning.specs.Read.{got}
 use Rattle.meaning.specs.Text.{Item, meant, numbers, read_text, rises, rises_after, said}
 use Rattle.meaning.proofs.Lists.{T_true, true_T, and_T, T_and, choose_true, choose_false, eqb_other}
-use Rattle.meaning.proofs.Ordered.{ordered-distinct}
+use Rattle.meaning.proofs.Ordered.{ordered_distinct}
 use Rattle.meaning.proofs.TextReading.{text_rises}
 
 -- Neighbours that rise, and any two
@@ -46,7 +46,7 @@ ordered_rises (m ∷ ms) o = ordered_after m ms o
 
 -- "A doubled metavariable thus no longer reaches a no"
 pub never_doubled : (s : Bytes) (is : List Item) → read_text s ≡ got is → Distinct (numbers is)
-never_doubled s is e = ordered-distinct ◌<◌ (λ m l. omega arith) (numbers is) (rises_ordered (numbers is) (text_rises s is e))
+never_doubled s is e = ordered_distinct ◌<◌ (λ m l. omega arith) (numbers is) (rises_ordered (numbers is) (text_rises s is e))
 
 -- What a text says of a metavariable
 pub said_first : (i : Item) (is : List Item) (m : ℕ) → eqb m i.0 ≡ true → said (i ∷ is) m ≡ meant i.1

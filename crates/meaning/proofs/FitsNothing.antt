@@ -31,9 +31,9 @@ use Rattle.meaning.proofs.ChoiceLaws.{rows_are}
 use Rattle.meaning.proofs.OneWay.{no_faces_lem}
 use Rattle.meaning.proofs.AgreeLaws.{both_ways_no_rows}
 use Rattle.meaning.proofs.PlaceLaws.{not_large}
-use Rattle.meaning.proofs.OneCall.{search_on, when-placed}
-use Rattle.meaning.proofs.WriteLaws.{when-nowhere, write_on}
-use Rattle.meaning.proofs.PassLaws.{passes-is-right}
+use Rattle.meaning.proofs.OneCall.{search_on, when_placed}
+use Rattle.meaning.proofs.WriteLaws.{when_nowhere, write_on}
+use Rattle.meaning.proofs.PassLaws.{passes_is_right}
 use Rattle.meaning.proofs.EntryLaws.{check_read}
 
 -- "14 isn't looked for in it": what can be read and has at most 8 functions is accepted, whatever the sizes of its faces
@@ -77,7 +77,7 @@ starts_past s p a e = rw a (ap (λ (rs : List Row). got (place_value (place_of r
 
 none_passes : (p : Problem) (is : List Item) → ((σ : Filling) → Solution p σ → ⊥) → passes p is ≡ false
 none_passes p is none =
-    by_test (passes p is) (λ y. absurd (none (said is) ((passes-is-right p is).0 y))) (λ n. n)
+    by_test (passes p is) (λ y. absurd (none (said is) ((passes_is_right p is).0 y))) (λ n. n)
 
 -- A LETTER BOTH WAYS FITS NOTHING
 pub fits_nothing : (s : Bytes) (p : Problem) → All Byte s → accept s ≡ got p → both_ways p ≡ true → FitsNothing s p
@@ -87,10 +87,10 @@ fits_nothing s p b a e = record {
   none_listed = none_listed_lem p none;
   starts = starts_past s p a none;
   searched = λ n reply l call.
-      let (given, keeps, same) = when-placed p (place_value past) n past [] (accept_accepted s p b a).0 l
+      let (given, keeps, same) = when_placed p (place_value past) n past [] (accept_accepted s p b a).0 l
       (record { is_place = tt; is_value = refl }) (record { before = []; whole = none; begins = refl }) (search_on p a call) in
       same ∙ ap reply_value (keeps_none refl keeps);
-  written = λ v buffer after answer w. when-nowhere p v buffer (λ r n. no_row_lem r n.is_place) (write_on p a w);
+  written = λ v buffer after answer w. when_nowhere p v buffer (λ r n. no_row_lem r n.is_place) (write_on p a w);
   checked = λ text is r. check_read s text p is a r ∙ ap got (none_passes p is no_solution_lem);
 }
   where

@@ -13,7 +13,7 @@ use Rattle.meaning.specs.FullList.{EarlierListed, IsFullList, Listed}
 use Rattle.meaning.specs.Candidate.{candidate, full_list, solution_rows, solves}
 use Rattle.meaning.proofs.Lists.{map_mem, mem_map}
 use Rattle.meaning.proofs.OrderLaws.{row_asymmetric}
-use Rattle.meaning.proofs.Ordered.{earlier_row_strict, keep-ordered, ordered-unique}
+use Rattle.meaning.proofs.Ordered.{earlier_row_strict, keep_ordered, ordered_unique}
 use Rattle.meaning.proofs.ChoiceLaws.{rows_are, rows_ordered}
 use Rattle.meaning.proofs.Proper.{Proper}
 use Rattle.meaning.proofs.Solutions.{listed_once, listed_solution, row_listed, solution_listed}
@@ -33,11 +33,11 @@ listed_ordered : (p : Problem) → Ordered EarlierListed (full_list p)
 unfolding full_list solution_rows
 listed_ordered p =
     map_ordered EarlierRow EarlierListed (λ (r : Row). (r, candidate p r)) (λ x y h. h) _
-    (keep-ordered EarlierRow (solves p) (rows p) (rows_ordered p))
+    (keep_ordered EarlierRow (solves p) (rows p) (rows_ordered p))
 
 module _ (p : Problem) (c : Proper p) where
-  pub full-list-is : IsFullList p (full_list p)
-  full-list-is = record {
+  pub full_list_is : IsFullList p (full_list p)
+  full_list_is = record {
     ordered = listed_ordered p;
     members = λ r σ. (
       λ m. let x = listed_solution p r σ c m in ((rows_are p r).0 x.0, x.1, x.2),
@@ -48,8 +48,8 @@ module _ (p : Problem) (c : Proper p) where
   module _ (full : List Listed) (is_full : IsFullList p full) where
     pub full_list_only : full ≡ full_list p
     full_list_only =
-        ordered-unique EarlierListed (λ x y. row_asymmetric x.0 y.0) full (full_list p) is_full.ordered (listed_ordered p)
-        (λ x. let f = is_full.members x.0 x.1 in let g = full-list-is.members x.0 x.1 in (λ m. g.1 (f.0 m), λ m. f.1 (g.0 m)))
+        ordered_unique EarlierListed (λ x y. row_asymmetric x.0 y.0) full (full_list p) is_full.ordered (listed_ordered p)
+        (λ x. let f = is_full.members x.0 x.1 in let g = full_list_is.members x.0 x.1 in (λ m. g.1 (f.0 m), λ m. f.1 (g.0 m)))
 
     -- every solution
     pub full_list_every : (σ : Filling) → Solution p σ → σ ∈ map (λ (x : Listed). x.1) full

@@ -11,11 +11,11 @@ use Rattle.meaning.specs.Problem.{places_of, plain, standings}
 use Rattle.meaning.specs.Filling.{Entry, Filling, IsBody, absent, argument, body, body_or, fill, fill_handler, filled, plug, value}
 use Rattle.meaning.specs.Solution.{has_hole, needs}
 use Rattle.meaning.proofs.Lists.{never}
-use Rattle.meaning.proofs.OneWay.{one-way-means}
+use Rattle.meaning.proofs.OneWay.{one_way_means}
 use Rattle.meaning.proofs.Proper.{Proper}
-use Rattle.meaning.proofs.Slots.{applied_slot, faced-expression, in_arguments_lem, slot_applied, slot_face, slots, standing_slot, standing_at}
+use Rattle.meaning.proofs.Slots.{applied_slot, faced_expression, in_arguments_lem, slot_applied, slot_face, slots, standing_slot, standing_at}
 use Rattle.meaning.proofs.Sources.{Walked, walked}
-use Rattle.meaning.proofs.Candidate.{Fitting, needed-source, source-right}
+use Rattle.meaning.proofs.Candidate.{Fitting, needed_source, source_right}
 use Rattle.meaning.specs.Textbook.{ElementOf, ExpressionFunction, IfGiven, Language}
 use Rattle.meaning.proofs.CompleteLaws.{Whole}
 
@@ -24,8 +24,8 @@ module _ (E : Language) (p : Problem) (s : Filling) (c : Proper p) (w : Whole E 
   walk = walked (fill_handler s) 0 0 (patterns p) (expressions p) w.meets
 
   -- A function that is left out would stay as a slot
-  function-given : (f : ℕ) → f ∈ applied (patterns p) → s f ≡ absent → ⊥
-  function-given f a e =
+  function_given : (f : ℕ) → f ∈ applied (patterns p) → s f ≡ absent → ⊥
+  function_given f a e =
       let (n, d, i) = applied_slot (patterns p) c.pattern f a in
       let (x, q, is, same) = slot_face 0 0 (patterns p) (expressions p) walk.found (function f n) d walk.defined i in
       let kids : Terms = fill (fill_handler s) x.under x.children in
@@ -33,18 +33,18 @@ module _ (E : Language) (p : Problem) (s : Filling) (c : Proper p) (w : Whole E 
       subst (λ (z : Slot). fill_handler s x.under z kids ≡ x.term) is (walk.satisfied x q) in
       let stays : plug (argument kids) (body_or f absent) ≡ x.term =
       subst (λ (y : Entry Term). plug (argument kids) (body_or f y) ≡ x.term) e filled-so in
-      (subst (λ (t : Term). IsExpression (one t)) (sym stays) (faced-expression p c walk.found walk.defined x q)).0
+      (subst (λ (t : Term). IsExpression (one t)) (sym stays) (faced_expression p c walk.found walk.defined x q)).0
 
-  pub body-given : (f : ℕ) → f ∈ applied (patterns p) → ExpressionFunction E (places_of p f) (s f)
-  body-given f a = go (w.potential.functions f a)
+  pub body_given : (f : ℕ) → f ∈ applied (patterns p) → ExpressionFunction E (places_of p f) (s f)
+  body_given f a = go (w.potential.functions f a)
     where
       go : IfGiven (ExpressionFunction E (places_of p f)) (s f) → ExpressionFunction E (places_of p f) (s f)
-      go (inl e) = absurd (function-given f a e)
+      go (inl e) = absurd (function_given f a e)
       go (inr b) = b
 
   -- No letter is used both ways: it would have both a body and a value
-  pub whole-one-way : both_ways p ≡ false
-  whole-one-way = (one-way-means p c.small_applied).1 (λ m a q. go m (body-given m a) (w.potential.elements m q))
+  pub whole_one_way : both_ways p ≡ false
+  whole_one_way = (one_way_means p c.small_applied).1 (λ m a q. go m (body_given m a) (w.potential.elements m q))
     where
       go : (m : ℕ) → ExpressionFunction E (places_of p m) (s m) → IfGiven (ElementOf E) (s m) → ⊥
       go m (b, d, shape, closed, in_b) (inl e) = never (cc)
@@ -53,18 +53,18 @@ module _ (E : Language) (p : Problem) (s : Filling) (c : Proper p) (w : Whole E 
   fitting : Fitting p s (λ f. body_or f (s f))
   fitting = record {
     proper = c;
-    one_way = whole-one-way;
+    one_way = whole_one_way;
     meets = w.meets;
-    agree = λ f a. let (b, e, shape, closed, in_b) = body-given f a in e ∙ ap (λ (y : Entry Term). body (body_or f y)) (sym e);
-    shapes = λ f a. let (b, e, shape, closed, in_b) = body-given f a in
+    agree = λ f a. let (b, e, shape, closed, in_b) = body_given f a in e ∙ ap (λ (y : Entry Term). body (body_or f y)) (sym e);
+    shapes = λ f a. let (b, e, shape, closed, in_b) = body_given f a in
         subst (λ (y : Entry Term). IsBody (places_of p f) (one (body_or f y))) (sym e) shape;
   }
 
   -- A metavariable that needs a value has one
   pub value_given : (m : ℕ) (at : Where) → (m, at) ∈ standings (patterns p) → needs s at ≡ true → (t : Term) × (s m ≡ value t)
   value_given m at i n =
-      let (x, q, e) = needed-source p s (λ f. body_or f (s f)) fitting m at i n in
-      (x.term, ap s (sym e) ∙ (source-right p s (λ f. body_or f (s f)) fitting x q).holds)
+      let (x, q, e) = needed_source p s (λ f. body_or f (s f)) fitting m at i n in
+      (x.term, ap s (sym e) ∙ (source_right p s (λ f. body_or f (s f)) fitting x q).holds)
 
 -- The function in whose argument something stands is one
 standing_applied : (u : Terms) (m f i : ℕ) → (m, argument_of f i) ∈ standings u → f ∈ applied u

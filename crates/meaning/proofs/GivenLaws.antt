@@ -25,7 +25,7 @@ use Rattle.meaning.specs.Given.{TextOf, TextsGiven, named_by}
 use Rattle.meaning.proofs.Proper.{accepted_proper}
 use Rattle.meaning.proofs.Lists.{map_mem}
 use Rattle.meaning.proofs.ChoiceLaws.{rows_are}
-use Rattle.meaning.proofs.Candidate.{row-solution-unique}
+use Rattle.meaning.proofs.Candidate.{row_solution_unique}
 use Rattle.meaning.proofs.Solutions.{solves_is_right}
 use Rattle.meaning.proofs.TextLaws.{text_says}
 use Rattle.meaning.proofs.SecondDemand.{text_names, text_read_back}
@@ -50,10 +50,10 @@ module _ (p : Problem) (accepted : Accepted p) (r : Row) (σ : Filling) (is_row 
   named = record { is_place = is_row; is_value = refl }
 
   -- its text names the solution
-  pub text-named : named_by (row_text p r) ≡ got σ
-  text-named =
+  pub text_named : named_by (row_text p r) ≡ got σ
+  text_named =
       text_names (row_text p r) (text_read_back p r accepted in_rows tested)
-      ∙ ap got (text_says p r accepted tested ∙ sym (fun_ext (row-solution-unique p r σ (accepted_proper p accepted) solution bodies)))
+      ∙ ap got (text_says p r accepted tested ∙ sym (fun_ext (row_solution_unique p r σ (accepted_proper p accepted) solution bodies)))
 
   row_written : (before after : Bytes) (a : Answer ℕ) → largest_written ≤ length before → WriteOn p (given_row (r, σ)) before a after
       → (n : ℕ) × (a ≡ got n)
@@ -62,7 +62,7 @@ module _ (p : Problem) (accepted : Accepted p) (r : Row) (σ : Filling) (is_row 
 
   text_of : (text : Bytes) → TextOf p (given_row (r, σ)) text → named_by text ≡ got σ
   text_of text t =
-      ap named_by (t.front ∙ written_text p (given_row (r, σ)) t.before accepted r named t.call) ∙ text-named
+      ap named_by (t.front ∙ written_text p (given_row (r, σ)) t.before accepted r named t.call) ∙ text_named
 
 -- THE TEXTS OF THE FOUNDS, by the rows that a list of calls found
 module _ (p : Problem) (accepted : Accepted p) (full : List Listed) (is_full : IsFullList p full) where
@@ -77,22 +77,22 @@ module _ (p : Problem) (accepted : Accepted p) (full : List Listed) (is_full : I
     listed_text : (text : Bytes) → TextOf p (given_row x) text → named_by text ≡ got x.1
     listed_text = text_of p accepted x.0 x.1 is.0 is.1 is.2
 
-  names-each : (xs : List Listed) → ((x : Listed) → x ∈ xs → x ∈ full) → (texts : List Bytes)
+  names_each : (xs : List Listed) → ((x : Listed) → x ∈ xs → x ∈ full) → (texts : List Bytes)
       → Pairwise (TextOf p) (map given_row xs) texts → map named_by texts ≡ map (λ (x : Listed). got x.1) xs
-  names-each [] h [] t = refl
-  names-each [] h (text ∷ texts) t = absurd t
-  names-each (x ∷ xs) h [] t = absurd t
-  names-each (x ∷ xs) h (text ∷ texts) t =
+  names_each [] h [] t = refl
+  names_each [] h (text ∷ texts) t = absurd t
+  names_each (x ∷ xs) h [] t = absurd t
+  names_each (x ∷ xs) h (text ∷ texts) t =
       ap₂ {C = List (Answer Filling)} (λ y ys. y ∷ ys) (listed_text x (h x (Memᴰ.head refl)) text t.0)
-      (names-each xs (λ y m. h y (Memᴰ.tail m)) texts t.1)
+      (names_each xs (λ y m. h y (Memᴰ.tail m)) texts t.1)
 
-  pub texts-given : (given : List PlaceValue) → given ≡ map given_row (take (length given) full) → TextsGiven p given full
-  texts-given given e = record {
+  pub texts_given : (given : List PlaceValue) → given ≡ map given_row (take (length given) full) → TextsGiven p given full
+  texts_given given e = record {
     written = λ v m before after a room w.
         let (x, i, same) = map_mem given_row v (take (length given) full) (subst (λ (l : List PlaceValue). v ∈ l) e m) in
         listed_written x (take_mem (length given) full i) before after a room
         (subst (λ (u : PlaceValue). WriteOn p u before a after) same w);
     names = λ texts t.
-        names-each (take (length given) full) (λ x m. take_mem (length given) full m) texts
+        names_each (take (length given) full) (λ x m. take_mem (length given) full m) texts
         (subst (λ (l : List PlaceValue). Pairwise (TextOf p) l texts) e t);
   }

@@ -26,39 +26,39 @@ agrees_self o = own_refl same_variable variable_refl o
 
 module _ (h : Handler) where
   -- One node, when its children are known to walk as they should
-  meet-in : (k n : ℕ) (l : Nameless) (c : Terms) (t : Term) (below : Option (List Face))
+  meet_in : (k n : ℕ) (l : Nameless) (c : Terms) (t : Term) (below : Option (List Face))
       → (fill h (inner l k) c ≡ t.1 → AllO (Satisfied h) below) → fill_label h k l (fill h (inner l k) c) ≡ t
       → AllO (Satisfied h) (meet k n l c t below)
-  meet-in k n (own o) c t below f e =
+  meet_in k n (own o) c t below f e =
       guard_in (Satisfied h) (agrees o t.0) below (subst (λ (x : Term). T (agrees o x.0)) e (agrees_self o))
       (f (ap (λ (x : Term). x.1) e))
-  meet-in k n (slot z) c t below f e = (e, tt)
+  meet_in k n (slot z) c t below f e = (e, tt)
 
-  meet-out : (k n : ℕ) (l : Nameless) (c : Terms) (t : Term) (below : Option (List Face))
+  meet_out : (k n : ℕ) (l : Nameless) (c : Terms) (t : Term) (below : Option (List Face))
       → (AllO (Satisfied h) below → fill h (inner l k) c ≡ t.1) → AllO (Satisfied h) (meet k n l c t below)
       → fill_label h k l (fill h (inner l k) c) ≡ t
-  meet-out k n (own o) c t below f g =
+  meet_out k n (own o) c t below f g =
       let r = guard_out (Satisfied h) (agrees o t.0) below g in pair_eq (agrees_eq o t.0 r.0) (f r.1)
-  meet-out k n (slot z) c t below f g = g.0
+  meet_out k n (slot z) c t below f g = g.0
 
-  pub walk-in : (k n : ℕ) (p e : Terms) → fill h k p ≡ e → AllO (Satisfied h) (walk k n p e)
-  walk-in k n nil nil q = tt
-  walk-in k n nil (cons l c s) q = never (cc)
-  walk-in k n (cons l c s) nil q = never (cc)
-  walk-in k n (cons l c s) (cons l' c' s') q =
+  pub walk_in : (k n : ℕ) (p e : Terms) → fill h k p ≡ e → AllO (Satisfied h) (walk k n p e)
+  walk_in k n nil nil q = tt
+  walk_in k n nil (cons l c s) q = never (cc)
+  walk_in k n (cons l c s) nil q = never (cc)
+  walk_in k n (cons l c s) (cons l' c' s') q =
       join_in (Satisfied h) (meet k n l c (l', c') (walk (inner l k) (suc n) c c')) (walk k (suc n + size c') s s')
-      (meet-in k n l c (l', c') (walk (inner l k) (suc n) c c') (walk-in (inner l k) (suc n) c c') (pair_eq (cc) (cc)))
-      (walk-in k (suc n + size c') s s' (cc))
+      (meet_in k n l c (l', c') (walk (inner l k) (suc n) c c') (walk_in (inner l k) (suc n) c c') (pair_eq (cc) (cc)))
+      (walk_in k (suc n + size c') s s' (cc))
 
-  pub walk-out : (k n : ℕ) (p e : Terms) → AllO (Satisfied h) (walk k n p e) → fill h k p ≡ e
-  walk-out k n nil nil g = refl
-  walk-out k n nil (cons l c s) g = absurd g
-  walk-out k n (cons l c s) nil g = absurd g
-  walk-out k n (cons l c s) (cons l' c' s') g =
+  pub walk_out : (k n : ℕ) (p e : Terms) → AllO (Satisfied h) (walk k n p e) → fill h k p ≡ e
+  walk_out k n nil nil g = refl
+  walk_out k n nil (cons l c s) g = absurd g
+  walk_out k n (cons l c s) nil g = absurd g
+  walk_out k n (cons l c s) (cons l' c' s') g =
       let r = join_out (Satisfied h) (meet k n l c (l', c') (walk (inner l k) (suc n) c c')) (walk k (suc n + size c') s s') g in
-      graft_eq (meet-out k n l c (l', c') (walk (inner l k) (suc n) c c') (walk-out (inner l k) (suc n) c c') r.0)
-      (walk-out k (suc n + size c') s s' r.1)
+      graft_eq (meet_out k n l c (l', c') (walk (inner l k) (suc n) c c') (walk_out (inner l k) (suc n) c c') r.0)
+      (walk_out k (suc n + size c') s s' r.1)
 
 -- THE THEOREM
 pub lockstep : (h : Handler) (k n : ℕ) (p e : Terms) → (fill h k p ≡ e) ↔ AllO (Satisfied h) (walk k n p e)
-lockstep h k n p e = (walk-in h k n p e, walk-out h k n p e)
+lockstep h k n p e = (walk_in h k n p e, walk_out h k n p e)

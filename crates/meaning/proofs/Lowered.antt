@@ -276,49 +276,49 @@ abbrev pub Takes : Term → Marks → (ℕ → Term) → Type 0
 Takes face ms a = (k i : ℕ) → get_elem? ms k ≡ some (some i) → get_elem? (lowers face) k ≡ some (some (a i))
 
 module _ (n : ℕ) (face : Term) (ms : Marks) where
-  marked-term : Choice n face ms → (k i : ℕ) → get_elem? ms k ≡ some (some i)
+  marked_term : Choice n face ms → (k i : ℕ) → get_elem? ms k ≡ some (some i)
       → (a : Term) × (get_elem? (lowers face) k ≡ some (some a)) × (get_elem? (views face) k ≡ some (view (owner_of []) (one a)))
-  marked-term c k i e =
+  marked_term c k i e =
       let (x, v, w) = node_at face ms k (some i) c.long e in
       let (a, q) = term_free x.0 x.1 (c.unbound k i (node_view x) e v) in
       (a, w ∙ ap some q, v ∙ ap some (lowered_view x.0 x.1 a q))
 
-  place-term : Choice n face ms → (i : ℕ)
+  place_term : Choice n face ms → (i : ℕ)
       → (a : Term) × ((k : ℕ) → get_elem? ms k ≡ some (some i) → get_elem? (lowers face) k ≡ some (some a))
-  place-term c i = go (marked i ms)
+  place_term c i = go (marked i ms)
     where
       go : ((k : ℕ) × (get_elem? ms k ≡ some (some i))) ⊎ ((k : ℕ) → get_elem? ms k ≡ some (some i) → ⊥)
           → (a : Term) × ((k : ℕ) → get_elem? ms k ≡ some (some i) → get_elem? (lowers face) k ≡ some (some a))
       go (inr h) = (face, λ k e. absurd (h k e))
       go (inl (j, d)) =
-          let (a, p, v) = marked-term c j i d in (
+          let (a, p, v) = marked_term c j i d in (
             a,
             λ k e.
-                let (b, q, w) = marked-term c k i e in
+                let (b, q, w) = marked_term c k i e in
                 let same = some-injective (view (owner_of []) (one b)) (view (owner_of []) (one a))
                 (sym w ∙ sym (c.equal j k i d e) ∙ v) in
                 q ∙ ap {B = Option (Option Term)} (λ (t : Term). some (some t)) (view_injective b a same),
           )
 
-  choice-takes : Choice n face ms → (a : ℕ → Term) × Takes face ms a
-  choice-takes c = (λ i. (place-term c i).0, λ k i e. (place-term c i).1 k e)
+  choice_takes : Choice n face ms → (a : ℕ → Term) × Takes face ms a
+  choice_takes c = (λ i. (place_term c i).0, λ k i e. (place_term c i).1 k e)
 
-  takes-view : length ms ≡ size (one face) → (a : ℕ → Term) → Takes face ms a
+  takes_view : length ms ≡ size (one face) → (a : ℕ → Term) → Takes face ms a
       → (k i : ℕ) → get_elem? ms k ≡ some (some i) → get_elem? (views face) k ≡ some (view (owner_of []) (one (a i)))
-  takes-view l a h k i e =
+  takes_view l a h k i e =
       let (x, v, w) = node_at face ms k (some i) l e in
       v ∙ ap some (lowered_view x.0 x.1 (a i) (some-injective (node_lowered x) (some (a i)) (sym w ∙ h k i e)))
 
-  takes-choice : length ms ≡ size (one face) → ((k i : ℕ) → get_elem? ms k ≡ some (some i) → i < n) → Apart ms (views face) → (a : ℕ → Term)
+  takes_choice : length ms ≡ size (one face) → ((k i : ℕ) → get_elem? ms k ≡ some (some i) → i < n) → Apart ms (views face) → (a : ℕ → Term)
       → Takes face ms a → Choice n face ms
-  takes-choice l low apart a h =
+  takes_choice l low apart a h =
       record {
         long = l;
         places = low;
-        equal = λ j k i d e. takes-view l a h j i d ∙ sym (takes-view l a h k i e);
+        equal = λ j k i d e. takes_view l a h j i d ∙ sym (takes_view l a h k i e);
         unbound = λ k i u d e.
             let p : u ≡ view (owner_of []) (one (a i)) =
-            some-injective u (view (owner_of []) (one (a i))) (sym e ∙ takes-view l a h k i d) in
+            some-injective u (view (owner_of []) (one (a i))) (sym e ∙ takes_view l a h k i d) in
             ap uses_face p ∙ above_unused 0 (one (a i));
         apart = apart;
       }
@@ -326,4 +326,4 @@ module _ (n : ℕ) (face : Term) (ms : Marks) where
 -- Main theorem: a choice is a set of nodes, none below another, whose lowered subexpressions, place by place, are all defined and equal
 pub choice_lowered : (n : ℕ) (face : Term) (ms : Marks) → length ms ≡ size (one face) → ((k i : ℕ) → get_elem? ms k ≡ some (some i) → i < n)
     → Apart ms (views face) → Choice n face ms ↔ ((a : ℕ → Term) × Takes face ms a)
-choice_lowered n face ms l low apart = (choice-takes n face ms, λ h. takes-choice n face ms l low apart h.0 h.1)
+choice_lowered n face ms l low apart = (choice_takes n face ms, λ h. takes_choice n face ms l low apart h.0 h.1)

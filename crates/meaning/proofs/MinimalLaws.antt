@@ -20,15 +20,15 @@ use Rattle.meaning.specs.Text.{text_of}
 use Rattle.meaning.specs.Read.{got}
 use Rattle.meaning.specs.Readable.{Accepted}
 use Rattle.meaning.proofs.Lists.{by_test, choose_false, choose_true, eqb_other, eqb_self, mem_is_in, never, not_is_in}
-use Rattle.meaning.proofs.OneWay.{one-way-means}
+use Rattle.meaning.proofs.OneWay.{one_way_means}
 use Rattle.meaning.proofs.Proper.{Proper, accepted_proper, by_role, functions_applied}
 use Rattle.meaning.proofs.Solutions.{solutions_unique}
 use Rattle.meaning.proofs.TextReading.{text_bytes}
 use Rattle.meaning.proofs.TextLaws.{text_readable}
 use Rattle.meaning.proofs.SecondDemand.{Written, solution_written, text_fits, text_names, text_read_back}
 use Rattle.meaning.proofs.CompleteLaws.{Whole}
-use Rattle.meaning.proofs.IdleLaws.{needed-same}
-use Rattle.meaning.proofs.Gaps.{body-given, needs_same, standing_plain, value_given, whole-one-way}
+use Rattle.meaning.proofs.IdleLaws.{needed_same}
+use Rattle.meaning.proofs.Gaps.{body_given, needs_same, standing_plain, value_given, whole_one_way}
 
 -- WHAT IS OPEN LEFT OUT: it stays as a slot either way
 value_alike : (m : ℕ) (e : Entry Term) → value_or m (without_open e) ≡ value_or m e
@@ -115,7 +115,7 @@ module _ (E : Language) (robust : Robust E) (p : Problem) (a : Accepted p) where
       same_body f i = go (part.0 f)
         where
           go : (π f ≡ absent) ⊎ (π f ≡ left_out σ f) → π f ≡ σ f
-          go (inl e) = let d = (body-given E p π c w f i).1 in never (cc)
+          go (inl e) = let d = (body_given E p π c w f i).1 in never (cc)
           go (inr e) = let d = (s.bodies f i).1 in e ∙ ap without_open d ∙ sym d
 
       -- .. and what it leaves out is idle
@@ -158,7 +158,7 @@ module _ (E : Language) (robust : Robust E) (p : Problem) (a : Accepted p) where
         functions = λ f i. without_either (IfGiven (ExpressionFunction E (places_of p f))) m f (inl refl) (w.potential.functions f i);
         elements = λ k i. without_either (IfGiven (ElementOf E)) m k (inl refl) (w.potential.elements k i);
       };
-      meets = needed-same s (without m) (patterns p) c.pattern
+      meets = needed_same s (without m) (patterns p) c.pattern
           (λ f i. without_other m f (λ e. nf (subst (λ (k : ℕ). k ∈ applied (patterns p)) e i)))
           (λ k at i n. without_other m k (λ e. true≢false (sym n ∙ idle at (subst (λ (y : ℕ). ◌∈◌ {A = ℕ × Where} (y, at) (standings (patterns p))) e i))))
           0
@@ -195,7 +195,7 @@ module _ (E : Language) (robust : Robust E) (p : Problem) (a : Accepted p) where
     opened_left_out = fun_ext (λ m. sym (open_without (is_plain p m) (s m) ∙ nothing_open m))
 
     opened_body : (f : ℕ) → f ∈ applied (patterns p) → opened f ≡ s f
-    opened_body f i = let e = (body-given E p s c w f i).1 in ap (open_entry (is_plain p f)) e ∙ sym e
+    opened_body f i = let e = (body_given E p s c w f i).1 in ap (open_entry (is_plain p f)) e ∙ sym e
 
     opened_needs : (m : ℕ) (at : Where) → (m, at) ∈ standings (patterns p) → needs opened at ≡ needs s at
     opened_needs = needs_same (patterns p) s opened opened_body
@@ -213,7 +213,7 @@ module _ (E : Language) (robust : Robust E) (p : Problem) (a : Accepted p) where
             never (cc)
 
     one_way_lem : (m : ℕ) → m ∈ plain (patterns p) → m ∈ applied (patterns p) → ⊥
-    one_way_lem m i j = (one-way-means p c.small_applied).0 (whole-one-way E p s c w) m j i
+    one_way_lem m i j = (one_way_means p c.small_applied).0 (whole_one_way E p s c w) m j i
 
     opened_element : (m : ℕ) → m ∈ plain (patterns p)
         → (opened m ≡ left_open) ⊎ ((t : Term) × (opened m ≡ value t) × IsExpression (one t) × ClosedTerm t)
@@ -230,9 +230,9 @@ module _ (E : Language) (robust : Robust E) (p : Problem) (a : Accepted p) where
 
     opened_solution : Solution p opened
     opened_solution = record {
-      one_way = whole-one-way E p s c w;
+      one_way = whole_one_way E p s c w;
       meets = sym (left_out_filled opened (patterns p)) ∙ ap (λ (τ : Filling). filled τ (patterns p)) (sym opened_left_out) ∙ w.meets;
-      bodies = λ f i. let (b, e, shape, closed, in_b) = body-given E p s c w f i in (b, opened_body f i ∙ e, shape, closed);
+      bodies = λ f i. let (b, e, shape, closed, in_b) = body_given E p s c w f i in (b, opened_body f i ∙ e, shape, closed);
       values = opened_element;
       others = opened_other;
       open_idle = open_idle_lem;

@@ -29,7 +29,7 @@ use Rattle.meaning.specs.Row.{Row, row_body}
 use Rattle.meaning.specs.Face.{Face, agrees, walk, faces}
 use Rattle.meaning.specs.Value.{Source, source_at, source_of, lowest_hole, from_hole, from_application, sources_in, sources}
 use Rattle.meaning.proofs.Lists.{never, choose_true, choose_false, true_T, each_mem}
-use Rattle.meaning.proofs.OneWay.{faces-walk}
+use Rattle.meaning.proofs.OneWay.{faces_walk}
 use Rattle.meaning.proofs.ShiftLaws.{pair_eq, ltb_yes, ltb_no, relabel_size, shift_closed, shift_lower_term}
 use Rattle.meaning.proofs.Sources.{source_at_lem, lowest_is}
 use Rattle.meaning.proofs.Renaming.{cons_eq, one_injective}
@@ -92,19 +92,19 @@ module _ {E L M : Type 0} (into : L → E → E) (f : E → L → M) where
   abbrev pub relabel_tree : E → Tree L → Tree M
   relabel_tree e t = (f e t.0, relabel into f (into t.0 e) t.1)
 
-  pub relabel-stands : {n : ℕ} {u : Forest L} {t : Tree L} → Stands n u t → (e : E)
+  pub relabel_stands : {n : ℕ} {u : Forest L} {t : Tree L} → Stands n u t → (e : E)
       → (e' : E) × Stands n (relabel into f e u) (relabel_tree e' t)
-  relabel-stands here e = (e, here)
-  relabel-stands (below {l} h) e = let r = relabel-stands h (into l e) in (r.0, below r.1)
-  relabel-stands (beside {l} {c} {n} h d) e =
-      let r = relabel-stands h e in (r.0, beside r.1 (d ∙ ap (λ (k : ℕ). suc (k + n)) (sym (relabel_size into f (into l e) c))))
+  relabel_stands here e = (e, here)
+  relabel_stands (below {l} h) e = let r = relabel_stands h (into l e) in (r.0, below r.1)
+  relabel_stands (beside {l} {c} {n} h d) e =
+      let r = relabel_stands h e in (r.0, beside r.1 (d ∙ ap (λ (k : ℕ). suc (k + n)) (sym (relabel_size into f (into l e) c))))
 
-  pub stands-relabel : {n : ℕ} {t : Tree M} (u : Forest L) (e : E) → Stands n (relabel into f e u) t
+  pub stands_relabel : {n : ℕ} {t : Tree M} (u : Forest L) (e : E) → Stands n (relabel into f e u) t
       → (e' : E) × (t' : Tree L) × Stands n u t' × (t ≡ relabel_tree e' t')
-  stands-relabel (cons l c s) e here = (e, (l, c), here, refl)
-  stands-relabel (cons l c s) e (below h) = let r = stands-relabel c (into l e) h in (r.0, r.1, below r.2, r.3)
-  stands-relabel (cons l c s) e (beside {n} h d) =
-      let r = stands-relabel s e h in (r.0, r.1, beside r.2 (d ∙ ap (λ (k : ℕ). suc (k + n)) (relabel_size into f (into l e) c)), r.3)
+  stands_relabel (cons l c s) e here = (e, (l, c), here, refl)
+  stands_relabel (cons l c s) e (below h) = let r = stands_relabel c (into l e) h in (r.0, r.1, below r.2, r.3)
+  stands_relabel (cons l c s) e (beside {n} h d) =
+      let r = stands_relabel s e h in (r.0, r.1, beside r.2 (d ∙ ap (λ (k : ℕ). suc (k + n)) (relabel_size into f (into l e) c)), r.3)
 
 -- A face's own node. Where the first node of e has the number n, it is j nodes further on
 abbrev Within : ℕ → Terms → Face → Type 0
@@ -194,7 +194,7 @@ closed_more j k (cons l c s) h d =
 -- A closed subterm of a lowered term is the subterm of the term itself at that node
 lowered_stands : {i : ℕ} {v : Term} (n : ℕ) (t u : Term) → lower_term n t ≡ some u → Stands i (one u) v → ClosedTerm v → Stands i (one t) v
 lowered_stands {i} {v} n t u e h d =
-    let r = relabel-stands inner (shift_label n) h 0 in
+    let r = relabel_stands inner (shift_label n) h 0 in
     let same : shift n r.0 (one v) ≡ one v = shift_closed n r.0 (one v) (closed_more 0 r.0 (one v) (omega arith) d) in
     subst (λ (x : Tree Nameless). Stands i (one t) x) (one_injective (relabel_tree inner (shift_label n) r.0 v) v same)
     (subst (λ (x : Term). Stands i (one x) (relabel_tree inner (shift_label n) r.0 v)) (shift_lower_term n t u e) r.1)
@@ -353,7 +353,7 @@ walk_node k n p e xs q x m =
 
 pub face_node_lem : (p : Problem) (xs : List Face) → faces p ≡ some xs → (x : Face) → x ∈ xs → node_at x.node (expressions p) ≡ some x.term
 face_node_lem p xs q x m =
-    let r = walk_node 0 0 (patterns p) (expressions p) xs (faces-walk p xs q) x m in
+    let r = walk_node 0 0 (patterns p) (expressions p) xs (faces_walk p xs q) x m in
     let j : x.node - 0 ≡ x.node = omega arith in
     rw j at r.1
 
@@ -365,7 +365,7 @@ source_node p r s q d = go (faces p) refl q
     go : (o : Option (List Face)) → faces p ≡ o → s ∈ sources_in (row_body p r) (or_none o) → node_at s.node (expressions p) ≡ some s.term
     go none e m = absurd (Memᴰ.not-nil m)
     go (some xs) e m =
-        let w = sources_within (row_body p r) (expressions p) xs (face_within 0 0 (patterns p) (expressions p) xs (faces-walk p xs e)) s m d in
+        let w = sources_within (row_body p r) (expressions p) xs (face_within 0 0 (patterns p) (expressions p) xs (faces_walk p xs e)) s m d in
         let n : s.node ≡ 0 + w.0 = w.1 in
         let f : s.node ≡ w.0 = omega arith in
         rw f (stands_node w.2)
@@ -374,7 +374,7 @@ source_node p r s q d = go (faces p) refl q
 pub named_node : (n : ℕ) (u : Forest Named) (t : Term) → node_at n (nameless [] u) ≡ some t
     → (sc : List ℕ) × (v : NamedTerm) × (node_at n u ≡ some v) × (t ≡ nameless_term sc v)
 named_node n u t e =
-    let r = stands-relabel enter nameless_label u [] (node_stands n (nameless [] u) t e) in (r.0, r.1, stands_node r.2, r.3)
+    let r = stands_relabel enter nameless_label u [] (node_stands n (nameless [] u) t e) in (r.0, r.1, stands_node r.2, r.3)
 
 -- Where nothing is bound outside a term, the scope around it does not count
 pub scope_drop : (sc : List ℕ) (t : NamedTerm) → ClosedTerm (nameless_term sc t) → nameless_term sc t ≡ nameless_term [] t

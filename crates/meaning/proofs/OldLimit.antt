@@ -7,7 +7,7 @@
 --   SameAsBefore   what stays of such a problem, and its new masks by the old ones
 -- What rows, their order and solutions are (`AreRows`, `EarlierRow`, `Solution`) does not mention the limit, so of every problem they are
 -- the old ones. The limit stands in two definitions only: which problems are accepted (here every answer but 14 stays, `answers_stay`),
--- and which numbers name a row to a host (each mask gets a zero at its end for each node added, `same-as-before`).
+-- and which numbers name a row to a host (each mask gets a zero at its end for each node added, `same_as_before`).
 use mathlib.Core.Path.{◌≡◌, refl, ap, ap₂, sym, ◌∙◌, subst}
 use mathlib.Core.Logic.{◌↔◌, ◌⊎◌, inl, inr}
 use mathlib.Core.Bool.{Bool, true, false, ◌&&◌, not}
@@ -37,7 +37,7 @@ use Rattle.meaning.specs.PlaceValue.{bit, mask_of, masks_of}
 use Rattle.meaning.proofs.Proper.{accepted_proper}
 use Rattle.meaning.proofs.Lists.{T_true, all_every, by_test, choose_false, choose_true, mem_all}
 use Rattle.meaning.proofs.ChoiceLaws.{rows_are}
-use Rattle.meaning.proofs.FullListLaws.{all_rows_lem, full-list-is}
+use Rattle.meaning.proofs.FullListLaws.{all_rows_lem, full_list_is}
 use Rattle.meaning.proofs.PlaceLaws.{checked_few, checked_small}
 
 -- "A face has at most 64 nodes"
@@ -63,7 +63,7 @@ pub record SameAsBefore (p : Problem) : Type 0 where
   -- the same rows in the same order, and the same full list: neither definition mentions the limit
   pub the_rows : AreRows p (rows p)
   pub the_list : IsFullList p (full_list p)
-  -- a row's masks are the old ones with a zero after them for each node added (`first_word`, `other-words`)
+  -- a row's masks are the old ones with a zero after them for each node added (`first_word`, `other_words`)
   pub masks : (r : Row) → r ∈ rows p → masks_of r ≡ map (λ (m : ℕ). m * 2 ^ added_nodes) (old_masks r)
   -- and the masks of two rows compare as they did
   pub order : (r s : Row) → r ∈ rows p → s ∈ rows p → (k : ℕ)
@@ -129,69 +129,69 @@ mask_wider (suc w) k (m ∷ ms) h =
 
 -- Of the words the first is the old mask, and the others are 0
 module _ (ms : Marks) (h : length ms ≤ old_limit) where
-  new-mask : mask_of max_face_nodes ms ≡ mask_of old_limit ms * 2 ^ added_nodes
-  new-mask = ap (λ (w : ℕ). mask_of w ms) raised_by ∙ mask_wider old_limit added_nodes ms h
+  new_mask : mask_of max_face_nodes ms ≡ mask_of old_limit ms * 2 ^ added_nodes
+  new_mask = ap (λ (w : ℕ). mask_of w ms) raised_by ∙ mask_wider old_limit added_nodes ms h
 
   pub first_word : mask_of max_face_nodes ms / 2 ^ added_nodes ≡ mask_of old_limit ms
-  first_word = ap (λ (m : ℕ). m / 2 ^ added_nodes) new-mask ∙ shl-shr (mask_of old_limit ms) added_nodes
+  first_word = ap (λ (m : ℕ). m / 2 ^ added_nodes) new_mask ∙ shl-shr (mask_of old_limit ms) added_nodes
 
-  pub other-words : mask_of max_face_nodes ms % 2 ^ added_nodes ≡ 0
-  other-words = ap (λ (m : ℕ). m % 2 ^ added_nodes) new-mask ∙ mul-mod_left (mask_of old_limit ms) (2 ^ added_nodes)
+  pub other_words : mask_of max_face_nodes ms % 2 ^ added_nodes ≡ 0
+  other_words = ap (λ (m : ℕ). m % 2 ^ added_nodes) new_mask ∙ mul-mod_left (mask_of old_limit ms) (2 ^ added_nodes)
 
 -- The masks of a row, and how two compare
 module _ (k : ℕ) where
   wider : ℕ → ℕ
   wider m = m * 2 ^ k
 
-  zeros-wider : (n : ℕ) → replicate n 0 ≡ map wider (replicate n 0)
+  zeros_wider : (n : ℕ) → replicate n 0 ≡ map wider (replicate n 0)
   unfolding wider
-  zeros-wider zero = refl
-  zeros-wider (suc n) = ap₂ (λ (m : ℕ) (ms : List ℕ). m ∷ ms) (sym (zero-mul (2 ^ k))) (zeros-wider n)
+  zeros_wider zero = refl
+  zeros_wider (suc n) = ap₂ (λ (m : ℕ) (ms : List ℕ). m ∷ ms) (sym (zero-mul (2 ^ k))) (zeros_wider n)
 
-  row-wider : (w : ℕ) (p : Problem) (fs : List ℕ) (r : Row) → ChoiceEach p fs r → ((f : ℕ) → f ∈ fs → size (one (face_of p f)) ≤ w)
+  row_wider : (w : ℕ) (p : Problem) (fs : List ℕ) (r : Row) → ChoiceEach p fs r → ((f : ℕ) → f ∈ fs → size (one (face_of p f)) ≤ w)
       → map (mask_of (w + k)) r ≡ map wider (map (mask_of w) r)
   unfolding wider
-  row-wider w p [] [] c h = refl
-  row-wider w p [] (ms ∷ r) c h = absurd c
-  row-wider w p (f ∷ fs) [] c h = absurd c
-  row-wider w p (f ∷ fs) (ms ∷ r) c h =
+  row_wider w p [] [] c h = refl
+  row_wider w p [] (ms ∷ r) c h = absurd c
+  row_wider w p (f ∷ fs) [] c h = absurd c
+  row_wider w p (f ∷ fs) (ms ∷ r) c h =
       ap₂ (λ (m : ℕ) (l : List ℕ). m ∷ l)
       (mask_wider w k ms (omega (arith, c.0.long, h f (Memᴰ.head refl))))
-      (row-wider w p fs r c.1 (λ g m. h g (Memᴰ.tail m)))
+      (row_wider w p fs r c.1 (λ g m. h g (Memᴰ.tail m)))
 
-  wider-at : (ms : List ℕ) (i : ℕ) → get_or (map wider ms) i 0 ≡ get_or ms i 0 * 2 ^ k
+  wider_at : (ms : List ℕ) (i : ℕ) → get_or (map wider ms) i 0 ≡ get_or ms i 0 * 2 ^ k
   unfolding wider
-  wider-at ms i = ap (λ (d : ℕ). get_or (map wider ms) i d) (sym (zero-mul (2 ^ k))) ∙ get_or-map wider ms i 0
+  wider_at ms i = ap (λ (d : ℕ). get_or (map wider ms) i d) (sym (zero-mul (2 ^ k))) ∙ get_or-map wider ms i 0
 
-  wider-order : (ms us : List ℕ) (i : ℕ) → (get_or (map wider ms) i 0 < get_or (map wider us) i 0) ↔ (get_or ms i 0 < get_or us i 0)
-  wider-order ms us i = (
-    λ h. lt_of_mul-lt-mul_right (2 ^ k) (subst (λ (n : ℕ). get_or ms i 0 * 2 ^ k < n) (wider-at us i)
-        (subst (λ (n : ℕ). n < get_or (map wider us) i 0) (wider-at ms i) h)),
-    λ h. subst (λ (n : ℕ). get_or (map wider ms) i 0 < n) (sym (wider-at us i))
-        (subst (λ (n : ℕ). n < get_or us i 0 * 2 ^ k) (sym (wider-at ms i)) (mul-lt-mul_of_pos_right h (pow_pos k))),
+  wider_order : (ms us : List ℕ) (i : ℕ) → (get_or (map wider ms) i 0 < get_or (map wider us) i 0) ↔ (get_or ms i 0 < get_or us i 0)
+  wider_order ms us i = (
+    λ h. lt_of_mul-lt-mul_right (2 ^ k) (subst (λ (n : ℕ). get_or ms i 0 * 2 ^ k < n) (wider_at us i)
+        (subst (λ (n : ℕ). n < get_or (map wider us) i 0) (wider_at ms i) h)),
+    λ h. subst (λ (n : ℕ). get_or (map wider ms) i 0 < n) (sym (wider_at us i))
+        (subst (λ (n : ℕ). n < get_or us i 0 * 2 ^ k) (sym (wider_at ms i)) (mul-lt-mul_of_pos_right h (pow_pos k))),
   )
 
 module _ (p : Problem) (a : OldAccepted p) where
-  masks-are : (r : Row) → r ∈ rows p → masks_of r ≡ map (λ (m : ℕ). m * 2 ^ added_nodes) (old_masks r)
+  masks_are : (r : Row) → r ∈ rows p → masks_of r ≡ map (λ (m : ℕ). m * 2 ^ added_nodes) (old_masks r)
   unfolding masks_of wider
-  masks-are r m =
+  masks_are r m =
       let row = (rows_are p r).0 m in
       ap₂ ◌++◌
       (ap (λ (w : ℕ). map (mask_of w) r) raised_by
-      ∙ row-wider added_nodes old_limit p (functions p) r row.choice (checked_small old_limit p a.checked row.has_rows))
-      (zeros-wider added_nodes (max_functions - length r))
+      ∙ row_wider added_nodes old_limit p (functions p) r row.choice (checked_small old_limit p a.checked row.has_rows))
+      (zeros_wider added_nodes (max_functions - length r))
       ∙ sym (map-append (wider added_nodes) (map (mask_of old_limit) r) (replicate (max_functions - length r) 0))
 
-  order-stays : (r s : Row) → r ∈ rows p → s ∈ rows p → (k : ℕ)
+  order_stays : (r s : Row) → r ∈ rows p → s ∈ rows p → (k : ℕ)
       → (get_or (masks_of r) k 0 < get_or (masks_of s) k 0) ↔ (get_or (old_masks r) k 0 < get_or (old_masks s) k 0)
   unfolding wider
-  order-stays r s m n k =
-      subst (λ (l : List ℕ). (get_or l k 0 < get_or (masks_of s) k 0) ↔ (get_or (old_masks r) k 0 < get_or (old_masks s) k 0)) (sym (masks-are r m))
+  order_stays r s m n k =
+      subst (λ (l : List ℕ). (get_or l k 0 < get_or (masks_of s) k 0) ↔ (get_or (old_masks r) k 0 < get_or (old_masks s) k 0)) (sym (masks_are r m))
       (subst (λ (l : List ℕ). (get_or (map (wider added_nodes) (old_masks r)) k 0 < get_or l k 0) ↔ (get_or (old_masks r) k 0 < get_or (old_masks s) k 0))
-      (sym (masks-are s n)) (wider-order added_nodes (old_masks r) (old_masks s) k))
+      (sym (masks_are s n)) (wider_order added_nodes (old_masks r) (old_masks s) k))
 
   -- THE THEOREM
-  pub same-as-before : SameAsBefore p
-  same-as-before =
+  pub same_as_before : SameAsBefore p
+  same_as_before =
       let now : Accepted p = record { within = a.within; checked = limit_raised old_limit max_face_nodes p raised a.checked } in
-      record { accepted = now; the_rows = all_rows_lem p; the_list = full-list-is p (accepted_proper p now); masks = masks-are; order = order-stays }
+      record { accepted = now; the_rows = all_rows_lem p; the_list = full_list_is p (accepted_proper p now); masks = masks_are; order = order_stays }

@@ -69,11 +69,11 @@ module _ {R : Type 0} (IsSolution : R → Type 0) where
   same_first (x ∷ xs) (y ∷ ys) r s later later' a b h g e = same_first xs ys r s later later' a.1 b.1 h g (cc)
 
   -- No solution row stands among rows that are none
-  not-among : (xs ys : List R) (r : R) (later later' : List R)
+  not_among : (xs ys : List R) (r : R) (later later' : List R)
       → All (λ x. IsSolution x → ⊥) ys → IsSolution r → length xs < length ys → xs ++ (r ∷ later) ≡ ys ++ later' → ⊥
-  not-among xs [] r later later' b h l e = absurd (omega arith)
-  not-among [] (y ∷ ys) r later later' b h l e = b.0 (subst IsSolution (cc) h)
-  not-among (x ∷ xs) (y ∷ ys) r later later' b h l e = not-among xs ys r later later' b.1 h (omega arith) (cc)
+  not_among xs [] r later later' b h l e = absurd (omega arith)
+  not_among [] (y ∷ ys) r later later' b h l e = b.0 (subst IsSolution (cc) h)
+  not_among (x ∷ xs) (y ∷ ys) r later later' b h l e = not_among xs ys r later later' b.1 h (omega arith) (cc)
 
   -- By the two forms of the same rows
   alike : {n : ℕ} {from from' : List R} {x y : Reply R (Place R)}
@@ -83,32 +83,32 @@ module _ {R : Type 0} (IsSolution : R → Type 0) where
       let p : found r (place_of later) ≡ found s (place_of later') = cc in
       same p
   alike e (finds xs r later a h l) (ends from b m) =
-      absurd (not-among xs from r later [] b h (omega (arith, ap length e, length-append xs (r ∷ later))) (e ∙ sym (append-nil from)))
-  alike e (finds xs r later a h l) (pauses ys s later' b m) = absurd (not-among xs ys r later (s ∷ later') b h (omega arith) e)
+      absurd (not_among xs from r later [] b h (omega (arith, ap length e, length-append xs (r ∷ later))) (e ∙ sym (append-nil from)))
+  alike e (finds xs r later a h l) (pauses ys s later' b m) = absurd (not_among xs ys r later (s ∷ later') b h (omega arith) e)
   alike e (ends from a l) (finds ys s later' b g m) =
-      absurd (not-among ys from s later' [] a g (omega (arith, ap length e, length-append ys (s ∷ later'))) (sym e ∙ sym (append-nil from)))
+      absurd (not_among ys from s later' [] a g (omega (arith, ap length e, length-append ys (s ∷ later'))) (sym e ∙ sym (append-nil from)))
   alike e (ends from a l) (ends from' b m) = same refl
   alike e (ends from a l) (pauses ys s later' b m) = absurd (omega (arith, ap length e, length-append ys (s ∷ later')))
-  alike e (pauses xs r later a l) (finds ys s later' b g m) = absurd (not-among ys xs s later' (r ∷ later) a g (omega arith) (sym e))
+  alike e (pauses xs r later a l) (finds ys s later' b g m) = absurd (not_among ys xs s later' (r ∷ later) a g (omega arith) (sym e))
   alike e (pauses xs r later a l) (ends from b m) = absurd (omega (arith, ap length e, length-append xs (r ∷ later)))
   alike e (pauses xs r later a l) (pauses ys s later' b m) = both_pause
 
   -- One row more that is no solution, and one more of the allowance
-  pub one-before : {n : ℕ} {from : List R} {reply : Reply R (Place R)} (x : R)
+  pub one_before : {n : ℕ} {from : List R} {reply : Reply R (Place R)} (x : R)
       → (IsSolution x → ⊥) → Keeps IsSolution n from reply → Keeps IsSolution (suc n) (x ∷ from) reply
-  one-before x e (finds skipped r later a h l) = finds (x ∷ skipped) r later (e, a) h (omega arith)
-  one-before x e (ends from a l) = ends (x ∷ from) (e, a) (omega arith)
-  one-before x e (pauses passed r later a l) = pauses (x ∷ passed) r later (e, a) (omega arith)
+  one_before x e (finds skipped r later a h l) = finds (x ∷ skipped) r later (e, a) h (omega arith)
+  one_before x e (ends from a l) = ends (x ∷ from) (e, a) (omega arith)
+  one_before x e (pauses passed r later a l) = pauses (x ∷ passed) r later (e, a) (omega arith)
 
-  some-keeps : (n : ℕ) (from : List R) → All (λ r. Dec (IsSolution r)) from → (reply : Reply R (Place R)) × Keeps IsSolution n from reply
-  some-keeps n [] d = (end past, ends [] tt (omega arith))
-  some-keeps zero (x ∷ xs) d = (paused (at x), pauses [] x xs tt (omega arith))
-  some-keeps (suc n) (x ∷ xs) d = go d.0 (some-keeps n xs d.1)
+  some_keeps : (n : ℕ) (from : List R) → All (λ r. Dec (IsSolution r)) from → (reply : Reply R (Place R)) × Keeps IsSolution n from reply
+  some_keeps n [] d = (end past, ends [] tt (omega arith))
+  some_keeps zero (x ∷ xs) d = (paused (at x), pauses [] x xs tt (omega arith))
+  some_keeps (suc n) (x ∷ xs) d = go d.0 (some_keeps n xs d.1)
     where
       go : Dec (IsSolution x) → (reply : Reply R (Place R)) × Keeps IsSolution n xs reply
           → (reply : Reply R (Place R)) × Keeps IsSolution (suc n) (x ∷ xs) reply
       go (yes e) r = (found x (place_of xs), finds [] x xs tt e (omega arith))
-      go (no e) r = (r.0, one-before x e r.1)
+      go (no e) r = (r.0, one_before x e r.1)
 
 -- The same promise in other words of what a solution row is
 pub keeps_same : {R : Type 0} {P Q : R → Type 0} {n : ℕ} {from : List R} {reply : Reply R (Place R)}
@@ -132,37 +132,37 @@ value_alike both_pause = both_pause
 some_kept : (p : Problem) → Accepted p → (before from : List Row) → rows p ≡ before ++ from → (n : ℕ)
     → (reply : Reply Row (Place Row)) × Keeps (SolutionRow p) n from reply
 some_kept p a before from e n =
-    some-keeps (SolutionRow p) n from
+    some_keeps (SolutionRow p) n from
     (mem_all (λ r. Dec (SolutionRow p r)) from
     (λ r m. solution_row_told p r (accepted_proper p a) (subst (λ (rs : List Row). r ∈ rs) (sym e) (Memᴰ.append_right before m))))
 
 -- A call on an accepted problem: what it answers, by what it is given
 module _ (p : Problem) (v : PlaceValue) (n : ℕ) where
-  pub when-zero : {x : HostReply} → n ≡ 0 → SearchOn p v n x → x ≡ refused_call 15
-  when-zero z (no_allowance h) = refl
-  when-zero z (no_such_place h g) = absurd (omega arith)
-  when-zero z (searches h place m from g k) = absurd (omega arith)
+  pub when_zero : {x : HostReply} → n ≡ 0 → SearchOn p v n x → x ≡ refused_call 15
+  when_zero z (no_allowance h) = refl
+  when_zero z (no_such_place h g) = absurd (omega arith)
+  when_zero z (searches h place m from g k) = absurd (omega arith)
 
-  when-nowhere : {x : HostReply} → 0 < n → ((place : Place Row) → Names p v place → ⊥) → SearchOn p v n x → x ≡ refused_call 16
-  when-nowhere l none (no_allowance h) = absurd (omega arith)
-  when-nowhere l none (no_such_place h g) = refl
-  when-nowhere l none (searches h place m from g k) = absurd (none place m)
+  when_nowhere : {x : HostReply} → 0 < n → ((place : Place Row) → Names p v place → ⊥) → SearchOn p v n x → x ≡ refused_call 16
+  when_nowhere l none (no_allowance h) = absurd (omega arith)
+  when_nowhere l none (no_such_place h g) = refl
+  when_nowhere l none (searches h place m from g k) = absurd (none place m)
 
   -- at a place it keeps its promise over the rows from there on
-  pub when-placed : {x : HostReply} (place : Place Row) (from : List Row)
+  pub when_placed : {x : HostReply} (place : Place Row) (from : List Row)
       → Accepted p → 0 < n → Names p v place → From (rows p) place from → SearchOn p v n x
       → (reply : Reply Row (Place Row)) × Keeps (SolutionRow p) n from reply × (x ≡ reply_value reply)
-  when-placed place from a l m g (no_allowance h) = absurd (omega arith)
-  when-placed place from a l m g (no_such_place h none) = absurd (none place m)
-  when-placed place from a l m g (searches h place' m' from' g' {reply} k) =
+  when_placed place from a l m g (no_allowance h) = absurd (omega arith)
+  when_placed place from a l m g (no_such_place h none) = absurd (none place m)
+  when_placed place from a l m g (searches h place' m' from' g' {reply} k) =
       let here : place' ≡ place = value_names_one p v place' place a m' m in
       let rest : from' ≡ from =
       one_suffix (rows p) place from' from (rows_once p) (subst (λ (y : Place Row). From (rows p) y from') here g') g in
       (reply, subst (λ (rs : List Row). Keeps (SolutionRow p) n rs reply) rest k, refl)
 
   -- THERE IS AN ANSWER, whatever the place and the allowance
-  pub some-search : Accepted p → (reply : HostReply) × SearchOn p v n reply
-  some-search a = go n refl (named_place p v)
+  pub some_search : Accepted p → (reply : HostReply) × SearchOn p v n reply
+  some_search a = go n refl (named_place p v)
     where
       go : (m : ℕ) → n ≡ m → ((place : Place Row) × Names p v place) ⊎ ((place : Place Row) → Names p v place → ⊥)
           → (reply : HostReply) × SearchOn p v n reply
@@ -174,11 +174,11 @@ module _ (p : Problem) (v : PlaceValue) (n : ℕ) where
           (reply_value reply, searches (omega arith) x.0 x.1 from f keeps)
 
   -- ... AND ONLY ONE, but for how far a pause goes
-  pub one-search : {x y : HostReply} → Accepted p → SearchOn p v n x → SearchOn p v n y → Alike x y
-  one-search a (no_allowance z) c = same (sym (when-zero z c))
-  one-search a (no_such_place h none) c = same (sym (when-nowhere h none c))
-  one-search a (searches h place m from g k) c =
-      let (reply, keeps, is) = when-placed place from a h m g c in
+  pub one_search : {x y : HostReply} → Accepted p → SearchOn p v n x → SearchOn p v n y → Alike x y
+  one_search a (no_allowance z) c = same (sym (when_zero z c))
+  one_search a (no_such_place h none) c = same (sym (when_nowhere h none c))
+  one_search a (searches h place m from g k) c =
+      let (reply, keeps, is) = when_placed place from a h m g c in
       subst (Alike _) (sym is) (value_alike (alike (SolutionRow p) refl k keeps))
 
 -- What a reply names: the row of a Found is a solution row, and what a call leaves is a place
@@ -189,32 +189,32 @@ NamedReply p (paused next) = (place : Place Row) × Names p next place
 NamedReply p (refused_call r) = Unit {0}
 
 module _ (p : Problem) where
-  begin-at : (before passed later : List Row) → rows p ≡ before ++ (passed ++ later) → Names p (place_value (place_of later)) (place_of later)
-  begin-at before passed later w =
+  begin_at : (before passed later : List Row) → rows p ≡ before ++ (passed ++ later) → Names p (place_value (place_of later)) (place_of later)
+  begin_at before passed later w =
       let from : From (rows p) (place_of later) later =
       record { before = before ++ passed; whole = w ∙ sym (append_assoc before passed later); begins = refl } in
       record { is_place = from_place p (place_of later) later from; is_value = refl }
 
-  kept-named : {n : ℕ} {from : List Row} {reply : Reply Row (Place Row)} (before : List Row) → rows p ≡ before ++ from
+  kept_named : {n : ℕ} {from : List Row} {reply : Reply Row (Place Row)} (before : List Row) → rows p ≡ before ++ from
       → Keeps (SolutionRow p) n from reply → NamedReply p (reply_value reply)
-  kept-named before w (finds skipped r later a h l) = (
-    (r, begin-at before skipped (r ∷ later) w, h),
+  kept_named before w (finds skipped r later a h l) = (
+    (r, begin_at before skipped (r ∷ later) w, h),
     (
       place_of later,
-      begin-at before (skipped ++ (r ∷ [])) later (w ∙ ap (λ (rs : List Row). before ++ rs) (sym (append_snoc skipped r later))),
+      begin_at before (skipped ++ (r ∷ [])) later (w ∙ ap (λ (rs : List Row). before ++ rs) (sym (append_snoc skipped r later))),
     ),
   )
-  kept-named before w (ends from a l) = (past, record { is_place = tt; is_value = refl })
-  kept-named before w (pauses passed r later a l) = (at r, begin-at before passed (r ∷ later) w)
+  kept_named before w (ends from a l) = (past, record { is_place = tt; is_value = refl })
+  kept_named before w (pauses passed r later a l) = (at r, begin_at before passed (r ∷ later) w)
 
-  pub reply-named : {v : PlaceValue} {n : ℕ} {reply : HostReply} → SearchOn p v n reply → NamedReply p reply
-  reply-named (no_allowance z) = tt
-  reply-named (no_such_place l none) = tt
-  reply-named (searches l place m from f k) = kept-named f.before f.whole k
+  pub reply_named : {v : PlaceValue} {n : ℕ} {reply : HostReply} → SearchOn p v n reply → NamedReply p reply
+  reply_named (no_allowance z) = tt
+  reply_named (no_such_place l none) = tt
+  reply_named (searches l place m from f k) = kept_named f.before f.whole k
 
   -- a call with an allowance, at one of the problem's places, is not refused
-  pub not-refused : {v : PlaceValue} {n r : ℕ} (place : Place Row) → Names p v place → 0 < n → SearchOn p v n (refused_call r) → ⊥
-  not-refused {v} {n} {r} place named l c = go c refl
+  pub not_refused : {v : PlaceValue} {n r : ℕ} (place : Place Row) → Names p v place → 0 < n → SearchOn p v n (refused_call r) → ⊥
+  not_refused {v} {n} {r} place named l c = go c refl
     where
       kept : {from : List Row} {reply : Reply Row (Place Row)} → Keeps (SolutionRow p) n from reply → reply_value reply ≡ refused_call r → ⊥
       kept (finds skipped q later a h m) z = never (cc)
@@ -240,8 +240,8 @@ some_reply s v n b = go (accept s) refl
   where
     go : (a : Answer Problem) → accept s ≡ a → (reply : HostReply) × SearchCall s v n reply
     go (refused r) e = (refused_call r, not_accepted r e)
-    go (got p) e = let (reply, c) = some-search p v n (accept_accepted s p b e).0 in (reply, on_accepted p e c)
+    go (got p) e = let (reply, c) = some_search p v n (accept_accepted s p b e).0 in (reply, on_accepted p e c)
 
 pub one_reply : (s : Bytes) (v : PlaceValue) (n : ℕ) (x y : HostReply) → All Byte s → SearchCall s v n x → SearchCall s v n y → Alike x y
 one_reply s v n x y b (not_accepted r e) c = same (sym (when_refused r e c))
-one_reply s v n x y b (on_accepted p e d) c = one-search p v n (accept_accepted s p b e).0 d (search_on p e c)
+one_reply s v n x y b (on_accepted p e d) c = one_search p v n (accept_accepted s p b e).0 d (search_on p e c)

@@ -13,19 +13,19 @@ use Rattle.meaning.specs.Face.{Face, faces, walk_of}
 use Rattle.meaning.proofs.Lists.{T_true, all_every, all_mem, by_test, every_all, is_in_mem, mem_all, mem_is_in, mem_up_to, true_T}
 
 module _ (p : Problem) where
-  pub walk-faces : both_ways p ≡ false → faces p ≡ walk_of p
+  pub walk_faces : both_ways p ≡ false → faces p ≡ walk_of p
   unfolding faces
-  walk-faces e = ap (λ (b : Bool). guard (not b) (walk_of p)) e
+  walk_faces e = ap (λ (b : Bool). guard (not b) (walk_of p)) e
 
   pub no_faces_lem : both_ways p ≡ true → faces p ≡ none
   unfolding faces
   no_faces_lem e = ap (λ (b : Bool). guard (not b) (walk_of p)) e
 
-  pub faces-one-way : is_some (faces p) ≡ true → both_ways p ≡ false
-  faces-one-way e = by_test (both_ways p) (λ b. absurd (false≢true (sym (ap is_some (no_faces_lem b)) ∙ e))) (λ b. b)
+  pub faces_one_way : is_some (faces p) ≡ true → both_ways p ≡ false
+  faces_one_way e = by_test (both_ways p) (λ b. absurd (false≢true (sym (ap is_some (no_faces_lem b)) ∙ e))) (λ b. b)
 
-  pub faces-walk : (xs : List Face) → faces p ≡ some xs → walk_of p ≡ some xs
-  faces-walk xs e = sym (walk-faces (faces-one-way (ap is_some e))) ∙ e
+  pub faces_walk : (xs : List Face) → faces p ≡ some xs → walk_of p ≡ some xs
+  faces_walk xs e = sym (walk_faces (faces_one_way (ap is_some e))) ∙ e
 
   -- The test says what T-09 says: no letter "stands both as a function and alone"
   abbrev apart_at : ℕ → Bool
@@ -58,6 +58,6 @@ module _ (p : Problem) where
         ∙ ap not (T_true {b = every apart_at (up_to metavariable_count)} (all_every apart_at (up_to metavariable_count)
         (mem_all (λ k. apart_at k ≡ true) (up_to metavariable_count) (λ m q. apart_at_lem m))))
 
-  pub one-way-means : ((m : ℕ) → m ∈ applied (patterns p) → m < metavariable_count)
+  pub one_way_means : ((m : ℕ) → m ∈ applied (patterns p) → m < metavariable_count)
       → (both_ways p ≡ false) ↔ ((m : ℕ) → m ∈ applied (patterns p) → m ∈ plain (patterns p) → ⊥)
-  one-way-means small = (λ e m a. separated e m (small m a) a, one_way_lem)
+  one_way_means small = (λ e m a. separated e m (small m a) a, one_way_lem)

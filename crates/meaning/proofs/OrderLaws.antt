@@ -33,10 +33,10 @@ Pairwise P (x ∷ xs) [] = ⊥
 Pairwise P (x ∷ xs) (y ∷ ys) = P x y × Pairwise P xs ys
 
 module _ {A : Type 0} (R : A → A → Type 0) (S : List A → List A → Type 0) (lex : Lexical R S) where
-  lexical-asymmetric : Asymmetric R → Asymmetric S
-  lexical-asymmetric a [] ys s t = lex.not_left s
-  lexical-asymmetric a (x ∷ xs) [] s t = lex.not_right s
-  lexical-asymmetric a (x ∷ xs) (y ∷ ys) s t = go (lexical-asymmetric a xs ys) (lex.split s) (lex.split t)
+  lexical_asymmetric : Asymmetric R → Asymmetric S
+  lexical_asymmetric a [] ys s t = lex.not_left s
+  lexical_asymmetric a (x ∷ xs) [] s t = lex.not_right s
+  lexical_asymmetric a (x ∷ xs) (y ∷ ys) s t = go (lexical_asymmetric a xs ys) (lex.split s) (lex.split t)
     where
       go : (S xs ys → S ys xs → ⊥) → R x y ⊎ ((x ≡ y) × S xs ys) → R y x ⊎ ((y ≡ x) × S ys xs) → ⊥
       go ih (inl r) (inl q) = a x y r q
@@ -44,11 +44,11 @@ module _ {A : Type 0} (R : A → A → Type 0) (S : List A → List A → Type 0
       go ih (inr r) (inl q) = let d : R y y = subst (R y) r.0 q in a y y d d
       go ih (inr r) (inr q) = ih r.1 q.1
 
-  lexical-compared : (xs ys : List A) → Pairwise (Compared R) xs ys → Compared S xs ys
-  lexical-compared [] [] h = inl refl
-  lexical-compared [] (y ∷ ys) h = absurd h
-  lexical-compared (x ∷ xs) [] h = absurd h
-  lexical-compared (x ∷ xs) (y ∷ ys) h = go h.0 (lexical-compared xs ys h.1)
+  lexical_compared : (xs ys : List A) → Pairwise (Compared R) xs ys → Compared S xs ys
+  lexical_compared [] [] h = inl refl
+  lexical_compared [] (y ∷ ys) h = absurd h
+  lexical_compared (x ∷ xs) [] h = absurd h
+  lexical_compared (x ∷ xs) (y ∷ ys) h = go h.0 (lexical_compared xs ys h.1)
     where
       go : Compared R x y → Compared S xs ys → Compared S (x ∷ xs) (y ∷ ys)
       go (inl e) (inl d) = inl (ap₂ ◌∷◌ e d)
@@ -57,10 +57,10 @@ module _ {A : Type 0} (R : A → A → Type 0) (S : List A → List A → Type 0
       go (inr (inl r)) w = inr (inl (lex.differs r))
       go (inr (inr r)) w = inr (inr (lex.differs r))
 
-  lexical-first : Asymmetric R → (xs ys : List A) → S xs ys → ByFirst R xs ys
-  lexical-first a [] ys s = absurd (lex.not_left s)
-  lexical-first a (x ∷ xs) [] s = absurd (lex.not_right s)
-  lexical-first a (x ∷ xs) (y ∷ ys) s = ⊎_elim now (λ r. on r.0 (lexical-first a xs ys r.1)) (lex.split s)
+  lexical_first : Asymmetric R → (xs ys : List A) → S xs ys → ByFirst R xs ys
+  lexical_first a [] ys s = absurd (lex.not_left s)
+  lexical_first a (x ∷ xs) [] s = absurd (lex.not_right s)
+  lexical_first a (x ∷ xs) (y ∷ ys) s = ⊎_elim now (λ r. on r.0 (lexical_first a xs ys r.1)) (lex.split s)
     where
       now : R x y → ByFirst R (x ∷ xs) (y ∷ ys)
       now r =
@@ -91,22 +91,22 @@ module _ {A : Type 0} (R : A → A → Type 0) (S : List A → List A → Type 0
           before zero h = ap some e
           before (suc j) h = b.first.before j (omega arith)
 
-  first-lexical-at : (k : ℕ) (xs ys : List A) (x y : A) → ((j : ℕ) → j < k → get_elem? xs j ≡ get_elem? ys j)
+  first_lexical_at : (k : ℕ) (xs ys : List A) (x y : A) → ((j : ℕ) → j < k → get_elem? xs j ≡ get_elem? ys j)
       → get_elem? xs k ≡ some x → get_elem? ys k ≡ some y → R x y → S xs ys
-  first-lexical-at k [] ys x y b d e r = never (cc)
-  first-lexical-at k (z ∷ xs) [] x y b d e r = never (cc)
-  first-lexical-at zero (z ∷ xs) (w ∷ ys) x y b d e r =
+  first_lexical_at k [] ys x y b d e r = never (cc)
+  first_lexical_at k (z ∷ xs) [] x y b d e r = never (cc)
+  first_lexical_at zero (z ∷ xs) (w ∷ ys) x y b d e r =
       let p : z ≡ x = cc in
       let q : w ≡ y = cc in
       lex.differs (rw (p, q) r)
-  first-lexical-at (suc k) (z ∷ xs) (w ∷ ys) x y b d e r =
+  first_lexical_at (suc k) (z ∷ xs) (w ∷ ys) x y b d e r =
       subst (λ (v : A). S (z ∷ xs) (v ∷ ys)) (some-injective z w (b 0 (omega arith)))
-      (lex.goes_on (first-lexical-at k xs ys x y (λ j h. b (suc j) (omega arith)) d e r))
+      (lex.goes_on (first_lexical_at k xs ys x y (λ j h. b (suc j) (omega arith)) d e r))
 
-  lexical-words : Asymmetric R → (xs ys : List A) → S xs ys ↔ ByFirst R xs ys
-  lexical-words a xs ys = (
-    lexical-first a xs ys,
-    λ b. first-lexical-at b.place xs ys b.left b.right b.first.before b.on_left b.on_right b.related,
+  lexical_words : Asymmetric R → (xs ys : List A) → S xs ys ↔ ByFirst R xs ys
+  lexical_words a xs ys = (
+    lexical_first a xs ys,
+    λ b. first_lexical_at b.place xs ys b.left b.right b.first.before b.on_left b.on_right b.related,
   )
 
 -- Choices
@@ -149,13 +149,13 @@ earlier_lexical =
 -- Main theorems: choices. "Of two choices the earlier is the one that has the lowest node in which they differ", where a hole comes
 -- before none and the hole of an earlier place before that of a later one
 pub earlier_words : (ms us : Marks) → Earlier ms us ↔ ByFirst Before ms us
-earlier_words ms us = lexical-words Before Earlier earlier_lexical before_asymmetric ms us
+earlier_words ms us = lexical_words Before Earlier earlier_lexical before_asymmetric ms us
 
 pub earlier_asymmetric : Asymmetric Earlier
-earlier_asymmetric ms us = lexical-asymmetric Before Earlier earlier_lexical before_asymmetric ms us
+earlier_asymmetric ms us = lexical_asymmetric Before Earlier earlier_lexical before_asymmetric ms us
 
 pub earlier_compared : (ms us : Marks) → length ms ≡ length us → Compared Earlier ms us
-earlier_compared ms us l = lexical-compared Before Earlier earlier_lexical ms us (marks_paired ms us l)
+earlier_compared ms us l = lexical_compared Before Earlier earlier_lexical ms us (marks_paired ms us l)
 
 -- Rows
 each_paired : (p : Problem) (fs : List ℕ) (r s : Row) → ChoiceEach p fs r → ChoiceEach p fs s → Pairwise (Compared Earlier) r s
@@ -182,11 +182,11 @@ row_lexical = record { differs = λ h. first h; goes_on = λ h. next h; split = 
 
 -- Main theorems: rows. "rows are ordered by the first function that differs"
 pub row_words : (r s : Row) → EarlierRow r s ↔ ByFirst Earlier r s
-row_words r s = lexical-words Earlier EarlierRow row_lexical earlier_asymmetric r s
+row_words r s = lexical_words Earlier EarlierRow row_lexical earlier_asymmetric r s
 
 pub row_asymmetric : Asymmetric EarlierRow
-row_asymmetric r s = lexical-asymmetric Earlier EarlierRow row_lexical earlier_asymmetric r s
+row_asymmetric r s = lexical_asymmetric Earlier EarlierRow row_lexical earlier_asymmetric r s
 
 -- Two rows of one problem
 pub rows_compared : (p : Problem) (r s : Row) → IsRow p r → IsRow p s → Compared EarlierRow r s
-rows_compared p r s h g = lexical-compared Earlier EarlierRow row_lexical r s (each_paired p (functions p) r s h.choice g.choice)
+rows_compared p r s h g = lexical_compared Earlier EarlierRow row_lexical r s (each_paired p (functions p) r s h.choice g.choice)

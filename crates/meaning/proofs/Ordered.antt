@@ -18,24 +18,24 @@ use Rattle.meaning.proofs.Lists.{mem_map, map_mem, keep_mem, mem_each, each_mem,
 use Rattle.meaning.proofs.OrderLaws.{Asymmetric, earlier_asymmetric, row_asymmetric}
 
 module _ {A : Type 0} (R : A → A → Type 0) where
-  pub append-ordered : (xs ys : List A) → Ordered R xs → Ordered R ys → ((x y : A) → x ∈ xs → y ∈ ys → R x y) → Ordered R (xs ++ ys)
-  append-ordered [] ys o q h = q
-  append-ordered (x ∷ xs) ys (more g o) q h =
+  pub append_ordered : (xs ys : List A) → Ordered R xs → Ordered R ys → ((x y : A) → x ∈ xs → y ∈ ys → R x y) → Ordered R (xs ++ ys)
+  append_ordered [] ys o q h = q
+  append_ordered (x ∷ xs) ys (more g o) q h =
       more (λ y m. ⊎_elim (g y) (h x y (Memᴰ.head refl)) (Memᴰ.append_cases xs m))
-      (append-ordered xs ys o q (λ z y m. h z y (Memᴰ.tail m)))
+      (append_ordered xs ys o q (λ z y m. h z y (Memᴰ.tail m)))
 
-  pub keep-ordered : (p : A → Bool) (xs : List A) → Ordered R xs → Ordered R (keep p xs)
-  keep-ordered p [] o = empty
-  keep-ordered p (x ∷ xs) (more g o) = go (p x) (keep-ordered p xs o)
+  pub keep_ordered : (p : A → Bool) (xs : List A) → Ordered R xs → Ordered R (keep p xs)
+  keep_ordered p [] o = empty
+  keep_ordered p (x ∷ xs) (more g o) = go (p x) (keep_ordered p xs o)
     where
       go : (b : Bool) → Ordered R (keep p xs) → Ordered R (choose b (x ∷ keep p xs) (keep p xs))
       go true q = more (λ y m. g y (keep_mem p y xs m).0) q
       go false q = q
 
   -- In the order of a strict relation no element stands twice
-  pub ordered-distinct : ((x : A) → R x x → ⊥) → (xs : List A) → Ordered R xs → Distinct xs
-  ordered-distinct h [] o = tt
-  ordered-distinct h (x ∷ xs) (more g o) = ((λ m. h x (g x m)), ordered-distinct h xs o)
+  pub ordered_distinct : ((x : A) → R x x → ⊥) → (xs : List A) → Ordered R xs → Distinct xs
+  ordered_distinct h [] o = tt
+  ordered_distinct h (x ∷ xs) (more g o) = ((λ m. h x (g x m)), ordered_distinct h xs o)
 
   -- and a list in order is known from its elements
   same_first : Asymmetric R → (x y : A) (xs ys : List A) → Ordered R (x ∷ xs) → Ordered R (y ∷ ys) → x ∈ (y ∷ ys) → y ∈ (x ∷ xs) → x ≡ y
@@ -52,13 +52,13 @@ module _ {A : Type 0} (R : A → A → Type 0) where
       ⊎_elim (λ d. absurd (let r : R x x = subst (R x) (d ∙ sym e) (g z m) in a x x r r)) (λ k. k)
       (Memᴰ.cases_cons (f z (Memᴰ.tail m)))
 
-  pub ordered-unique : Asymmetric R → (xs ys : List A) → Ordered R xs → Ordered R ys → ((z : A) → (z ∈ xs) ↔ (z ∈ ys)) → xs ≡ ys
-  ordered-unique a [] [] o q f = refl
-  ordered-unique a [] (y ∷ ys) o q f = absurd (Memᴰ.not-nil ((f y).1 (Memᴰ.head refl)))
-  ordered-unique a (x ∷ xs) [] o q f = absurd (Memᴰ.not-nil ((f x).0 (Memᴰ.head refl)))
-  ordered-unique a (x ∷ xs) (y ∷ ys) o q f =
+  pub ordered_unique : Asymmetric R → (xs ys : List A) → Ordered R xs → Ordered R ys → ((z : A) → (z ∈ xs) ↔ (z ∈ ys)) → xs ≡ ys
+  ordered_unique a [] [] o q f = refl
+  ordered_unique a [] (y ∷ ys) o q f = absurd (Memᴰ.not-nil ((f y).1 (Memᴰ.head refl)))
+  ordered_unique a (x ∷ xs) [] o q f = absurd (Memᴰ.not-nil ((f x).0 (Memᴰ.head refl)))
+  ordered_unique a (x ∷ xs) (y ∷ ys) o q f =
       let e = same_first a x y xs ys o q ((f x).0 (Memᴰ.head refl)) ((f y).1 (Memᴰ.head refl)) in
-      ap₂ ◌∷◌ e (ordered-unique a xs ys (rest o) (rest q)
+      ap₂ ◌∷◌ e (ordered_unique a xs ys (rest o) (rest q)
       (λ z. (same_rest a x y xs ys e o (λ w. (f w).0) z, same_rest a y x ys xs (sym e) q (λ w. (f w).1) z)))
     where
       rest : {w : A} {ws : List A} → Ordered R (w ∷ ws) → Ordered R ws
@@ -70,11 +70,11 @@ module _ {A B : Type 0} (R : A → A → Type 0) (S : B → B → Type 0) where
   map_ordered f h (x ∷ xs) (more g o) =
       more (λ z m. let (y, q, e) = map_mem f z xs m in subst (S (f x)) (sym e) (h x y (g y q))) (map_ordered f h xs o)
 
-  pub each-ordered : (f : A → List B) → ((x : A) → Ordered S (f x)) → ((x y : A) (u v : B) → R x y → u ∈ f x → v ∈ f y → S u v)
+  pub each_ordered : (f : A → List B) → ((x : A) → Ordered S (f x)) → ((x y : A) (u v : B) → R x y → u ∈ f x → v ∈ f y → S u v)
       → (xs : List A) → Ordered R xs → Ordered S (each f xs)
-  each-ordered f i h [] o = empty
-  each-ordered f i h (x ∷ xs) (more g o) =
-      append-ordered S (f x) (each f xs) (i x) (each-ordered f i h xs o)
+  each_ordered f i h [] o = empty
+  each_ordered f i h (x ∷ xs) (more g o) =
+      append_ordered S (f x) (each f xs) (i x) (each_ordered f i h xs o)
       (λ u v m n. let (y, q, e) = each_mem f v xs n in h x y u v (g y q) m e)
 
 abbrev pub fronted : {A : Type 0} → List A → List (List A) → List (List A)
@@ -82,10 +82,10 @@ fronted xs yss = each (λ x. map (λ ys. x ∷ ys) yss) xs
 
 module _ {A : Type 0} (R : A → A → Type 0) (S : List A → List A → Type 0) where
   -- S is the order by the first difference
-  pub fronted-ordered : ((x y : A) (u v : List A) → R x y → S (x ∷ u) (y ∷ v)) → ((x : A) (u v : List A) → S u v → S (x ∷ u) (x ∷ v))
+  pub fronted_ordered : ((x y : A) (u v : List A) → R x y → S (x ∷ u) (y ∷ v)) → ((x : A) (u v : List A) → S u v → S (x ∷ u) (x ∷ v))
       → (xs : List A) (yss : List (List A)) → Ordered R xs → Ordered S yss → Ordered S (fronted xs yss)
-  fronted-ordered h g xs yss o q =
-      each-ordered R S (λ x. map (λ ys. x ∷ ys) yss) (λ x. map_ordered S S (λ ys. x ∷ ys) (g x) yss q) apart xs o
+  fronted_ordered h g xs yss o q =
+      each_ordered R S (λ x. map (λ ys. x ∷ ys) yss) (λ x. map_ordered S S (λ ys. x ∷ ys) (g x) yss q) apart xs o
     where
       apart : (x y : A) (u v : List A) → R x y → u ∈ map (λ ys. x ∷ ys) yss → v ∈ map (λ ys. y ∷ ys) yss → S u v
       apart x y u v r m n =
@@ -118,7 +118,7 @@ placed_none n m h = let (i, k, e) = map_mem some m (up_to n) h in rw e (tt, up_t
 
 marks_of_ordered : (n : ℕ) → Ordered Before (marks_of n)
 marks_of_ordered n =
-    append-ordered Before (map some (up_to n)) (none ∷ []) (map_ordered ◌<◌ Before some (λ i j h. h) (up_to n) (count_from_ordered 0 n))
+    append_ordered Before (map some (up_to n)) (none ∷ []) (map_ordered ◌<◌ Before some (λ i j h. h) (up_to n) (count_from_ordered 0 n))
     (more (λ y m. absurd (Memᴰ.not-nil m)) empty)
     (λ x y m k. rw (Memᴰ.eq_of_singleton k) (placed_none n x m).0)
 
@@ -163,7 +163,7 @@ product_mem (xs ∷ xss) ys h = let (z, zs, i, j, e) = fronted_mem ys xs (produc
 pub all_marks_ordered : (n k : ℕ) → Ordered Earlier (all_marks n k)
 all_marks_ordered n zero = more (λ y m. absurd (Memᴰ.not-nil m)) empty
 all_marks_ordered n (suc k) =
-    fronted-ordered Before Earlier (λ x y u v h. here h) (λ x u v h. later h) (marks_of n) (all_marks n k) (marks_of_ordered n)
+    fronted_ordered Before Earlier (λ x y u v h. here h) (λ x u v h. later h) (marks_of n) (all_marks n k) (marks_of_ordered n)
     (all_marks_ordered n k)
 
 pub all_marks_are : (n k : ℕ) (ms : Marks) → (ms ∈ all_marks n k) ↔ ((length ms ≡ k) × All (Placed n) ms)
@@ -172,7 +172,7 @@ all_marks_are n k ms = (all_marks_mem n k ms, λ h. subst (λ (j : ℕ). ms ∈ 
 pub product_ordered : (xss : List (List Marks)) → All (Ordered Earlier) xss → Ordered EarlierRow (product xss)
 product_ordered [] h = more (λ y m. absurd (Memᴰ.not-nil m)) empty
 product_ordered (xs ∷ xss) h =
-    fronted-ordered Earlier EarlierRow (λ x y u v g. first g) (λ x u v g. next g) xs (product xss) h.0 (product_ordered xss h.1)
+    fronted_ordered Earlier EarlierRow (λ x y u v g. first g) (λ x u v g. next g) xs (product xss) h.0 (product_ordered xss h.1)
 
 pub product_are : {A : Type 0} (xss : List (List A)) (ys : List A) → (ys ∈ product xss) ↔ OneOfEach xss ys
 product_are xss ys = (product_mem xss ys, mem_product xss ys)

@@ -105,32 +105,32 @@ module _ (p : Problem) (is : List Item) where
   abbrev Foreign : ℕ → Type 0
   Foreign m = (m ∈ applied (patterns p) → ⊥) × (m ∈ plain (patterns p) → ⊥)
 
-  foreign-not : (m : ℕ) → Foreign m → occurs m ≡ true → ⊥
-  foreign-not m f e =
+  foreign_not : (m : ℕ) → Foreign m → occurs m ≡ true → ⊥
+  foreign_not m f e =
       ⊎_elim (λ q. f.0 (is_in_mem m (applied (patterns p)) q)) (λ q. f.1 (is_in_mem m (plain (patterns p)) q))
       (or_cases (is_function p m) (is_plain p m) e)
 
-  not-foreign : (m : ℕ) → occurs m ≡ false → Foreign m
-  not-foreign m e =
+  not_foreign : (m : ℕ) → occurs m ≡ false → Foreign m
+  not_foreign m e =
       let r = or-false (is_function p m) (is_plain p m) e in (
         λ k. false≢true (sym r.0 ∙ mem_is_in m (applied (patterns p)) k),
         λ k. false≢true (sym r.1 ∙ mem_is_in m (plain (patterns p)) k),
       )
 
-  known-others : T (known p is) → (m : ℕ) → Foreign m → said is m ≡ absent
-  known-others t m f =
+  known_others : T (known p is) → (m : ℕ) → Foreign m → said is m ≡ absent
+  known_others t m f =
       by_test (is_in m (numbers is))
       (λ q.
-      ⊎_elim (is_absent_lem (said is m)) (λ o. absurd (foreign-not m f o))
+      ⊎_elim (is_absent_lem (said is m)) (λ o. absurd (foreign_not m f o))
       (or_cases (is_absent (said is m)) (occurs m)
       (every_mem (λ k. is_absent (said is k) || occurs k) (numbers is) t m (is_in_mem m (numbers is) q))))
       (λ n. said_nowhere is m (λ q. false≢true (sym n ∙ mem_is_in m (numbers is) q)))
 
-  others-known : ((m : ℕ) → Foreign m → said is m ≡ absent) → T (known p is)
-  others-known h =
+  others_known : ((m : ℕ) → Foreign m → said is m ≡ absent) → T (known p is)
+  others_known h =
       mem_every (λ k. is_absent (said is k) || occurs k) (numbers is) (λ m q.
       by_test (occurs m) (or_right (is_absent (said is m)) (occurs m))
-      (λ e. or_left (is_absent (said is m)) (occurs m) (ap is_absent (h m (not-foreign m e)))))
+      (λ e. or_left (is_absent (said is m)) (occurs m) (ap is_absent (h m (not_foreign m e)))))
 
 -- Kinds
 entry_body : (n : ℕ) (x : Entry Term) → is_body_entry n x ≡ true → (b : Term) × (x ≡ body b) × IsBody n (one b) × ClosedTerm b
@@ -166,13 +166,13 @@ module _ (p : Problem) (σ : Filling) where
   abbrev unneeded_at : ℕ → Standing → Bool
   unneeded_at m x = not (eqb m x.0 && needs σ x.1)
 
-  unneeded-idle : (m : ℕ) → is_needed σ ws m ≡ false → Idle p σ m
-  unneeded-idle m e w q =
+  unneeded_idle : (m : ℕ) → is_needed σ ws m ≡ false → Idle p σ m
+  unneeded_idle m e w q =
       let all : every (unneeded_at m) ws ≡ true = not-false (every (unneeded_at m) ws) e in
       not_both (eqb m m) (needs σ w) (every_mem (unneeded_at m) ws (true_T all) (m, w) q) (eqb_self m)
 
-  idle-unneeded : (m : ℕ) → Idle p σ m → is_needed σ ws m ≡ false
-  idle-unneeded m f =
+  idle_unneeded : (m : ℕ) → Idle p σ m → is_needed σ ws m ≡ false
+  idle_unneeded m f =
       let all : every (unneeded_at m) ws ≡ true =
       T_true (mem_every (unneeded_at m) ws (λ x q.
       one_fails (eqb m x.0) (needs σ x.1)
@@ -184,9 +184,9 @@ module _ (p : Problem) (is : List Item) where
   abbrev σ : Filling
   σ = said is
 
-  test-passes : passes p is ≡ true → Passes p is
+  test_passes : passes p is ≡ true → Passes p is
   unfolding passes
-  test-passes e =
+  test_passes e =
       let o = and_T (not (both_ways p)) _ (true_T e) in
       let b = and_T (known p is) _ o.1 in
       let c = and_T (kinds p σ) _ b.1 in
@@ -199,23 +199,23 @@ module _ (p : Problem) (is : List Item) where
         bodies = λ g q. entry_body (places_of p g) (σ g)
             (every_mem (λ h. is_body_entry (places_of p h) (σ h)) (applied (patterns p)) k.0 g q);
         values = λ m q. entry_value (σ m) (every_mem (λ h. is_value_entry (σ h)) (plain (patterns p)) k.1 m q);
-        others = λ m a v. known-others p is b.0 m (a, v);
+        others = λ m a v. known_others p is b.0 m (a, v);
         open_idle = λ m o w q.
             not_both (is_open (σ m)) (needs σ w)
             (every_mem (λ (x : Standing). not (is_open (σ x.0) && needs σ x.1)) (standings (patterns p)) d.0 (m, w) q)
             (ap is_open o);
         idle_open = λ m q i.
             open_is (σ m)
-            (⊎_elim (λ o. o) (λ n. absurd (false≢true (sym (idle-unneeded p σ m i) ∙ n)))
+            (⊎_elim (λ o. o) (λ n. absurd (false≢true (sym (idle_unneeded p σ m i) ∙ n)))
             (or_cases (is_open (σ m)) (is_needed σ (standings (patterns p)) m)
             (every_mem (λ h. is_open (σ h) || is_needed σ (standings (patterns p)) h) (plain (patterns p)) f.0 m q)));
       }
 
-  passes-test : Passes p is → passes p is ≡ true
+  passes_test : Passes p is → passes p is ≡ true
   unfolding passes
-  passes-test s =
+  passes_test s =
       T_true (T_and (not (both_ways p)) _ (true_T (ap not s.one_way))
-      (T_and (known p is) _ (others-known p is (λ m f. s.others m f.0 f.1))
+      (T_and (known p is) _ (others_known p is (λ m f. s.others m f.0 f.1))
       (T_and (kinds p σ) _
       (T_and (every (λ g. is_body_entry (places_of p g) (σ g)) (applied (patterns p))) _
       (mem_every (λ g. is_body_entry (places_of p g) (σ g)) (applied (patterns p)) (λ g q. body_entry (places_of p g) (σ g) (s.bodies g q)))
@@ -229,8 +229,8 @@ module _ (p : Problem) (is : List Item) where
       by_test (is_needed σ (standings (patterns p)) m)
       (or_right (is_open (σ m)) (is_needed σ (standings (patterns p)) m))
       (λ n. or_left (is_open (σ m)) (is_needed σ (standings (patterns p)) m)
-      (ap is_open (s.idle_open m q (unneeded-idle p σ m n))))))
+      (ap is_open (s.idle_open m q (unneeded_idle p σ m n))))))
       (subst (λ (u : Terms). T (same_terms u (expressions p))) (sym s.meets) (same_terms_refl (expressions p))))))))
 
-  pub passes-is-right : (passes p is ≡ true) ↔ Passes p is
-  passes-is-right = (test-passes, passes-test)
+  pub passes_is_right : (passes p is ≡ true) ↔ Passes p is
+  passes_is_right = (test_passes, passes_test)

@@ -96,21 +96,21 @@ module _ (p : Problem) (accepted : Accepted p) where
         stops = subst (λ (n : ℕ). Stops n (k + length xs) last) (let z : k ≡ k + 0 = omega arith in z) s;
       }
 
-  from-lines : {k : ℕ} {rs : List HostReply} {lines : List Bytes} → Lines p k rs lines → k ≤ most_printed → (xs : List Listed)
+  from_lines : {k : ℕ} {rs : List HostReply} {lines : List Bytes} → Lines p k rs lines → k ≤ most_printed → (xs : List Listed)
       → All (λ x. IsRow p x.0) xs → founds_in rs ≡ map given_row (take (length (founds_in rs)) xs)
       → (EndIn rs → founds_in rs ≡ map given_row xs) → From k xs lines
-  from-lines (solution {row = row} r {replies = rs} l m d) few [] are first all = never (cc)
-  from-lines {k} (solution {row = row} r {replies = rs} {lines} l m d) few (x ∷ xs) are first all =
+  from_lines (solution {row = row} r {replies = rs} l m d) few [] are first all = never (cc)
+  from_lines {k} (solution {row = row} r {replies = rs} {lines} l m d) few (x ∷ xs) are first all =
       let here : row ≡ given_row x = cc in
       let later : founds_in rs ≡ map given_row (take (length (founds_in rs)) xs) = cc in
       one_more k r x xs lines (same_row row r x m here are.0)
-      (from-lines d (omega arith) xs are.1 later
+      (from_lines d (omega arith) xs are.1 later
       (λ h. let z : row ∷ founds_in rs ≡ given_row x ∷ map given_row xs = all (h.0, Memᴰ.tail h.1) in cc))
-  from-lines more few [] are first all = never (cc)
-  from-lines {k} more few (x ∷ xs) are first all = none_more k (x ∷ xs) _ few (at_most refl (omega arith))
-  from-lines {k} ended few [] are first all = none_more k [] _ few (at_end (let z : k ≡ k + 0 = omega arith in z))
-  from-lines ended few (x ∷ xs) are first all = never (let z = all (_, Memᴰ.head refl) in cc)
-  from-lines {k} pauses few xs are first all = none_more k xs _ few at_pause
+  from_lines more few [] are first all = never (cc)
+  from_lines {k} more few (x ∷ xs) are first all = none_more k (x ∷ xs) _ few (at_most refl (omega arith))
+  from_lines {k} ended few [] are first all = none_more k [] _ few (at_end (let z : k ≡ k + 0 = omega arith in z))
+  from_lines ended few (x ∷ xs) are first all = never (let z = all (_, Memᴰ.head refl) in cc)
+  from_lines {k} pauses few xs are first all = none_more k xs _ few at_pause
 
 -- THE OUTPUT of an accepted problem
 pub output_printed : (s : Bytes) (p : Problem) (lines : List Bytes) → All Byte s → accept s ≡ got p → Output s lines → Printed p lines
@@ -127,7 +127,7 @@ output_printed s p lines b e (lists q cs c a l) = subst (λ (y : Problem). Print
 
     all_from : From q (accept_accepted s q b c.accepted).0 0 demand.full lines
     all_from =
-        from-lines q (accept_accepted s q b c.accepted).0 l (omega arith) demand.full
+        from_lines q (accept_accepted s q b c.accepted).0 l (omega arith) demand.full
         (mem_all (λ x. IsRow q x.0) demand.full (λ x m. ((demand.is_full.members x.0 x.1).0 m).0))
         (founds_in_lem cs ∙ demand.prefix ∙ ap (λ (n : ℕ). map given_row (take n demand.full)) (ap length (sym (founds_in_lem cs))))
         (λ h. founds_in_lem cs ∙ demand.whole (ended_in h))

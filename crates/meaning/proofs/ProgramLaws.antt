@@ -20,7 +20,7 @@ use Rattle.meaning.specs.Program.{Lines, Output, allowance, count_line, ended, l
 use Rattle.meaning.proofs.ByteLaws.{got_is, refused_not}
 use Rattle.meaning.proofs.ProblemReading.{accept_accepted}
 use Rattle.meaning.proofs.PlaceLaws.{from_place, value_names_row}
-use Rattle.meaning.proofs.OneCall.{Alike, both_pause, not-refused, one-search, reply-named, same, some-search}
+use Rattle.meaning.proofs.OneCall.{Alike, both_pause, not_refused, one_search, reply_named, same, some_search}
 use Rattle.meaning.proofs.CallLaws.{on_run, run_on}
 
 data Replies (p : Problem) : PlaceValue → List HostReply → Type 0 where
@@ -59,14 +59,14 @@ pub record Printing (p : Problem) (k : ℕ) (v : PlaceValue) (lines : List Bytes
   pub printed : Lines p k (map (λ c. c.reply) calls) lines
 
 module _ {p : Problem} {k : ℕ} {v : PlaceValue} where
-  pub last-call : {reply : HostReply} {line : Bytes} → SearchOn p v allowance reply → Lines p k (reply ∷ []) (line ∷ [])
+  pub last_call : {reply : HostReply} {line : Bytes} → SearchOn p v allowance reply → Lines p k (reply ∷ []) (line ∷ [])
       → Printing p k v (line ∷ [])
-  last-call {reply} c l =
+  last_call {reply} c l =
       record { calls = record { allowance = allowance; reply = reply } ∷ []; run = (c, tt); allowances = (refl, tt); printed = l }
 
-  pub found-call : {row next : PlaceValue} {lines : List Bytes} → SearchOn p v allowance (found row next) → k < most_printed → (r : Row)
+  pub found_call : {row next : PlaceValue} {lines : List Bytes} → SearchOn p v allowance (found row next) → k < most_printed → (r : Row)
       → Names p row (at r) → Printing p (suc k) next lines → Printing p k v (solution_line (suc k) (row_text p r) ∷ lines)
-  found-call {row} {next} c few r named later =
+  found_call {row} {next} c few r named later =
       record {
         calls = record { allowance = allowance; reply = found row next } ∷ later.calls;
         run = (c, later.run);
@@ -80,62 +80,62 @@ calls_output s p e x =
 
 module _ (p : Problem) (accepted : Accepted p) where
   alike : {v : PlaceValue} {x y : HostReply} → SearchOn p v allowance x → SearchOn p v allowance y → Alike x y
-  alike {v} a b = one-search p v allowance accepted a b
+  alike {v} a b = one_search p v allowance accepted a b
 
   unlike : {A : Type 0} {v : PlaceValue} {x y : HostReply} → SearchOn p v allowance x → SearchOn p v allowance y → (kind x ≡ kind y → ⊥) → A
   unlike a b other = absurd (other (same_kind (alike a b)))
 
   -- ONLY ONE: the replies to two lists of calls are alike, one after the other
-  one-lines : {k : ℕ} {v : PlaceValue} {rs rs' : List HostReply} {xs ys : List Bytes}
+  one_lines : {k : ℕ} {v : PlaceValue} {rs rs' : List HostReply} {xs ys : List Bytes}
       → Replies p v rs → Replies p v rs' → Lines p k rs xs → Lines p k rs' ys → xs ≡ ys
-  one-lines {k} (then a later) (then {xs = rs'} b later') (solution r l m d) (solution r' l' m' d') =
+  one_lines {k} (then a later) (then {xs = rs'} b later') (solution r l m d) (solution r' l' m' d') =
       let (row, next) = same_found (alike a b) in
       let same : r ≡ r' = value_names_row p _ r r' accepted (subst (λ (v : PlaceValue). Names p v (at r)) row m) m' in
       ap₂ {C = List Bytes} (λ (x : Row) (zs : List Bytes). solution_line (suc k) (row_text p x) ∷ zs) same
-      (one-lines later (subst (λ (v : PlaceValue). Replies p v rs') (sym next) later') d d')
-  one-lines (then a later) (then b later') (solution r l m d) more = absurd (omega arith)
-  one-lines (then a later) (then b later') (solution r l m d) ended = unlike a b (λ z. omega arith)
-  one-lines (then a later) (then b later') (solution r l m d) pauses = unlike a b (λ z. omega arith)
-  one-lines (then a later) (then b later') more (solution r l m d) = absurd (omega arith)
-  one-lines (then a later) (then b later') more more = refl
-  one-lines (then a later) (then b later') more ended = unlike a b (λ z. omega arith)
-  one-lines (then a later) (then b later') more pauses = unlike a b (λ z. omega arith)
-  one-lines (then a later) (then b later') ended (solution r l m d) = unlike a b (λ z. omega arith)
-  one-lines (then a later) (then b later') ended more = unlike a b (λ z. omega arith)
-  one-lines (then a later) (then b later') ended ended = refl
-  one-lines (then a later) (then b later') ended pauses = unlike a b (λ z. omega arith)
-  one-lines (then a later) (then b later') pauses (solution r l m d) = unlike a b (λ z. omega arith)
-  one-lines (then a later) (then b later') pauses more = unlike a b (λ z. omega arith)
-  one-lines (then a later) (then b later') pauses ended = unlike a b (λ z. omega arith)
-  one-lines (then a later) (then b later') pauses pauses = refl
+      (one_lines later (subst (λ (v : PlaceValue). Replies p v rs') (sym next) later') d d')
+  one_lines (then a later) (then b later') (solution r l m d) more = absurd (omega arith)
+  one_lines (then a later) (then b later') (solution r l m d) ended = unlike a b (λ z. omega arith)
+  one_lines (then a later) (then b later') (solution r l m d) pauses = unlike a b (λ z. omega arith)
+  one_lines (then a later) (then b later') more (solution r l m d) = absurd (omega arith)
+  one_lines (then a later) (then b later') more more = refl
+  one_lines (then a later) (then b later') more ended = unlike a b (λ z. omega arith)
+  one_lines (then a later) (then b later') more pauses = unlike a b (λ z. omega arith)
+  one_lines (then a later) (then b later') ended (solution r l m d) = unlike a b (λ z. omega arith)
+  one_lines (then a later) (then b later') ended more = unlike a b (λ z. omega arith)
+  one_lines (then a later) (then b later') ended ended = refl
+  one_lines (then a later) (then b later') ended pauses = unlike a b (λ z. omega arith)
+  one_lines (then a later) (then b later') pauses (solution r l m d) = unlike a b (λ z. omega arith)
+  one_lines (then a later) (then b later') pauses more = unlike a b (λ z. omega arith)
+  one_lines (then a later) (then b later') pauses ended = unlike a b (λ z. omega arith)
+  one_lines (then a later) (then b later') pauses pauses = refl
 
   -- SOME: from any place on
   abbrev SomeLines : ℕ → PlaceValue → Type 0
   SomeLines k v = (lines : List Bytes) × Printing p k v lines
 
-  by-reply : {k : ℕ} {v : PlaceValue} (place : Place Row) → Names p v place
+  by_reply : {k : ℕ} {v : PlaceValue} (place : Place Row) → Names p v place
       → ((row next : PlaceValue) → SearchOn p v allowance (found row next) → SomeLines k v)
       → (reply : HostReply) → SearchOn p v allowance reply → SomeLines k v
-  by-reply place named on_found (found row next) c = on_found row next c
-  by-reply place named on_found (end next) c = (_, last-call c ended)
-  by-reply place named on_found (paused next) c = (_, last-call c pauses)
-  by-reply place named on_found (refused_call r) c = absurd (not-refused p place named some_allowance c)
+  by_reply place named on_found (found row next) c = on_found row next c
+  by_reply place named on_found (end next) c = (_, last_call c ended)
+  by_reply place named on_found (paused next) c = (_, last_call c pauses)
+  by_reply place named on_found (refused_call r) c = absurd (not_refused p place named some_allowance c)
 
   -- so many solutions may still be printed
-  some-lines : (most k : ℕ) → k + most ≡ most_printed → {v : PlaceValue} (place : Place Row) → Names p v place → SomeLines k v
-  some-lines zero k e {v} place named =
+  some_lines : (most k : ℕ) → k + most ≡ most_printed → {v : PlaceValue} (place : Place Row) → Names p v place → SomeLines k v
+  some_lines zero k e {v} place named =
       let all : most_printed ≡ k = omega (arith, e) in
-      let (reply, c) = some-search p v allowance accepted in
-      by-reply place named
-      (λ row next f. (_, last-call f (subst (λ (n : ℕ). Lines p n (found row next ∷ []) (count_line "more " n ∷ [])) all more)))
+      let (reply, c) = some_search p v allowance accepted in
+      by_reply place named
+      (λ row next f. (_, last_call f (subst (λ (n : ℕ). Lines p n (found row next ∷ []) (count_line "more " n ∷ [])) all more)))
       reply c
-  some-lines (suc most) k e {v} place named =
-      let (reply, c) = some-search p v allowance accepted in
-      by-reply place named
+  some_lines (suc most) k e {v} place named =
+      let (reply, c) = some_search p v allowance accepted in
+      by_reply place named
       (λ row next f.
-      let ((r, m, solves), (later, h)) = reply-named p f in
-      let (lines, rest) = some-lines most (suc k) (omega (arith, e)) later h in
-      (_, found-call f (omega (arith, e)) r m rest))
+      let ((r, m, solves), (later, h)) = reply_named p f in
+      let (lines, rest) = some_lines most (suc k) (omega (arith, e)) later h in
+      (_, found_call f (omega (arith, e)) r m rest))
       reply c
 
 -- THE OUTPUT
@@ -145,7 +145,7 @@ one_output s b (refuses r e) (lists p cs c a l) = absurd (refused_not (sym e ∙
 one_output s b (lists p cs c a l) (refuses r e) = absurd (refused_not (sym e ∙ c.accepted))
 one_output s b (lists p cs c a l) (lists q ds d a' {lines = ys} l') =
     let is : q ≡ p = got_is (sym d.accepted ∙ c.accepted) in
-    one-lines p (accept_accepted s p b c.accepted).0
+    one_lines p (accept_accepted s p b c.accepted).0
     (replies p (place_value (start p)) cs (run_on s p (place_value (start p)) cs c.accepted c.run) a)
     (replies p (place_value (start p)) ds (run_on s p (place_value (start p)) ds c.accepted
     (subst (λ (y : Problem). Run (SearchCall s) (place_value (start y)) ds) is d.run)) a')
@@ -159,5 +159,5 @@ some_output s b = go (accept s) refl
     go (got p) e =
         let from : From (rows p) (start p) (rows p) = record { before = []; whole = refl; begins = refl } in
         let named : Names p (place_value (start p)) (start p) = record { is_place = from_place p (start p) (rows p) from; is_value = refl } in
-        let (lines, calls) = some-lines p (accept_accepted s p b e).0 most_printed 0 (omega arith) (start p) named in
+        let (lines, calls) = some_lines p (accept_accepted s p b e).0 most_printed 0 (omega arith) (start p) named in
         (lines, calls_output s p e calls)

@@ -52,14 +52,14 @@ holes_of a (cons (slot (hole i)) c s) = some i ∷ (blank (size (a i).1) ++ hole
 
 -- What lies past a forest's own marks is not read
 module _ (b : Marks) where
-  punch-more : (ms : Marks) (u : Terms) → size u ≤ length ms → punch (ms ++ b) u ≡ punch ms u
-  punch-more ms nil h = refl
-  punch-more [] (cons l c s) h = absurd (omega arith)
-  punch-more (m ∷ ms) (cons l c s) h =
+  punch_more : (ms : Marks) (u : Terms) → size u ≤ length ms → punch (ms ++ b) u ≡ punch ms u
+  punch_more ms nil h = refl
+  punch_more [] (cons l c s) h = absurd (omega arith)
+  punch_more (m ∷ ms) (cons l c s) h =
       rw (
-        punch-more ms c (omega arith),
+        punch_more ms c (omega arith),
         drop-append-le (size c) ms b (omega arith),
-        punch-more (drop (size c) ms) s (rw length-drop (omega arith)),
+        punch_more (drop (size c) ms) s (rw length-drop (omega arith)),
       )
 
   fits_more : (a : ℕ → Term) (k : ℕ) (ms : Marks) (u : Terms) → size u ≤ length ms → Fits a k ms u → Fits a k (ms ++ b) u
@@ -72,16 +72,16 @@ module _ (b : Marks) where
   fits_more a k (some i ∷ ms) (cons l c s) h f =
       (f.0, rw (drop-append-le (size c) ms b (omega arith)) (fits_more a k (drop (size c) ms) s (rw length-drop (omega arith)) f.1))
 
-  clear-more : (ms : Marks) (u : Terms) → size u ≤ length ms → Clear ms u → Clear (ms ++ b) u
-  clear-more ms nil h f = tt
-  clear-more [] (cons l c s) h f = absurd (omega arith)
-  clear-more (none ∷ ms) (cons l c s) h f = (
-    clear-more ms c (omega arith) f.0,
-    rw (drop-append-le (size c) ms b (omega arith)) (clear-more (drop (size c) ms) s (rw length-drop (omega arith)) f.1),
+  clear_more : (ms : Marks) (u : Terms) → size u ≤ length ms → Clear ms u → Clear (ms ++ b) u
+  clear_more ms nil h f = tt
+  clear_more [] (cons l c s) h f = absurd (omega arith)
+  clear_more (none ∷ ms) (cons l c s) h f = (
+    clear_more ms c (omega arith) f.0,
+    rw (drop-append-le (size c) ms b (omega arith)) (clear_more (drop (size c) ms) s (rw length-drop (omega arith)) f.1),
   )
-  clear-more (some i ∷ ms) (cons l c s) h f = (
+  clear_more (some i ∷ ms) (cons l c s) h f = (
     rw (take-append-le (size c) ms b (omega arith)) f.0,
-    rw (drop-append-le (size c) ms b (omega arith)) (clear-more (drop (size c) ms) s (rw length-drop (omega arith)) f.1),
+    rw (drop-append-le (size c) ms b (omega arith)) (clear_more (drop (size c) ms) s (rw length-drop (omega arith)) f.1),
   )
 
 pub blank_length : (n : ℕ) → length (blank n) ≡ n
@@ -96,17 +96,17 @@ hole_length a k i = blank_length (size (a i).1) ∙ sym (shift_size k (inner (a 
 
 -- The holes of a body in the body filled with a, under k binders
 module _ (a : ℕ → Term) where
-  pub holes-length : (k : ℕ) (b : Terms) → length (holes_of a b) ≡ size (plug_all a k b)
-  holes-length k nil = refl
-  holes-length k (cons (own o) c s) =
-      rw (length-append (holes_of a c) (holes_of a s), holes-length (inner (own o) k) c, holes-length k s)
-  holes-length k (cons (slot (metavariable m)) c s) = rw (length-append (holes_of a c) (holes_of a s), holes-length k c, holes-length k s)
-  holes-length k (cons (slot (function m d)) c s) = rw (length-append (holes_of a c) (holes_of a s), holes-length k c, holes-length k s)
-  holes-length k (cons (slot (hole i)) c s) =
+  pub holes_length : (k : ℕ) (b : Terms) → length (holes_of a b) ≡ size (plug_all a k b)
+  holes_length k nil = refl
+  holes_length k (cons (own o) c s) =
+      rw (length-append (holes_of a c) (holes_of a s), holes_length (inner (own o) k) c, holes_length k s)
+  holes_length k (cons (slot (metavariable m)) c s) = rw (length-append (holes_of a c) (holes_of a s), holes_length k c, holes_length k s)
+  holes_length k (cons (slot (function m d)) c s) = rw (length-append (holes_of a c) (holes_of a s), holes_length k c, holes_length k s)
+  holes_length k (cons (slot (hole i)) c s) =
       rw (
         length-append (blank (size (a i).1)) (holes_of a s),
         blank_length (size (a i).1),
-        holes-length k s,
+        holes_length k s,
         shift_size k (inner (a i).0 0) (a i).1,
       )
 
@@ -114,9 +114,9 @@ module _ (a : ℕ → Term) where
     pub punch_holes : (k : ℕ) (b : Terms) → IsBody n b → punch (holes_of a b) (plug_all a k b) ≡ b
     punch_holes k nil h = refl
     punch_holes k (cons (own o) c s) h =
-        let e : length (holes_of a c) ≡ size (plug_all a (inner (own o) k) c) = holes-length (inner (own o) k) c in
+        let e : length (holes_of a c) ≡ size (plug_all a (inner (own o) k) c) = holes_length (inner (own o) k) c in
         rw (
-          punch-more (holes_of a s) (holes_of a c) (plug_all a (inner (own o) k) c) (omega arith),
+          punch_more (holes_of a s) (holes_of a c) (plug_all a (inner (own o) k) c) (omega arith),
           drop_at (holes_of a c) (holes_of a s) (size (plug_all a (inner (own o) k) c)) e,
           punch_holes (inner (own o) k) c h.1,
           punch_holes k s h.2,
@@ -133,7 +133,7 @@ module _ (a : ℕ → Term) where
     pub fits_holes : (k : ℕ) (b : Terms) → IsBody n b → Fits a k (holes_of a b) (plug_all a k b)
     fits_holes k nil h = tt
     fits_holes k (cons (own o) c s) h =
-        let e : length (holes_of a c) ≡ size (plug_all a (inner (own o) k) c) = holes-length (inner (own o) k) c in (
+        let e : length (holes_of a c) ≡ size (plug_all a (inner (own o) k) c) = holes_length (inner (own o) k) c in (
           fits_more (holes_of a s) a (inner (own o) k) (holes_of a c) (plug_all a (inner (own o) k) c) (omega arith)
               (fits_holes (inner (own o) k) c h.1),
           rw (drop_at (holes_of a c) (holes_of a s) (size (plug_all a (inner (own o) k) c)) e) (fits_holes k s h.2),
@@ -149,8 +149,8 @@ module _ (a : ℕ → Term) where
     pub clear_holes : (k : ℕ) (b : Terms) → IsBody n b → Clear (holes_of a b) (plug_all a k b)
     clear_holes k nil h = tt
     clear_holes k (cons (own o) c s) h =
-        let e : length (holes_of a c) ≡ size (plug_all a (inner (own o) k) c) = holes-length (inner (own o) k) c in (
-          clear-more (holes_of a s) (holes_of a c) (plug_all a (inner (own o) k) c) (omega arith) (clear_holes (inner (own o) k) c h.1),
+        let e : length (holes_of a c) ≡ size (plug_all a (inner (own o) k) c) = holes_length (inner (own o) k) c in (
+          clear_more (holes_of a s) (holes_of a c) (plug_all a (inner (own o) k) c) (omega arith) (clear_holes (inner (own o) k) c h.1),
           rw (drop_at (holes_of a c) (holes_of a s) (size (plug_all a (inner (own o) k) c)) e) (clear_holes k s h.2),
         )
     clear_holes k (cons (slot (metavariable m)) c s) h = absurd h.0

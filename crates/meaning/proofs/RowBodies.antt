@@ -23,16 +23,16 @@ use Rattle.meaning.specs.Row.{Row, face_term, face_of, ChoiceEach, IsRow, choice
 use Rattle.meaning.specs.Rows.{rows}
 use Rattle.meaning.proofs.Lists.{never, by_test, choose_true, choose_false, eqb_eq, eqb_self}
 use Rattle.meaning.proofs.Lists.{at_mem, keep_distinct, distinct_count_from}
-use Rattle.meaning.proofs.OneWay.{faces-walk}
+use Rattle.meaning.proofs.OneWay.{faces_walk}
 use Rattle.meaning.proofs.Renaming.{one_injective}
 use Rattle.meaning.proofs.ChoiceLaws.{rows_are}
-use Rattle.meaning.proofs.Punching.{blank, holes_of, holes-length, punch_holes, fits_holes, clear_holes, punch_unique}
+use Rattle.meaning.proofs.Punching.{blank, holes_of, holes_length, punch_holes, fits_holes, clear_holes, punch_unique}
 use Rattle.meaning.proofs.Apart.{choice_clear}
-use Rattle.meaning.proofs.BodyChoice.{fits-choice}
+use Rattle.meaning.proofs.BodyChoice.{fits_choice}
 use Rattle.meaning.proofs.Proper.{Proper, functions_applied}
 use Rattle.meaning.proofs.Slots.{slot_face, applied_slot, faces_expression}
 use Rattle.meaning.proofs.Sources.{arguments, plugged}
-use Rattle.meaning.proofs.Candidate.{Fitting, the_walk, faced, shape_of, faces-found}
+use Rattle.meaning.proofs.Candidate.{Fitting, the_walk, faced, shape_of, faces_found}
 
 -- The first application of a function
 pub application_is : (f : ℕ) (z : Slot) → is_application f z ≡ true → (n : ℕ) × (z ≡ function f n)
@@ -87,10 +87,10 @@ pub record FaceOf (p : Problem) (xs : List Face) (f : ℕ) : Type 0 where
   pub is_first : face_of p f ≡ face.term
 
 module _ (p : Problem) (c : Proper p) (xs : List Face) (defined : faces p ≡ some xs) where
-  pub face-of : (f : ℕ) → f ∈ applied (patterns p) → FaceOf p xs f
-  face-of f a =
+  pub face_of_lem : (f : ℕ) → f ∈ applied (patterns p) → FaceOf p xs f
+  face_of_lem f a =
       let s = applied_slot (patterns p) c.pattern f a in
-      let x = slot_face 0 0 (patterns p) (expressions p) xs (function f s.0) s.1 (faces-walk p xs defined) s.2 in
+      let x = slot_face 0 0 (patterns p) (expressions p) xs (function f s.0) s.1 (faces_walk p xs defined) s.2 in
       let y = first_there f s.0 xs x.0 x.1 x.2 in
       record {
         face = y.0;
@@ -101,11 +101,11 @@ module _ (p : Problem) (c : Proper p) (xs : List Face) (defined : faces p ≡ so
             ∙ ap (λ (o : Option Face). face_term o f) y.1;
       }
 
-  pub face-expression : (f : ℕ) → f ∈ applied (patterns p) → IsExpression (one (face_of p f))
-  face-expression f a =
-      let x = face-of f a in
+  pub face_expression : (f : ℕ) → f ∈ applied (patterns p) → IsExpression (one (face_of p f))
+  face_expression f a =
+      let x = face_of_lem f a in
       subst (λ (t : Term). IsExpression (one t)) (sym x.is_first)
-      (faces_expression 0 0 (patterns p) (expressions p) xs c.expression (faces-walk p xs defined) x.face x.among)
+      (faces_expression 0 0 (patterns p) (expressions p) xs c.expression (faces_walk p xs defined) x.face x.among)
 
 -- A body that fills to its function's face comes from a choice of it
 module _ (p : Problem) (σ : Filling) (b : ℕ → Term) (fit : Fitting p σ b) where
@@ -113,9 +113,9 @@ module _ (p : Problem) (σ : Filling) (b : ℕ → Term) (fit : Fitting p σ b) 
     pub choice : Choice (places_of p f) (face_of p f) ms
     pub punched : punch ms (one (face_of p f)) ≡ one (b f)
 
-  pub body-chosen : (f : ℕ) → f ∈ applied (patterns p) → (ms : Marks) × Chosen f ms
-  body-chosen f a =
-      let x = face-of p fit.proper (the_walk p σ b fit).found (faces-found p σ b fit) f a in
+  pub body_chosen : (f : ℕ) → f ∈ applied (patterns p) → (ms : Marks) × Chosen f ms
+  body_chosen f a =
+      let x = face_of_lem p fit.proper (the_walk p σ b fit).found (faces_found p σ b fit) f a in
       let shape = shape_of p σ b fit f x.places x.face x.among x.applies in
       let sat : Satisfied (fill_handler σ) x.face = (the_walk p σ b fit).satisfied x.face x.among in
       let ex : IsExpression (one x.face.term) = faced p σ b fit x.face x.among in
@@ -130,7 +130,7 @@ module _ (p : Problem) (σ : Filling) (b : ℕ → Term) (fit : Fitting p σ b) 
           let ib : IsBody (places_of p f) (one (b f)) = fit.shapes f a in
           let r : Choice (places_of p f) (face_of p f) ms × (punch ms (one (face_of p f)) ≡ one (b f)) =
           subst (λ (t : Term). Choice (places_of p f) t ms × (punch ms (one t) ≡ one (b f))) e (
-            fits-choice args (places_of p f) (plug args (b f)) ms (holes-length args 0 (one (b f)))
+            fits_choice args (places_of p f) (plug args (b f)) ms (holes_length args 0 (one (b f)))
                 (λ k i q. holes_places (places_of p f) args (one (b f)) ib i (at_mem ms k (some i) q))
                 (fits_holes args (places_of p f) 0 (one (b f)) ib) (clear_holes args (places_of p f) 0 (one (b f)) ib),
             punch_holes args (places_of p f) 0 (one (b f)) ib,
@@ -219,8 +219,8 @@ pub row_exists : (p : Problem) (σ : Filling) → Proper p → Solution p σ →
 row_exists p σ c s =
     let b : ℕ → Term = λ f. body_or f (σ f) in
     let fit : Fitting p σ b = own_fitting p σ c s in
-    let r = row_of p (Chosen p σ b fit) (λ f ms x. x.choice) (functions p) (λ f q. body-chosen p σ b fit f (functions_applied p f q)) in
-    let agree = ap is_some (faces-found p σ b fit) in (
+    let r = row_of p (Chosen p σ b fit) (λ f ms x. x.choice) (functions p) (λ f q. body_chosen p σ b fit f (functions_applied p f q)) in
+    let agree = ap is_some (faces_found p σ b fit) in (
       r.0,
       (rows_are p r.0).1 (record { has_rows = agree; choice = r.1 }),
       λ f q. solution_bodies p σ s f (functions_applied p f q) ∙ ap body (sym (row_body_lem p r.0 f (b f) (r.2 f q).punched)),
@@ -245,7 +245,7 @@ row_only p σ c s r r' i j h g =
         let eb : body (row_body p r f) ≡ body (row_body p r' f) = sym (h f q) ∙ g f q in
         let e : row_body p r f ≡ row_body p r' f = cc in
         punch_unique (choice_in (functions p) r f) (choice_in (functions p) r' f) (one (face_of p f))
-        (face-expression p c (the_walk p σ b (own_fitting p σ c s)).found (faces-found p σ b (own_fitting p σ c s)) f
+        (face_expression p c (the_walk p σ b (own_fitting p σ c s)).found (faces_found p σ b (own_fitting p σ c s)) f
         (functions_applied p f q)) x.long y.long
         (choice_clear (places_of p f) (face_of p f) (choice_in (functions p) r f) x)
         (choice_clear (places_of p f) (face_of p f) (choice_in (functions p) r' f) y)

@@ -23,7 +23,7 @@ use Rattle.meaning.specs.Given.{named_by}
 use Rattle.meaning.proofs.Lists.{keep_length}
 use Rattle.meaning.proofs.ChoiceLaws.{rows_are}
 use Rattle.meaning.proofs.Proper.{Proper, accepted_proper}
-use Rattle.meaning.proofs.Candidate.{row-solution-unique}
+use Rattle.meaning.proofs.Candidate.{row_solution_unique}
 use Rattle.meaning.proofs.Solutions.{solution_complete, solves_is_right, candidate_solution, OnlyRow}
 use Rattle.meaning.proofs.TextReading.{read_text_lem}
 use Rattle.meaning.proofs.TextLaws.{text_says, text_ascends, text_readable}
@@ -75,5 +75,5 @@ solution_written p σ a s =
     let c : Proper p = accepted_proper p a in
     let o : OnlyRow p σ = solution_complete p σ c s in
     let e : solves p o.row ≡ true = (solves_is_right p o.row c o.is_row).1 (σ, s, o.has_bodies) in
-    let unique : σ ≡ candidate p o.row = fun_ext (row-solution-unique p o.row σ c s o.has_bodies) in
+    let unique : σ ≡ candidate p o.row = fun_ext (row_solution_unique p o.row σ c s o.has_bodies) in
     record { row = o.row; is_row = o.is_row; is_solution_row = e; says = text_says p o.row a e ∙ sym unique }

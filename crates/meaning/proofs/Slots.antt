@@ -314,16 +314,16 @@ slot_hole (cons (slot (hole j)) c s) i d q =
 
 -- The faces of a proper problem
 module _ (p : Problem) (c : Proper p) (xs : List Face) (defined : walk_of p ≡ some xs) where
-  pub faced-slot : (z : Slot) (x : Face) → x ∈ xs → x.what ≡ z → (z, x.children) ∈ slots (patterns p)
-  faced-slot z x q e =
+  pub faced_slot : (z : Slot) (x : Face) → x ∈ xs → x.what ≡ z → (z, x.children) ∈ slots (patterns p)
+  faced_slot z x q e =
       subst (λ (y : Slot). ◌∈◌ {A = Slot × Terms} (y, x.children) (slots (patterns p))) e
       (face_slot 0 0 (patterns p) (expressions p) xs x defined q)
 
-  pub faced-expression : (x : Face) → x ∈ xs → IsExpression (one x.term)
-  faced-expression = faces_expression 0 0 (patterns p) (expressions p) xs c.expression defined
+  pub faced_expression : (x : Face) → x ∈ xs → IsExpression (one x.term)
+  faced_expression = faces_expression 0 0 (patterns p) (expressions p) xs c.expression defined
 
-  pub faced-shape : (f n : ℕ) (x : Face) → x ∈ xs → x.what ≡ function f n → (trees x.children ≡ n) × IsArgument x.children
-  faced-shape f n x q e = pattern_slot (patterns p) c.pattern f n x.children (faced-slot (function f n) x q e)
+  pub faced_shape : (f n : ℕ) (x : Face) → x ∈ xs → x.what ≡ function f n → (trees x.children ≡ n) × IsArgument x.children
+  faced_shape f n x q e = pattern_slot (patterns p) c.pattern f n x.children (faced_slot (function f n) x q e)
 
-  pub faced-applied : (f n : ℕ) (x : Face) → x ∈ xs → x.what ≡ function f n → f ∈ applied (patterns p)
-  faced-applied f n x q e = slot_applied (patterns p) f n x.children (faced-slot (function f n) x q e)
+  pub faced_applied : (f n : ℕ) (x : Face) → x ∈ xs → x.what ≡ function f n → f ∈ applied (patterns p)
+  faced_applied f n x q e = slot_applied (patterns p) f n x.children (faced_slot (function f n) x q e)

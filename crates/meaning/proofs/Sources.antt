@@ -21,7 +21,7 @@ use Rattle.meaning.specs.Agree.{Satisfied}
 use Rattle.meaning.specs.Value.{Source, source_at, source_of, is_hole, lowest_hole, from_hole}
 use Rattle.meaning.proofs.Lists.{never, eqb_eq, eqb_self, mem_each, each_mem, mem_up_to, up_to_mem, all_mem}
 use Rattle.meaning.proofs.ShiftLaws.{lower_shift_term, lower_expression}
-use Rattle.meaning.proofs.Lockstep.{walk-in}
+use Rattle.meaning.proofs.Lockstep.{walk_in}
 use Rattle.meaning.proofs.Proper.{IsArgument}
 use Rattle.meaning.proofs.Slots.{slots, face_slot, slot_face, faces_expression, plain_slot, slot_plain, hole_slot, slot_hole}
 
@@ -46,7 +46,7 @@ walked_from h k n p e a = go (walk k n p e) refl a
     go (some xs) q b = record { found = xs; defined = q; satisfied = λ x m. all_mem (Satisfied h) x xs b m }
 
 pub walked : (h : Handler) (k n : ℕ) (p e : Terms) → fill h k p ≡ e → Walked h k n p e
-walked h k n p e q = walked_from h k n p e (walk-in h k n p e q)
+walked h k n p e q = walked_from h k n p e (walk_in h k n p e q)
 
 -- What a source is the source of
 pub source_at_lem : (z : Slot) (n : ℕ) (t : Term) (s : Source) → s ∈ source_at z n t → (z ≡ metavariable s.number) × (s.term ≡ t)
@@ -97,10 +97,10 @@ argument_filled h k nil i q = absurd (omega arith)
 argument_filled h k (cons l c s) zero q = refl
 argument_filled h k (cons l c s) (suc i) q = argument_filled h k s i (omega arith)
 
-pub argument_of : (c : Terms) (i : ℕ) → IsArgument c → i < trees c → IsArgument (one (argument c i))
-argument_of nil i h q = absurd (omega arith)
-argument_of (cons l c s) zero h q = (h.0, h.1, tt)
-argument_of (cons l c s) (suc i) h q = argument_of s i h.2 (omega arith)
+pub argument_of_lem : (c : Terms) (i : ℕ) → IsArgument c → i < trees c → IsArgument (one (argument c i))
+argument_of_lem nil i h q = absurd (omega arith)
+argument_of_lem (cons l c s) zero h q = (h.0, h.1, tt)
+argument_of_lem (cons l c s) (suc i) h q = argument_of_lem s i h.2 (omega arith)
 
 -- One application: its function has the body b, it has as many arguments as its label says, it is satisfied
 module _ (σ : Filling) (b : Term) (f n : ℕ) (x : Face) (given : σ f ≡ body b) (is_function : x.what ≡ function f n)
@@ -172,7 +172,7 @@ module _ (σ : Filling) (b : Term) (f n : ℕ) (x : Face) (given : σ f ≡ body
     pub hole_has : (m : ℕ) → m ∈ plain (one (argument x.children i))
         → HasSource m (from_hole x.under (argument x.children i) (some h))
     hole_has m q =
-        let s = plain_slot (one (argument x.children i)) (argument_of x.children i shape.1 fewer) m q in
+        let s = plain_slot (one (argument x.children i)) (argument_of_lem x.children i shape.1 fewer) m q in
         let y = slot_face x.under h.node (one (argument x.children i)) (one (arguments i)) argument_walk.found (metavariable m)
         s.0 argument_walk.defined s.1 in
         subst (HasSource m) (sym hole_sources) (face_source y.0 m argument_walk.found y.1 y.2)
@@ -192,8 +192,8 @@ module _ (σ : Filling) (b : Term) (f n : ℕ) (x : Face) (given : σ f ≡ body
     pub has_holes : has_hole place (one b) ≡ true
     pub stands : s.number ∈ plain (one (argument x.children place))
 
-  pub application-told : (s : Source) → s ∈ each from_place (up_to n) → Told s
-  application-told s q =
+  pub application_told : (s : Source) → s ∈ each from_place (up_to n) → Told s
+  application_told s q =
       let r = each_mem from_place s (up_to n) q in
       let small : r.0 < n = up_to_mem n r.0 r.1 in
       go r.0 small (lowest r.0) refl r.2
@@ -217,10 +217,10 @@ module _ (σ : Filling) (b : Term) (f n : ℕ) (x : Face) (given : σ f ≡ body
           }
 
   -- A metavariable of an argument whose hole the body has is given a source
-  pub application-has : (places : ℕ) → IsBody places (one b) → (i m : ℕ) → i < n → has_hole i (one b) ≡ true
+  pub application_has : (places : ℕ) → IsBody places (one b) → (i m : ℕ) → i < n → has_hole i (one b) ≡ true
       → m ∈ plain (one (argument x.children i))
       → HasSource m (each from_place (up_to n))
-  application-has places is_body i m small there q =
+  application_has places is_body i m small there q =
       let hs = hole_slot places (one b) is_body i there in
       let hf = slot_face 0 x.node (one b) (one x.term) body_walk.found (hole i) hs.0 body_walk.defined hs.1 in
       let lo = lowest_there i body_walk.found hf.0 hf.1 hf.2 in

@@ -48,45 +48,45 @@ nil_filled levels ctx s h = (sym (none_left s h), tt)
 
 module _ (levels : ℕ) (ctx : Context) (read : Reader) (law : Faithful levels ctx read) where
   -- One term, and the rest by the same law
-  graft-filled : (s : Bytes) (x : NamedTerm × Bytes) (f : Forest Named) → All Byte s → read s ≡ got x → Filled levels ctx x.1 f
+  graft_filled : (s : Bytes) (x : NamedTerm × Bytes) (f : Forest Named) → All Byte s → read s ≡ got x → Filled levels ctx x.1 f
       → Filled levels ctx s (graft x.0 f)
-  graft-filled s x f b e r =
+  graft_filled s x f b e r =
       let t = law s x b e in
       (encode_graft x.0 f ∙ ap (λ (l : Bytes). encode (one x.0) ++ l) r.0 ∙ t.0, readable_graft levels ctx x.0 f t.1 r.1)
 
-  left-bytes : (s : Bytes) (x : NamedTerm × Bytes) → All Byte s → read s ≡ got x → All Byte x.1
-  left-bytes s x b e = (append_all Byte (encode (one x.0)) x.1 (subst (All Byte) (sym (law s x b e).0) b)).1
+  left_bytes : (s : Bytes) (x : NamedTerm × Bytes) → All Byte s → read s ≡ got x → All Byte x.1
+  left_bytes s x b e = (append_all Byte (encode (one x.0)) x.1 (subst (All Byte) (sym (law s x b e).0) b)).1
 
-  left-fewer : (s : Bytes) (x : NamedTerm × Bytes) → All Byte s → read s ≡ got x → length x.1 < length s
-  left-fewer s x b e = omega (arith, simp length-append at (ap length (law s x b e).0), encode_long x.0)
+  left_fewer : (s : Bytes) (x : NamedTerm × Bytes) → All Byte s → read s ≡ got x → length x.1 < length s
+  left_fewer s x b e = omega (arith, simp length-append at (ap length (law s x b e).0), encode_long x.0)
 
-  exactly-filled : (n : ℕ) (s : Bytes) (f : Forest Named) → All Byte s → read_exactly n read s ≡ got f
+  exactly_filled : (n : ℕ) (s : Bytes) (f : Forest Named) → All Byte s → read_exactly n read s ≡ got f
       → Filled levels ctx s f × (trees f ≡ n)
   unfolding read_exactly
-  exactly-filled zero s f b e =
+  exactly_filled zero s f b e =
       let r = when_got (eqb (length s) 0) 7 _ e in
       let h : length s ≡ 0 = eqb-true (length s) 0 r.0 in
       subst (λ (f : Forest Named). Filled levels ctx s f × (trees f ≡ 0)) (got_is r.1) (nil_filled levels ctx s (omega arith), refl)
-  exactly-filled (suc n) s f b e =
+  exactly_filled (suc n) s f b e =
       by_got (read s) _ e (λ x first e.
       by_got (read_exactly n read x.1) _ e (λ g rest e.
-      let ih = exactly-filled n x.1 g (left-bytes s x b first) rest in
+      let ih = exactly_filled n x.1 g (left_bytes s x b first) rest in
       subst (λ (f : Forest Named). Filled levels ctx s f × (trees f ≡ suc n)) (got_is e)
-      (graft-filled s x g b first ih.0, ap suc ih.1)))
+      (graft_filled s x g b first ih.0, ap suc ih.1)))
 
-  all-filled : (n : ℕ) (s : Bytes) (f : Forest Named) → All Byte s → length s ≤ n → read_all n read s ≡ got f → Filled levels ctx s f
+  all_filled : (n : ℕ) (s : Bytes) (f : Forest Named) → All Byte s → length s ≤ n → read_all n read s ≡ got f → Filled levels ctx s f
   unfolding read_all
-  all-filled zero s f b h e = subst (Filled levels ctx s) (got_is e) (nil_filled levels ctx s h)
-  all-filled (suc n) s f b h e =
+  all_filled zero s f b h e = subst (Filled levels ctx s) (got_is e) (nil_filled levels ctx s h)
+  all_filled (suc n) s f b h e =
       by_choice (eqb (length s) 0) _ _ e
       (λ t e. let z : length s ≡ 0 = eqb-true (length s) 0 t in
       subst (Filled levels ctx s) (got_is e) (nil_filled levels ctx s (omega arith)))
       (λ _ e.
       by_got (read s) _ e (λ x first e.
       by_got (read_all n read x.1) _ e (λ g rest e.
-      let fewer = left-fewer s x b first in
-      let ih = all-filled n x.1 g (left-bytes s x b first) (omega arith) rest in
-      subst (Filled levels ctx s) (got_is e) (graft-filled s x g b first ih))))
+      let fewer = left_fewer s x b first in
+      let ih = all_filled n x.1 g (left_bytes s x b first) (omega arith) rest in
+      subst (Filled levels ctx s) (got_is e) (graft_filled s x g b first ih))))
 
 -- A node with its inner fields is the field that was read
 abbrev Made : ℕ → Context → ℕ → Bytes → NamedTerm → Type 0
@@ -106,13 +106,13 @@ content_made levels ctx read law tag c (over l n s) t b o e =
     let below : Context = context_below l ctx in
     by_got (read_exactly n (read below) s) _ e (λ f inner e.
     let bytes : All Byte s = (append_all Byte (fixed_part l) s (subst (All Byte) (sym o.1) b)).1 in
-    let r = exactly-filled levels below (read below) (law below) n s f bytes inner in
+    let r = exactly_filled levels below (read below) (law below) n s f bytes inner in
     let whole : fixed_part l ++ encode f ≡ c = ap (λ (i : Bytes). fixed_part l ++ i) r.0.0 ∙ o.1 in
     subst (Made levels ctx tag c) (got_is e) (node_made levels ctx tag c l f o.0 whole (o.2 f r.1) r.0.1))
 content_made levels ctx read law tag c (many s) t b o e =
     by_got (read_all (length s) (read ctx) s) _ e (λ f inner e.
     let bytes : All Byte s = subst (All Byte) (sym o.1) b in
-    let r = all-filled levels ctx (read ctx) (law ctx) (length s) s f bytes (omega arith) inner in
+    let r = all_filled levels ctx (read ctx) (law ctx) (length s) s f bytes (omega arith) inner in
     let some : 0 < trees f = some_trees f (rw r.0 o.2) in
     subst (Made levels ctx tag c) (got_is e)
     (node_made levels ctx tag c (own (application (trees f))) f o.0 (r.0 ∙ o.1) (refl, some) r.1))
@@ -136,26 +136,26 @@ abbrev Complete : ℕ → Context → Reader → Type 0
 Complete levels ctx read = (t : NamedTerm) (later : Bytes) → Readable levels ctx (one t) → read (encode (one t) ++ later) ≡ got (t, later)
 
 module _ (levels : ℕ) (ctx : Context) (read : Reader) (law : Complete levels ctx read) where
-  first-complete : (t : NamedTerm) (f : Forest Named) → Readable levels ctx (graft t f) → read (encode (graft t f)) ≡ got (t, encode f)
-  first-complete t f r = ap read (encode_graft t f) ∙ law t (encode f) (readable_split levels ctx t f r).0
+  first_complete : (t : NamedTerm) (f : Forest Named) → Readable levels ctx (graft t f) → read (encode (graft t f)) ≡ got (t, encode f)
+  first_complete t f r = ap read (encode_graft t f) ∙ law t (encode f) (readable_split levels ctx t f r).0
 
-  exactly-complete : (f : Forest Named) → Readable levels ctx f → read_exactly (trees f) read (encode f) ≡ got f
+  exactly_complete : (f : Forest Named) → Readable levels ctx f → read_exactly (trees f) read (encode f) ≡ got f
   unfolding read_exactly encode
-  exactly-complete nil r = refl
-  exactly-complete (cons l c s) r =
-      rw (first-complete (l, c) s r, exactly-complete s (readable_split levels ctx (l, c) s r).1)
+  exactly_complete nil r = refl
+  exactly_complete (cons l c s) r =
+      rw (first_complete (l, c) s r, exactly_complete s (readable_split levels ctx (l, c) s r).1)
 
-  all-complete : (n : ℕ) (f : Forest Named) → Readable levels ctx f → length (encode f) ≤ n → read_all n read (encode f) ≡ got f
+  all_complete : (n : ℕ) (f : Forest Named) → Readable levels ctx f → length (encode f) ≤ n → read_all n read (encode f) ≡ got f
   unfolding read_all encode
-  all-complete zero nil r h = refl
-  all-complete (suc n) nil r h = refl
-  all-complete zero (cons l c s) r h = absurd (omega (arith, graft_long (l, c) s))
-  all-complete (suc n) (cons l c s) r h =
+  all_complete zero nil r h = refl
+  all_complete (suc n) nil r h = refl
+  all_complete zero (cons l c s) r h = absurd (omega (arith, graft_long (l, c) s))
+  all_complete (suc n) (cons l c s) r h =
       let long = graft_long (l, c) s in
       rw (
         ne_eqb (length (encode (cons l c s))) 0 (λ e. omega arith),
-        first-complete (l, c) s r,
-        all-complete n s (readable_split levels ctx (l, c) s r).1 (omega arith),
+        first_complete (l, c) s r,
+        all_complete n s (readable_split levels ctx (l, c) s r).1 (omega arith),
       )
 
 -- Its inner fields are its children
@@ -166,12 +166,12 @@ unfolding context_below
 node_complete levels ctx read law (own (symbol n)) c fits r = rw fits.1
 node_complete levels ctx read law (own (variable x)) c fits r = rw fits.1
 node_complete levels ctx read law (own (application n)) c fits r =
-    rw (all-complete levels ctx (read ctx) (law ctx) (length (encode c)) c r (omega arith), fits.0)
+    rw (all_complete levels ctx (read ctx) (law ctx) (length (encode c)) c r (omega arith), fits.0)
 node_complete levels ctx read law (own (binder b x)) c fits r =
-    rw (← fits.2, exactly-complete levels ctx (read ctx) (law ctx) c r)
+    rw (← fits.2, exactly_complete levels ctx (read ctx) (law ctx) c r)
 node_complete levels ctx read law (slot (metavariable m)) c fits r = rw fits.2
 node_complete levels ctx read law (slot (function f n)) c fits r =
-    rw (← fits.3, exactly-complete levels in_argument (read in_argument) (law in_argument) c r)
+    rw (← fits.3, exactly_complete levels in_argument (read in_argument) (law in_argument) c r)
 node_complete levels ctx read law (slot (hole i)) c fits r = rw fits.2
 
 term_complete : (levels : ℕ) (ctx : Context) → Complete levels ctx (read_term levels ctx)

@@ -32,13 +32,13 @@ use Rattle.meaning.specs.Text.{Item, term_or, term_at, face_node, written_body, 
 use Rattle.meaning.proofs.Lists.{never, true_T, eqb_eq, eqb_self, by_test, choose_true, choose_false}
 use Rattle.meaning.proofs.Lists.{keep_mem, is_in_mem, mem_is_in, not_is_in, up_to_mem, all_mem, mem_all}
 use Rattle.meaning.proofs.ShiftLaws.{test_closed}
-use Rattle.meaning.proofs.Ordered.{count_from_ordered, keep-ordered, ordered-distinct}
+use Rattle.meaning.proofs.Ordered.{count_from_ordered, keep_ordered, ordered_distinct}
 use Rattle.meaning.proofs.FieldOrder.{ordered_rises, said_nowhere}
 use Rattle.meaning.proofs.ChoiceLaws.{rows_are}
 use Rattle.meaning.proofs.Proper.{Proper, accepted_proper, hole_tagged, applied_occurs, plain_occurs}
-use Rattle.meaning.proofs.Candidate.{lookup_is, candidate-function, candidate-plain, candidate-other}
-use Rattle.meaning.proofs.RowBodies.{punch_one, face-expression}
-use Rattle.meaning.proofs.Solutions.{passes-walk, passes-faces, passes-closed, passes-fitting}
+use Rattle.meaning.proofs.Candidate.{lookup_is, candidate_function, candidate_plain, candidate_other}
+use Rattle.meaning.proofs.RowBodies.{punch_one, face_expression}
+use Rattle.meaning.proofs.Solutions.{passes_walk, passes_faces, passes_closed, passes_fitting}
 use Rattle.meaning.proofs.Nodes.{Stands, here, below, beside, node_stands, face_node_lem, source_node, named_node, scope_drop}
 use Rattle.meaning.proofs.Nodes.{punch_names}
 
@@ -46,10 +46,10 @@ use Rattle.meaning.proofs.Nodes.{punch_names}
 metavariables_ordered : (p : Problem) → Ordered ◌<◌ (metavariables p)
 unfolding metavariables
 metavariables_ordered p =
-    keep-ordered ◌<◌ (λ m. is_function p m || is_plain p m) (up_to metavariable_count) (count_from_ordered 0 metavariable_count)
+    keep_ordered ◌<◌ (λ m. is_function p m || is_plain p m) (up_to metavariable_count) (count_from_ordered 0 metavariable_count)
 
 pub metavariables_once : (p : Problem) → Distinct (metavariables p)
-metavariables_once p = ordered-distinct ◌<◌ (λ m l. omega arith) (metavariables p) (metavariables_ordered p)
+metavariables_once p = ordered_distinct ◌<◌ (λ m l. omega arith) (metavariables p) (metavariables_ordered p)
 
 -- Which metavariables are written: those that occur
 small_number : (p : Problem) (m : ℕ) → m ∈ metavariables p → m < metavariable_count
@@ -79,7 +79,7 @@ function_face : (p : Problem) → Proper p → (xs : List Face) → faces p ≡ 
 function_face p c xs q f a = go (first_face f (or_none (faces p))) refl
   where
     go : (o : Option Face) → first_face f (or_none (faces p)) ≡ o → (y : Face) × (first_face f (or_none (faces p)) ≡ some y) × (y ∈ xs)
-    go none e = absurd (subst (λ (o : Option Face). IsExpression (one (face_term o f))) e (face-expression p c xs q f a)).0
+    go none e = absurd (subst (λ (o : Option Face). IsExpression (one (face_term o f))) e (face_expression p c xs q f a)).0
     go (some y) e = (y, e, first_in_lem f xs y (sym (ap (λ (o : Option (List Face)). first_face f (or_none o)) q) ∙ e))
 
 -- The term that is copied from a node: it is there, and means, in some scope, the term t of the expressions
@@ -99,17 +99,17 @@ module _ (p : Problem) (r : Row) (ok : Accepted p) (e : solves p r ≡ true) whe
   proper : Proper p
   proper = accepted_proper p ok
 
-  closed-entry : (m : ℕ) (x : Entry Term) → m ∈ metavariables p → candidate p r m ≡ x → T (is_closed_entry x)
-  closed-entry m x h q = subst (λ (y : Entry Term). T (is_closed_entry y)) q (true_T (passes-closed p r e m h))
+  closed_entry : (m : ℕ) (x : Entry Term) → m ∈ metavariables p → candidate p r m ≡ x → T (is_closed_entry x)
+  closed_entry m x h q = subst (λ (y : Entry Term). T (is_closed_entry y)) q (true_T (passes_closed p r e m h))
 
   -- A function's entry is its first face, with the row's holes
-  written-body : (m : ℕ) → m ∈ applied (patterns p)
+  written_body_lem : (m : ℕ) → m ∈ applied (patterns p)
       → (n : ℕ) × (entry_of p r m ≡ body (punch_term (choice_in (functions p) r m) (term_at p n))) × Copied p n (face_of p m)
   unfolding entry_of
-  written-body m a =
-      let xs = (passes-walk p r e).found in
-      let y = function_face p proper xs (passes-faces p r e) m a in
-      let c : Copied p y.0.node y.0.term = copied p y.0.node y.0.term (face_node_lem p xs (passes-faces p r e) y.0 y.2) in
+  written_body_lem m a =
+      let xs = (passes_walk p r e).found in
+      let y = function_face p proper xs (passes_faces p r e) m a in
+      let c : Copied p y.0.node y.0.term = copied p y.0.node y.0.term (face_node_lem p xs (passes_faces p r e) y.0 y.2) in
       let faced : face_of p m ≡ y.0.term = ap (λ (o : Option Face). face_term o m) y.1 in (
         y.0.node,
         choose_true (written_body p r m) (written_value p (lookup m (sources p r))) (mem_is_in m (applied (patterns p)) a)
@@ -117,48 +117,48 @@ module _ (p : Problem) (r : Row) (ok : Accepted p) (e : solves p r ≡ true) whe
         subst (Copied p y.0.node) (sym faced) c,
       )
 
-  body-copied : (m n : ℕ) (c : Copied p n (face_of p m))
+  body_copied : (m n : ℕ) (c : Copied p n (face_of p m))
       → row_body p r m ≡ nameless_term c.scope (punch_term (choice_in (functions p) r m) (term_at p n))
   unfolding row_body
-  body-copied m n c =
+  body_copied m n c =
       ap (punch_term (choice_in (functions p) r m)) c.means ∙ punch_names (choice_in (functions p) r m) c.scope (term_at p n)
 
   entry_body : (m : ℕ) → m ∈ metavariables p → m ∈ applied (patterns p) → meant (entry_of p r m) ≡ candidate p r m
   entry_body m h a =
-      let w = written-body m a in
+      let w = written_body_lem m a in
       let c : Copied p w.0 (face_of p m) = w.2 in
       let v : NamedTerm = punch_term (choice_in (functions p) r m) (term_at p w.0) in
-      let same : row_body p r m ≡ nameless_term c.scope v = body-copied m w.0 c in
+      let same : row_body p r m ≡ nameless_term c.scope v = body_copied m w.0 c in
       let d : ClosedTerm (row_body p r m) =
-      test_closed 0 (one (row_body p r m)) (closed-entry m (body (row_body p r m)) h (candidate-function p r m a)) in
-      ap meant w.1 ∙ ap body (sym (scope_drop c.scope v (subst ClosedTerm same d)) ∙ sym same) ∙ sym (candidate-function p r m a)
+      test_closed 0 (one (row_body p r m)) (closed_entry m (body (row_body p r m)) h (candidate_function p r m a)) in
+      ap meant w.1 ∙ ap body (sym (scope_drop c.scope v (subst ClosedTerm same d)) ∙ sym same) ∙ sym (candidate_function p r m a)
 
   -- Another metavariable's entry is the term at its source
-  pub written-value : (m : ℕ) → (m ∈ applied (patterns p) → ⊥) → entry_of p r m ≡ written_value p (lookup m (sources p r))
+  pub written_value_lem : (m : ℕ) → (m ∈ applied (patterns p) → ⊥) → entry_of p r m ≡ written_value p (lookup m (sources p r))
   unfolding entry_of
-  written-value m a = choose_false (written_body p r m) (written_value p (lookup m (sources p r))) (not_is_in m (applied (patterns p)) a)
+  written_value_lem m a = choose_false (written_body p r m) (written_value p (lookup m (sources p r))) (not_is_in m (applied (patterns p)) a)
 
-  pub value-copied : (m : ℕ) (s : Source) → m ∈ metavariables p → (m ∈ applied (patterns p) → ⊥) → m ∈ plain (patterns p)
+  pub value_copied : (m : ℕ) (s : Source) → m ∈ metavariables p → (m ∈ applied (patterns p) → ⊥) → m ∈ plain (patterns p)
       → lookup m (sources p r) ≡ some s
       → ClosedTerm s.term × Copied p s.node s.term
-  value-copied m s h a b q =
+  value_copied m s h a b q =
       let d : ClosedTerm s.term =
-      test_closed 0 (one s.term) (closed-entry m (value s.term) h (candidate-plain p r m a b ∙ ap given q)) in
+      test_closed 0 (one s.term) (closed_entry m (value s.term) h (candidate_plain p r m a b ∙ ap given q)) in
       (d, copied p s.node s.term (source_node p r s (lookup_is m (sources p r) s q).0 d))
 
   entry_value : (m : ℕ) → m ∈ metavariables p → (m ∈ applied (patterns p) → ⊥) → m ∈ plain (patterns p)
       → meant (entry_of p r m) ≡ candidate p r m
-  entry_value m h a b = ap meant (written-value m a) ∙ go (lookup m (sources p r)) refl ∙ sym (candidate-plain p r m a b)
+  entry_value m h a b = ap meant (written_value_lem m a) ∙ go (lookup m (sources p r)) refl ∙ sym (candidate_plain p r m a b)
     where
       go : (o : Option Source) → lookup m (sources p r) ≡ o → meant (written_value p o) ≡ given o
       go none q = refl
       go (some s) q =
-          let d = value-copied m s h a b q in
+          let d = value_copied m s h a b q in
           let c : Copied p s.node s.term = d.1 in
           ap value (sym (scope_drop c.scope (term_at p s.node) (subst ClosedTerm c.means d.0)) ∙ sym c.means)
 
-  pub text-entry : (m : ℕ) → m ∈ metavariables p → meant (entry_of p r m) ≡ candidate p r m
-  text-entry m h = by_kind p m h (entry_body m h) (entry_value m h)
+  pub text_entry : (m : ℕ) → m ∈ metavariables p → meant (entry_of p r m) ≡ candidate p r m
+  text_entry m h = by_kind p m h (entry_body m h) (entry_value m h)
 
 -- What a text with one item for each number says
 abbrev items_of : (ℕ → Entry NamedTerm) → List ℕ → List Item
@@ -265,7 +265,7 @@ text_says p r ok e = fun_ext (λ m. by_test (is_in m (metavariables p)) (there m
     there : (m : ℕ) → is_in m (metavariables p) ≡ true → said (items_of (entry_of p r) (metavariables p)) m ≡ candidate p r m
     there m q =
         let h : m ∈ metavariables p = is_in_mem m (metavariables p) q in
-        said_in (entry_of p r) (metavariables p) m h ∙ text-entry p r ok e m h
+        said_in (entry_of p r) (metavariables p) m h ∙ text_entry p r ok e m h
 
     elsewhere : (m : ℕ) → is_in m (metavariables p) ≡ false → said (items_of (entry_of p r) (metavariables p)) m ≡ candidate p r m
     elsewhere m q =
@@ -273,7 +273,7 @@ text_says p r ok e = fun_ext (λ m. by_test (is_in m (metavariables p)) (there m
         let c : Proper p = accepted_proper p ok in
         said_nowhere (items_of (entry_of p r) (metavariables p)) m
         (λ w. h (subst (λ (ms : List ℕ). m ∈ ms) (numbers_of (entry_of p r) (metavariables p)) w))
-        ∙ sym (candidate-other p r m (λ a. h (applied_occurs p c m a)) (λ a. h (plain_occurs p c m a)))
+        ∙ sym (candidate_other p r m (λ a. h (applied_occurs p c m a)) (λ a. h (plain_occurs p c m a)))
 
 -- ITS NUMBERS RISE: "one field for each metavariable that occurs, ascending"
 pub text_ascends : (p : Problem) (r : Row) → rises (numbers (text_of p r)) ≡ true
@@ -291,14 +291,14 @@ text_readable p r ok in_rows e = go (metavariables p) (λ m h. (small_number p m
 
     body_entry : (m : ℕ) → m ∈ applied (patterns p) → ReadableEntry (entry_of p r m)
     body_entry m a =
-        let w = written-body p r ok e m a in
+        let w = written_body_lem p r ok e m a in
         let c : Copied p w.0 (face_of p m) = w.2 in
         let ms : Marks = choice_in (functions p) r m in
         let v : NamedTerm = term_at p w.0 in
         let shape : IsBody (places_of p m) (one (row_body p r m)) =
-        (passes-fitting p r e (accepted_proper p ok) ((rows_are p r).0 in_rows)).shapes m a in
+        (passes_fitting p r e (accepted_proper p ok) ((rows_are p r).0 in_rows)).shapes m a in
         let same : one (row_body p r m) ≡ nameless c.scope (punch ms (one v)) =
-        ap (λ (t : Term). one t) (body-copied p r ok e m w.0 c) ∙ ap (nameless c.scope) (punch_one ms v) in
+        ap (λ (t : Term). one t) (body_copied p r ok e m w.0 c) ∙ ap (nameless c.scope) (punch_one ms v) in
         let x : Readable max_depth in_body (punch ms (one v)) =
         punched_readable (places_of p m) (λ i. hole_tagged p ok.within m i a) max_depth c.scope ms (one v) (at w.0 (face_of p m) c)
         (subst (IsBody (places_of p m)) same shape) in
@@ -308,12 +308,12 @@ text_readable p r ok in_rows e = go (metavariables p) (λ m h. (small_number p m
         → lookup m (sources p r) ≡ o
         → ReadableEntry (written_value p o)
     value_entry m h a b none q = tt
-    value_entry m h a b (some s) q = at s.node s.term (value-copied p r ok e m s h a b q).1
+    value_entry m h a b (some s) q = at s.node s.term (value_copied p r ok e m s h a b q).1
 
     entry : (m : ℕ) → m ∈ metavariables p → ReadableEntry (entry_of p r m)
     entry m h =
         by_kind p m h (body_entry m)
-        (λ a b. subst ReadableEntry (sym (written-value p r ok e m a)) (value_entry m h a b (lookup m (sources p r)) refl))
+        (λ a b. subst ReadableEntry (sym (written_value_lem p r ok e m a)) (value_entry m h a b (lookup m (sources p r)) refl))
 
     go : (ms : List ℕ) → ((m : ℕ) → m ∈ ms → ReadableItem (m, entry_of p r m)) → All ReadableItem (items_of (entry_of p r) ms)
     go [] f = tt

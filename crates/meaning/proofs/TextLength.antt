@@ -37,10 +37,10 @@ use Rattle.meaning.proofs.ByteLaws.{field_length}
 use Rattle.meaning.proofs.Proper.{Proper, accepted_proper}
 use Rattle.meaning.proofs.Slots.{slots, face_slot, pattern_slot, slot_applied, faces_expression}
 use Rattle.meaning.proofs.Sources.{Walked, walked, lowest_is, arguments, plugged}
-use Rattle.meaning.proofs.Candidate.{lookup_is, candidate-function, candidate-plain}
-use Rattle.meaning.proofs.RowBodies.{FaceOf, face-of, face-expression, body_row}
-use Rattle.meaning.proofs.Solutions.{passes-walk, passes-faces}
-use Rattle.meaning.proofs.TextLaws.{metavariables_once, by_kind, text-entry}
+use Rattle.meaning.proofs.Candidate.{lookup_is, candidate_function, candidate_plain}
+use Rattle.meaning.proofs.RowBodies.{FaceOf, face_of_lem, face_expression, body_row}
+use Rattle.meaning.proofs.Solutions.{passes_walk, passes_faces}
+use Rattle.meaning.proofs.TextLaws.{metavariables_once, by_kind, text_entry}
 use Rattle.meaning.proofs.Sums.{total, total_append, total_each, total_map, total_add, total_same, total_most, length_each}
 use Rattle.meaning.proofs.Sums.{length_up_to, Charge, amount, charged_once}
 use Rattle.meaning.proofs.Weights.{weight, label_weight, encode_weight, trees_weight, nameless_weight, lower_weight, faced, slotted}
@@ -196,18 +196,18 @@ module _ (p : Problem) (r : Row) (ok : Accepted p) (e : solves p r ≡ true) whe
   proper = accepted_proper p ok
 
   abbrev the_faces : Walked (fill_handler (candidate p r)) 0 0 (patterns p) (expressions p)
-  the_faces = passes-walk p r e
+  the_faces = passes_walk p r e
 
   -- The slots of a row's body
   body_slots : (f : ℕ) → f ∈ applied (patterns p) → (z : Slot) (c : Terms) → (z, c) ∈ slots (one (bodies f)) → weight (one (slot z, c)) ≡ 3
   body_slots f a z c q =
       let ms : Marks = choice_in (functions p) r f in
-      punched_slots ms (one (face_of p f)) (face-expression p proper the_faces.found (passes-faces p r e) f a) z c
+      punched_slots ms (one (face_of p f)) (face_expression p proper the_faces.found (passes_faces p r e) f a) z c
       (subst (λ (u : Terms). ◌∈◌ {A = Slot × Terms} (z, c) (slots u)) (body_row p r f) q)
 
-  function-most : (x : Face) → x ∈ the_faces.found → (f n : ℕ) → x.what ≡ function f n
+  function_most : (x : Face) → x ∈ the_faces.found → (f n : ℕ) → x.what ≡ function f n
       → total amount (charges_at bodies x (function f n)) ≤ faced x + slotted x
-  function-most x m f n h =
+  function_most x m f n h =
       let there : ◌∈◌ {A = Slot × Terms} (function f n, x.children) (slots (patterns p)) =
       subst (λ (z : Slot). ◌∈◌ {A = Slot × Terms} (z, x.children) (slots (patterns p))) h
       (face_slot 0 0 (patterns p) (expressions p) the_faces.found x the_faces.defined m) in
@@ -216,10 +216,10 @@ module _ (p : Problem) (r : Row) (ok : Accepted p) (e : solves p r ≡ true) whe
       let ex : IsExpression (one x.term) =
       faces_expression 0 0 (patterns p) (expressions p) the_faces.found proper.expression the_faces.defined x m in
       let sat : Satisfied (fill_handler (candidate p r)) x = the_faces.satisfied x m in
-      let args : ℕ → Term = arguments (candidate p r) (bodies f) f n x (candidate-function p r f a) h shape ex sat in
+      let args : ℕ → Term = arguments (candidate p r) (bodies f) f n x (candidate_function p r f a) h shape ex sat in
       let w : Walked (plug_handler args) 0 x.node (one (bodies f)) (one x.term) =
       walked (plug_handler args) 0 x.node (one (bodies f)) (one x.term)
-      (ap (λ (t : Term). one t) (plugged (candidate p r) (bodies f) f n x (candidate-function p r f a) h shape ex sat)) in
+      (ap (λ (t : Term). one t) (plugged (candidate p r) (bodies f) f n x (candidate_function p r f a) h shape ex sat)) in
       let q = application_most n x.node x.under (bodies f) x.term (argument x.children) w.found w.defined
       (λ y i. body_slots f a y.what y.children
       (face_slot 0 x.node (one (bodies f)) (one x.term) w.found y w.defined i)) in
@@ -236,35 +236,35 @@ module _ (p : Problem) (r : Row) (ok : Accepted p) (e : solves p r ≡ true) whe
       ≡ 4 = ap (λ (z : Slot). label_weight {X = Variable} {B = Unit {0}} (slot z)) h in
       omega arith
 
-  face-most : (x : Face) → x ∈ the_faces.found → total amount (charges bodies x) ≤ faced x + slotted x
-  face-most x m = go x.what refl
+  face_most : (x : Face) → x ∈ the_faces.found → total amount (charges bodies x) ≤ faced x + slotted x
+  face_most x m = go x.what refl
     where
       go : (z : Slot) → x.what ≡ z → total amount (charges_at bodies x z) ≤ faced x + slotted x
       go (metavariable k) h = omega arith
-      go (function f n) h = function-most x m f n h
+      go (function f n) h = function_most x m f n h
       go (hole i) h = omega arith
 
-  charges-most : total amount (each (charges bodies) the_faces.found) ≤ weight (patterns p) + weight (expressions p)
-  charges-most =
+  charges_most : total amount (each (charges bodies) the_faces.found) ≤ weight (patterns p) + weight (expressions p)
+  charges_most =
       let a = total_each amount (charges bodies) the_faces.found in
       let b : total (λ x. total amount (charges bodies x)) the_faces.found ≤ total (λ x. faced x + slotted x) the_faces.found =
-      total_most (λ x. total amount (charges bodies x)) (λ x. faced x + slotted x) the_faces.found face-most in
+      total_most (λ x. total amount (charges bodies x)) (λ x. faced x + slotted x) the_faces.found face_most in
       let c = total_add faced slotted the_faces.found in
       let d = walk_weight 0 0 (patterns p) (expressions p) the_faces.found the_faces.defined in
       omega arith
 
   -- Each metavariable that occurs is open, or what it is given is charged to a face
-  entry-charged : (m : ℕ) → m ∈ metavariables p
+  entry_charged : (m : ℕ) → m ∈ metavariables p
       → (entry_weight (candidate p r m) ≡ 0) ⊎ ((m, entry_weight (candidate p r m)) ∈ each (charges bodies) the_faces.found)
-  entry-charged m h = by_kind p m h as_function as_other
+  entry_charged m h = by_kind p m h as_function as_other
     where
       as_function : m ∈ applied (patterns p)
           → (entry_weight (candidate p r m) ≡ 0) ⊎ ((m, entry_weight (candidate p r m)) ∈ each (charges bodies) the_faces.found)
       as_function a =
-          let x : FaceOf p the_faces.found m = face-of p proper the_faces.found (passes-faces p r e) m a in
+          let x : FaceOf p the_faces.found m = face_of_lem p proper the_faces.found (passes_faces p r e) m a in
           let i : (m, weight (one (bodies m))) ∈ charges bodies x.face =
           subst (λ (z : Slot). (m, weight (one (bodies m))) ∈ charges_at bodies x.face z) (sym x.applies) (Memᴰ.head refl) in
-          inr (subst (λ (y : Entry Term). (m, entry_weight y) ∈ each (charges bodies) the_faces.found) (sym (candidate-function p r m a))
+          inr (subst (λ (y : Entry Term). (m, entry_weight y) ∈ each (charges bodies) the_faces.found) (sym (candidate_function p r m a))
           (mem_each (charges bodies) x.face (m, weight (one (bodies m))) the_faces.found x.among i))
 
       found : (o : Option Source) → lookup m (sources p r) ≡ o
@@ -273,7 +273,7 @@ module _ (p : Problem) (r : Row) (ok : Accepted p) (e : solves p r ≡ true) whe
       found (some s) q =
           let l = lookup_is m (sources p r) s q in
           let i : s ∈ sources_in bodies the_faces.found =
-          subst (λ (o : Option (List Face)). s ∈ sources_in bodies (or_none o)) (passes-faces p r e) l.0 in
+          subst (λ (o : Option (List Face)). s ∈ sources_in bodies (or_none o)) (passes_faces p r e) l.0 in
           inr (subst (λ (k : ℕ). (k, given_weight s) ∈ each (charges bodies) the_faces.found) l.1
           (source_charged bodies the_faces.found s i))
 
@@ -281,14 +281,14 @@ module _ (p : Problem) (r : Row) (ok : Accepted p) (e : solves p r ≡ true) whe
           → (entry_weight (candidate p r m) ≡ 0) ⊎ ((m, entry_weight (candidate p r m)) ∈ each (charges bodies) the_faces.found)
       as_other a b =
           subst (λ (y : Entry Term). (entry_weight y ≡ 0) ⊎ ((m, entry_weight y) ∈ each (charges bodies) the_faces.found))
-          (sym (candidate-plain p r m a b))
+          (sym (candidate_plain p r m a b))
           (found (lookup m (sources p r)) refl)
 
-  entries-most : total (λ m. entry_weight (candidate p r m)) (metavariables p) ≤ weight (patterns p) + weight (expressions p)
-  entries-most =
+  entries_most : total (λ m. entry_weight (candidate p r m)) (metavariables p) ≤ weight (patterns p) + weight (expressions p)
+  entries_most =
       let a = charged_once (λ m. entry_weight (candidate p r m)) (metavariables p) (each (charges bodies) the_faces.found)
-      (metavariables_once p) entry-charged in
-      let b = charges-most in
+      (metavariables_once p) entry_charged in
+      let b = charges_most in
       omega arith
 
 -- The bytes of one entry
@@ -323,7 +323,7 @@ text_length p r ok e =
     ≡ total (λ m. 4) (metavariables p) + total (λ m. entry_weight (candidate p r m)) (metavariables p) =
     total_add (λ m. 4) (λ m. entry_weight (candidate p r m)) (metavariables p) in
     let f : total (λ m. 4) (metavariables p) ≡ 4 * length (metavariables p) = total_same 4 (metavariables p) in
-    let g = entries-most p r ok e in
+    let g = entries_most p r ok e in
     let h = problem_weight p in
     let i : weight (patterns p) ≡ weight (named_patterns p) = nameless_weight [] (named_patterns p) in
     let j : weight (expressions p) ≡ weight (named_expressions p) = nameless_weight [] (named_expressions p) in
@@ -332,5 +332,5 @@ text_length p r ok e =
     entry : (m : ℕ) → m ∈ metavariables p → length (encode_entry m (entry_of p r m)) ≤ 4 + entry_weight (candidate p r m)
     entry m q =
         let a = entry_length m (entry_of p r m) in
-        let b : entry_weight (meant (entry_of p r m)) ≡ entry_weight (candidate p r m) = ap entry_weight (text-entry p r ok e m q) in
+        let b : entry_weight (meant (entry_of p r m)) ≡ entry_weight (candidate p r m) = ap entry_weight (text_entry p r ok e m q) in
         omega arith

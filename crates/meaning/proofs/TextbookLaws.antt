@@ -32,35 +32,35 @@ module _ (p : Problem) (a : Accepted p) (full : List Listed) (is_full : IsFullLi
   abbrev solutions : List Filling
   solutions = map (λ (x : Listed). left_out x.1) full
 
-  member-solution : (s : Filling) → s ∈ solutions → (σ : Filling) × Solution p σ × (s ≡ left_out σ)
-  member-solution s i =
+  member_solution : (s : Filling) → s ∈ solutions → (σ : Filling) × Solution p σ × (s ≡ left_out σ)
+  member_solution s i =
       let (x, there, e) = map_mem (λ (x : Listed). left_out x.1) s full i in
       (x.1, ((is_full.members x.0 x.1).0 there).1, e)
 
-  solution-member : (σ : Filling) → Solution p σ → left_out σ ∈ solutions
-  solution-member σ sol =
+  solution_member : (σ : Filling) → Solution p σ → left_out σ ∈ solutions
+  solution_member σ sol =
       let (x, there, e) = map_mem (λ (x : Listed). x.1) σ full (full_list_every p (accepted_proper p a) full is_full σ sol) in
       subst (λ (τ : Filling). left_out τ ∈ solutions) (sym e) (mem_map (λ (x : Listed). left_out x.1) there)
 
   whole_set : (E : Language) → Robust E → FullSolutionSet (Whole E p) solutions
   whole_set E robust s = (
-    λ i. let (σ, sol, e) = member-solution s i in subst (Minimal (Whole E p)) (sym e) (solution_minimal E robust p a σ sol),
-    λ least. let (σ, sol, e) = minimal_solution E robust p a s least in subst (λ (τ : Filling). τ ∈ solutions) (sym e) (solution-member σ sol),
+    λ i. let (σ, sol, e) = member_solution s i in subst (Minimal (Whole E p)) (sym e) (solution_minimal E robust p a σ sol),
+    λ least. let (σ, sol, e) = minimal_solution E robust p a s least in subst (λ (τ : Filling). τ ∈ solutions) (sym e) (solution_member σ sol),
   )
 
-  full-set : (E : Language) → Robust E → FullSolutionSet (Complete E p) solutions
-  full-set E robust =
+  full_set : (E : Language) → Robust E → FullSolutionSet (Complete E p) solutions
+  full_set E robust =
       let (x, clean, bytes) = spare_symbol p a in
       same_set (complete_whole p x clean E) (whole_set E robust)
 
-  totals-set : (E : Language) → Robust E → TypeConsistent p → FullSolutionSet (CompleteByTotals E p) solutions
-  totals-set E robust consistent =
+  totals_set : (E : Language) → Robust E → TypeConsistent p → FullSolutionSet (CompleteByTotals E p) solutions
+  totals_set E robust consistent =
       let (x, clean, bytes) = spare_symbol p a in
       same_set (λ s. totals_whole p x clean E s (robust _ bytes) consistent) (whole_set E robust)
 
   -- No two solutions become one
-  solutions-once : Distinct solutions
-  solutions-once = once full (λ x i. ((is_full.members x.0 x.1).0 i).1) (full_list_once p (accepted_proper p a) full is_full)
+  solutions_once : Distinct solutions
+  solutions_once = once full (λ x i. ((is_full.members x.0 x.1).0 i).1) (full_list_once p (accepted_proper p a) full is_full)
     where
       once : (xs : List Listed) → ((x : Listed) → x ∈ xs → Solution p x.1) → Distinct (map (λ (x : Listed). x.1) xs)
           → Distinct (map (λ (x : Listed). left_out x.1) xs)
@@ -79,7 +79,7 @@ module _ (p : Problem) (a : Accepted p) (full : List Listed) (is_full : IsFullLi
 
     is_empty : (s : Filling) → s ∈ solutions → s ≡ empty_filling
     is_empty s i =
-        let (σ, sol, e) = member-solution s i in
+        let (σ, sol, e) = member_solution s i in
         let c = accepted_proper p a in
         e ∙ fun_ext (λ m. ap without_open (sol.others m (λ j. outside m (applied_occurs p c m j)) (λ j. outside m (plain_occurs p c m j))))
 
@@ -96,7 +96,7 @@ module _ (p : Problem) (a : Accepted p) (full : List Listed) (is_full : IsFullLi
     )
 
     empty_or_nothing : ((solutions ≡ empty_filling ∷ []) × Satisfies p empty_filling) ⊎ ((solutions ≡ []) × (Satisfies p empty_filling → ⊥))
-    empty_or_nothing = go solutions is_empty solutions-once satisfied satisfied_listed
+    empty_or_nothing = go solutions is_empty solutions_once satisfied satisfied_listed
       where
         go : (F : List Filling) → ((s : Filling) → s ∈ F → s ≡ empty_filling) → Distinct F → (empty_filling ∈ F → Satisfies p empty_filling)
             → (Satisfies p empty_filling → empty_filling ∈ F)
@@ -112,4 +112,4 @@ module _ (p : Problem) (a : Accepted p) (full : List Listed) (is_full : IsFullLi
 
   -- T-12
   pub textbook : Textbook p solutions
-  textbook = record { full_solution_set = full-set; by_totals = totals-set; once = solutions-once; no_metavariables = empty_or_nothing }
+  textbook = record { full_solution_set = full_set; by_totals = totals_set; once = solutions_once; no_metavariables = empty_or_nothing }

@@ -71,20 +71,20 @@ reads_under n k w r sc c h x i j q f = by_test (eqb x w) hidden other
         choose_false _ _ e ∙ h x (suc i) j (omega arith) e f ∙ ap (raise n j) (sym (choose_false (bound i) (resolve sc (suc i) x) e))
 
 module _ (n : ℕ) where
-  reads-label : (k : ℕ) (r sc : List ℕ) (l : Named) (c s : Forest Named) → Reads n k r sc (cons l c s)
+  reads_label : (k : ℕ) (r sc : List ℕ) (l : Named) (c s : Forest Named) → Reads n k r sc (cons l c s)
       → nameless_label r l ≡ shift_label n k (nameless_label sc l)
-  reads-label k r sc (own (symbol m)) c s h = refl
-  reads-label k r sc (own (variable x)) c s h =
+  reads_label k r sc (own (symbol m)) c s h = refl
+  reads_label k r sc (own (variable x)) c s h =
       ap (λ (v : Variable). own (variable v)) (h x 0 k (omega arith) (or_left (eqb x x) (is_free x c || is_free x s) (eqb_self x)))
-  reads-label k r sc (own (application m)) c s h = refl
-  reads-label k r sc (own (binder b w)) c s h = refl
-  reads-label k r sc (slot z) c s h = refl
+  reads_label k r sc (own (application m)) c s h = refl
+  reads_label k r sc (own (binder b w)) c s h = refl
+  reads_label k r sc (slot z) c s h = refl
 
-  reads-shift : (k : ℕ) (r sc : List ℕ) (u : Forest Named) → Reads n k r sc u → nameless r u ≡ shift n k (nameless sc u)
-  reads-shift k r sc nil h = refl
-  reads-shift k r sc (cons l c s) h =
-      cons_eq (reads-label k r sc l c s h) (below l h (λ j r' sc'. reads-shift j r' sc' c))
-      (reads-shift k r sc s (λ x i j q f. h x i j q (free_beside x l c s f)))
+  reads_shift : (k : ℕ) (r sc : List ℕ) (u : Forest Named) → Reads n k r sc u → nameless r u ≡ shift n k (nameless sc u)
+  reads_shift k r sc nil h = refl
+  reads_shift k r sc (cons l c s) h =
+      cons_eq (reads_label k r sc l c s h) (below l h (λ j r' sc'. reads_shift j r' sc' c))
+      (reads_shift k r sc s (λ x i j q f. h x i j q (free_beside x l c s f)))
     where
       below : (l : Named) → Reads n k r sc (cons l c s)
           → ((j : ℕ) (r' sc' : List ℕ) → Reads n j r' sc' c → nameless r' c ≡ shift n j (nameless sc' c))
@@ -100,7 +100,7 @@ module _ (n : ℕ) where
 pub avoiding_shift : (ys sc : List ℕ) (t : NamedTerm) → Avoids ys t → nameless_term (ys ++ sc) t ≡ shift_term (length ys) (nameless_term sc t)
 avoiding_shift ys sc t a =
     one_injective (nameless_term (ys ++ sc) t) (shift_term (length ys) (nameless_term sc t))
-    (reads-shift (length ys) 0 (ys ++ sc) sc (one t) (λ x i j q f.
+    (reads_shift (length ys) 0 (ys ++ sc) sc (one t) (λ x i j q f.
     resolve_past (one t) ys sc x i (i + length ys) a f refl ∙ resolve_later sc (length ys) j i (i + length ys) x (omega arith) refl))
 
 -- and outside all binders it reads the same
@@ -163,10 +163,10 @@ module _ (τ : NamedFilling) (ys : List ℕ) where
   abbrev as_filled : Handler
   as_filled = fill_handler (meant_by τ)
 
-  written-filled : (z : Slot) (c : Forest Named) → slot_uncaught τ ys z c → Agrees (as_written τ) as_filled (slot_uncaught τ) [] ys c
+  written_filled : (z : Slot) (c : Forest Named) → slot_uncaught τ ys z c → Agrees (as_written τ) as_filled (slot_uncaught τ) [] ys c
       → AgreesAt (as_written τ) as_filled (slot_uncaught τ) [] ys z c
-  written-filled (metavariable m) c u ih = avoiding_closed ys (value_or m (τ m)) u ∙ value_meant m (τ m)
-  written-filled (function f n) c u ih =
+  written_filled (metavariable m) c u ih = avoiding_closed ys (value_or m (τ m)) u ∙ value_meant m (τ m)
+  written_filled (function f n) c u ih =
       let b : NamedTerm = body_or f (τ f) in
       put_plug (ys ++ []) (argument (textual τ c)) b u.1
       ∙ ap₂ plug (fun_ext filled_argument) (avoiding_closed ys b u.0 ∙ body_meant f (τ f))
@@ -174,8 +174,8 @@ module _ (τ : NamedFilling) (ys : List ℕ) where
       filled_argument : (i : ℕ)
           → nameless_term (ys ++ []) (argument (textual τ c) i) ≡ argument (fill as_filled (length ys) (nameless (ys ++ []) c)) i
       filled_argument i = argument_meant (ys ++ []) (textual τ c) i ∙ ap (λ (v : Terms). argument v i) ih
-  written-filled (hole i) c u ih = pair_eq refl ih
+  written_filled (hole i) c u ih = pair_eq refl ih
 
 -- NO CAPTURE: where no binder's name is free in what is put below it, filling as the text stands is filling by indices
 pub textual_filled : (τ : NamedFilling) (u : Forest Named) → Uncaught τ u → nameless [] (textual τ u) ≡ filled (meant_by τ) (nameless [] u)
-textual_filled τ u a = put_fill (as_written τ) (fill_handler (meant_by τ)) (slot_uncaught τ) [] (written-filled τ) [] u a
+textual_filled τ u a = put_fill (as_written τ) (fill_handler (meant_by τ)) (slot_uncaught τ) [] (written_filled τ) [] u a

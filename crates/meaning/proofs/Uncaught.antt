@@ -160,51 +160,51 @@ module _ (σ : Filling) (closed : (m : ℕ) → ClosedEntry (σ m)) (N : ℕ) wh
   spelled m = spell_entry (base m) (σ m)
 
   -- No name above N is free in filled patterns, but those of the patterns' binders
-  filled-misses : (y : ℕ) → N ≤ y → ((d : ℕ) → y ≡ name N d → ⊥)
+  filled_misses : (y : ℕ) → N ≤ y → ((d : ℕ) → y ≡ name N d → ⊥)
       → (k : ℕ) (u : Terms) → Closed k u → ceiling given u ≤ N → is_free y (textual spelled (spell N k u)) ≡ false
-  filled-misses y p q k nil h g = refl
-  filled-misses y p q k (cons (own o) c s) h g =
+  filled_misses y p q k nil h g = refl
+  filled_misses y p q k (cons (own o) c s) h g =
       free_node y (own (spell_own N k o)) (textual spelled (spell N (inner (own o) k) c)) (textual spelled (spell N k s))
       (spell_misses_label given y N k (own o) h.0 (omega arith) (λ d m. q d))
-      (λ e. filled-misses y p q (inner (own o) k) c h.1 (omega arith))
-      (filled-misses y p q k s h.2 (omega arith))
-  filled-misses y p q k (cons (slot (metavariable m)) c s) h g =
+      (λ e. filled_misses y p q (inner (own o) k) c h.1 (omega arith))
+      (filled_misses y p q k s h.2 (omega arith))
+  filled_misses y p q k (cons (slot (metavariable m)) c s) h g =
       free_tree y (value_or m (spelled m)) (textual spelled (spell N k s))
       (value_misses y (base m) m (σ m) (closed m) (omega arith))
-      (filled-misses y p q k s h.2 (omega arith))
-  filled-misses y p q k (cons (slot (function f n)) c s) h g =
+      (filled_misses y p q k s h.2 (omega arith))
+  filled_misses y p q k (cons (slot (function f n)) c s) h g =
       let v : Forest Named = textual spelled (spell N k c) in
       let b : NamedTerm = body_or f (spelled f) in
-      let inside : is_free y v ≡ false = filled-misses y p q k c h.1 (omega arith) in
+      let inside : is_free y v ≡ false = filled_misses y p q k c h.1 (omega arith) in
       let outside : is_free y (one b) ≡ false = body_misses y (base f) f (σ f) (closed f) (omega arith) in
       free_tree y (put_term (in_holes (argument v)) b) (textual spelled (spell N k s))
       (free_in_holes y (argument v) (λ i. free_argument y v i inside) (one b) outside)
-      (filled-misses y p q k s h.2 (omega arith))
-  filled-misses y p q k (cons (slot (hole i)) c s) h g =
-      ap₂ ◌||◌ (filled-misses y p q k c h.1 (omega arith)) (filled-misses y p q k s h.2 (omega arith))
+      (filled_misses y p q k s h.2 (omega arith))
+  filled_misses y p q k (cons (slot (hole i)) c s) h g =
+      ap₂ ◌||◌ (filled_misses y p q k c h.1 (omega arith)) (filled_misses y p q k s h.2 (omega arith))
 
   -- Those of a body's binders are none of these, so they are free in no argument
-  arguments-miss : (f k : ℕ) (c : Terms) → Closed k c → ceiling given c ≤ N
+  arguments_miss : (f k : ℕ) (c : Terms) → Closed k c → ceiling given c ≤ N
       → (d i : ℕ) → is_free (name (base f) d) (one (argument (textual spelled (spell N k c)) i)) ≡ false
-  arguments-miss f k c h g d i =
+  arguments_miss f k c h g d i =
       let y : ℕ = name (base f) d in
-      free_argument y (textual spelled (spell N k c)) i (filled-misses y (omega arith) (λ j q. omega arith) k c h g)
+      free_argument y (textual spelled (spell N k c)) i (filled_misses y (omega arith) (λ j q. omega arith) k c h g)
 
   -- So nothing is caught, by a pattern or by a body
-  slot-uncaught : (k : ℕ) (z : Slot) (c : Terms) → Closed k c → free_slot given z ≤ N → ceiling given c ≤ N
+  slot_uncaught_lem : (k : ℕ) (z : Slot) (c : Terms) → Closed k c → free_slot given z ≤ N → ceiling given c ≤ N
       → slot_uncaught spelled (levels N k) z (spell N k c)
-  slot-uncaught k (metavariable m) c h g e =
+  slot_uncaught_lem k (metavariable m) c h g e =
       all_levels (λ y. is_free y (one (value_or m (spelled m))) ≡ false) N
       (λ d. value_misses (name N d) (base m) m (σ m) (closed m) (omega arith)) k
-  slot-uncaught k (function f n) c h g e = (
+  slot_uncaught_lem k (function f n) c h g e = (
     all_levels (λ y. is_free y (one (body_or f (spelled f))) ≡ false) N
         (λ d. body_misses (name N d) (base f) f (σ f) (closed f) (omega arith)) k,
-    body_uncaught (base f) f (σ f) (argument (textual spelled (spell N k c))) (closed f) (omega arith) (arguments-miss f k c h e),
+    body_uncaught (base f) f (σ f) (argument (textual spelled (spell N k c))) (closed f) (omega arith) (arguments_miss f k c h e),
   )
-  slot-uncaught k (hole i) c h g e = tt
+  slot_uncaught_lem k (hole i) c h g e = tt
 
-  spelled-uncaught : (u : Terms) → Closed 0 u → ceiling given u ≤ N → Uncaught spelled (spell N 0 u)
-  spelled-uncaught u h g = spelled_slots given (slot_uncaught spelled) N slot-uncaught 0 u h g
+  spelled_uncaught : (u : Terms) → Closed 0 u → ceiling given u ≤ N → Uncaught spelled (spell N 0 u)
+  spelled_uncaught u h g = spelled_slots given (slot_uncaught spelled) N slot_uncaught_lem 0 u h g
 
 -- SPELLED: closed patterns and a closed filling can be written with names so that nothing is caught
 pub spellings_exist : (u : Terms) (σ : Filling) → Closed 0 u → ((m : ℕ) → ClosedEntry (σ m)) → Spelling u σ
@@ -216,7 +216,7 @@ spellings_exist u σ h closed =
       filling = spelled σ closed N;
       pattern_means = spell_means E N 0 u h (omega arith);
       filling_means = fun_ext (λ m. entry_means (base σ closed N m) (σ m) (closed m) (omega arith));
-      uncaught = spelled-uncaught σ closed N u h (omega arith);
+      uncaught = spelled_uncaught σ closed N u h (omega arith);
     }
 
 -- The same with names alone
@@ -249,5 +249,5 @@ respellings_exist u τ =
       filling = spelled (meant_by τ) closed N;
       same_pattern = nameless_alpha u (spell N 0 v) [] (sym (spell_means E N 0 v (nameless_closed [] u) (omega arith)));
       same_filling = λ m. entry_alpha (base (meant_by τ) closed N m) (τ m) (omega arith);
-      uncaught = spelled-uncaught (meant_by τ) closed N v (nameless_closed [] u) (omega arith);
+      uncaught = spelled_uncaught (meant_by τ) closed N v (nameless_closed [] u) (omega arith);
     }

@@ -37,16 +37,16 @@ pub loud_body : (x m : ℕ) → Loud x m (body (fresh x))
 loud_body x m = (λ q. q.0, λ a q. q.1 refl)
 
 module _ (x : ℕ) where
-  label-unshifted : (n k : ℕ) (l : Nameless) → Clean x (shift_label n k l) → Clean x l
-  label-unshifted n k (own o) q = (tt, λ e. q.1 (ap (shift_label n k) e))
-  label-unshifted n k (slot z) q = absurd q.0
+  label_unshifted : (n k : ℕ) (l : Nameless) → Clean x (shift_label n k l) → Clean x l
+  label_unshifted n k (own o) q = (tt, λ e. q.1 (ap (shift_label n k) e))
+  label_unshifted n k (slot z) q = absurd q.0
 
   unshifted : (n k : ℕ) (u : Terms) → AllClean x (shift n k u) → AllClean x u
   unshifted n k nil q = tt
-  unshifted n k (cons l c s) q = (label-unshifted n k l q.0, unshifted n (inner l k) c q.1, unshifted n k s q.2)
+  unshifted n k (cons l c s) q = (label_unshifted n k l q.0, unshifted n (inner l k) c q.1, unshifted n k s q.2)
 
-  term-unshifted : (n : ℕ) (t : Term) → AllClean x (one (shift_term n t)) → AllClean x (one t)
-  term-unshifted n t q = (label-unshifted n 0 t.0 q.0, unshifted n (inner t.0 0) t.1 q.1, tt)
+  term_unshifted : (n : ℕ) (t : Term) → AllClean x (one (shift_term n t)) → AllClean x (one t)
+  term_unshifted n t q = (label_unshifted n 0 t.0 q.0, unshifted n (inner t.0 0) t.1 q.1, tt)
 
   -- A body with other arguments, where none that is clean differs
   module _ (a a' : ℕ → Term) (same : (i : ℕ) → AllClean x (one (a i)) → a' i ≡ a i) where
@@ -56,7 +56,7 @@ module _ (x : ℕ) where
     plugged k (cons (slot (metavariable m)) c s) q = absurd q.0.0
     plugged k (cons (slot (function f n)) c s) q = absurd q.0.0
     plugged k (cons (slot (hole i)) c s) q =
-        graft_eq (ap (shift_term k) (same i (term-unshifted k (a i) (q.0, q.1, tt)))) (plugged k s q.2)
+        graft_eq (ap (shift_term k) (same i (term_unshifted k (a i) (q.0, q.1, tt)))) (plugged k s q.2)
 
     pub plugged_term : (b : Term) → AllClean x (one (plug a b)) → plug a' b ≡ plug a b
     plugged_term b q = let e = plugged 0 (one b) q in pair_eq (cc) (cc)

@@ -72,9 +72,9 @@ inner_plus n k (slot z) = refl
 
 module _ {W : Type 0} (n : ℕ) (who who' : ℕ → W) (told : ToldAlike n who who') where
   -- Variables that are bound among the k binders of the term, or the n outside, are seen alike just when they are the same
-  see-alike : (k : ℕ) (v : Variable) → ClosedVariable (k + n) v → see who k v ≡ see who' k v
-  see-alike k (free x) h = refl
-  see-alike k (bound i) h = go (dec_lt i k)
+  see_alike : (k : ℕ) (v : Variable) → ClosedVariable (k + n) v → see who k v ≡ see who' k v
+  see_alike k (free x) h = refl
+  see_alike k (bound i) h = go (dec_lt i k)
     where
       go : Dec (i < k) → see who k (bound i) ≡ see who' k (bound i)
       go (yes g) = see_low who k i g ∙ sym (see_low who' k i g)
@@ -83,19 +83,19 @@ module _ {W : Type 0} (n : ℕ) (who who' : ℕ → W) (told : ToldAlike n who w
           ∙ ap outside ((told (i - k) (i - k) (omega arith) (omega arith)).1 refl)
           ∙ sym (see_high who' k i (omega arith))
 
-  see-injective : (k : ℕ) (v w : Variable) → ClosedVariable (k + n) v → ClosedVariable (k + n) w → see who k v ≡ see who' k w → v ≡ w
-  see-injective k (free x) (free y) h g e = ap free (cc)
-  see-injective k (free x) (bound j) h g e = go (dec_lt j k)
+  see_injective : (k : ℕ) (v w : Variable) → ClosedVariable (k + n) v → ClosedVariable (k + n) w → see who k v ≡ see who' k w → v ≡ w
+  see_injective k (free x) (free y) h g e = ap free (cc)
+  see_injective k (free x) (bound j) h g e = go (dec_lt j k)
     where
       go : Dec (j < k) → free x ≡ bound j
       go (yes b) = let d : seen_free x ≡ inside j = e ∙ see_low who' k j b in never (cc)
       go (no b) = let d : seen_free x ≡ outside (who' (j - k)) = e ∙ see_high who' k j (omega arith) in never (cc)
-  see-injective k (bound i) (free y) h g e = go (dec_lt i k)
+  see_injective k (bound i) (free y) h g e = go (dec_lt i k)
     where
       go : Dec (i < k) → bound i ≡ free y
       go (yes a) = let d : inside i ≡ seen_free y = sym (see_low who k i a) ∙ e in never (cc)
       go (no a) = let d : outside (who (i - k)) ≡ seen_free y = sym (see_high who k i (omega arith)) ∙ e in never (cc)
-  see-injective k (bound i) (bound j) h g e = go (dec_lt i k) (dec_lt j k)
+  see_injective k (bound i) (bound j) h g e = go (dec_lt i k) (dec_lt j k)
     where
       go : Dec (i < k) → Dec (j < k) → bound i ≡ bound j
       go (yes a) (yes b) = let d : inside i ≡ inside j = sym (see_low who k i a) ∙ e ∙ see_low who' k j b in ap bound (cc)
@@ -112,22 +112,22 @@ module _ {W : Type 0} (n : ℕ) (who who' : ℕ → W) (told : ToldAlike n who w
           let r : i - k ≡ j - k = (told (i - k) (j - k) (omega arith) (omega arith)).0 q in
           ap bound (omega arith)
 
-  label-alike : (k : ℕ) (l : Nameless) → ClosedLabel (k + n) l
+  label_alike : (k : ℕ) (l : Nameless) → ClosedLabel (k + n) l
       → ◌≡◌ {A = Label (Seen W) (Unit {0})} (with_variable (see who k) l) (with_variable (see who' k) l)
-  label-alike k (own (symbol m)) h = refl
-  label-alike k (own (variable v)) h = ap (λ (w : Seen W). own (variable w)) (see-alike k v h)
-  label-alike k (own (application m)) h = refl
-  label-alike k (own (binder b x)) h = refl
-  label-alike k (slot z) h = refl
+  label_alike k (own (symbol m)) h = refl
+  label_alike k (own (variable v)) h = ap (λ (w : Seen W). own (variable w)) (see_alike k v h)
+  label_alike k (own (application m)) h = refl
+  label_alike k (own (binder b x)) h = refl
+  label_alike k (slot z) h = refl
 
-  pub label-injective : (k : ℕ) (l m : Nameless) → ClosedLabel (k + n) l → ClosedLabel (k + n) m
+  pub label_injective : (k : ℕ) (l m : Nameless) → ClosedLabel (k + n) l → ClosedLabel (k + n) m
       → ◌≡◌ {A = Label (Seen W) (Unit {0})} (with_variable (see who k) l) (with_variable (see who' k) m) → l ≡ m
-  label-injective k l m h g e =
+  label_injective k l m h g e =
       let v = variable_or (free 0) l in
       let w = variable_or (free 0) m in
       let d : see who k v ≡ see who' k w =
       sym (variable_with (free 0) (see who k) l) ∙ ap (variable_or (seen_free 0)) e ∙ variable_with (free 0) (see who' k) m in
-      let q : v ≡ w = see-injective k v w (closed_variable_lem (k + n) l h) (closed_variable_lem (k + n) m g) d in
+      let q : v ≡ w = see_injective k v w (closed_variable_lem (k + n) l h) (closed_variable_lem (k + n) m g) d in
       sym (rebuilt (free 0) (see who k) l)
       ∙ ap₂ (λ (x : Variable) (z : Label (Seen W) (Unit {0})). with_variable (λ y. x) z) q e
       ∙ rebuilt (free 0) (see who' k) m
@@ -135,19 +135,19 @@ module _ {W : Type 0} (n : ℕ) (who who' : ℕ → W) (told : ToldAlike n who w
   abbrev seen : (ℕ → W) → ℕ → Terms → View W
   seen by k u = relabel inner (λ j. with_variable (see by j)) k u
 
-  view-alike : (k : ℕ) (u : Terms) → Closed (k + n) u → seen who k u ≡ seen who' k u
-  view-alike k nil h = refl
-  view-alike k (cons l c s) h =
-      cons_eq (label-alike k l h.0)
-      (view-alike (inner l k) c (subst (λ (j : ℕ). Closed j c) (inner_plus n k l) h.1))
-      (view-alike k s h.2)
+  view_alike : (k : ℕ) (u : Terms) → Closed (k + n) u → seen who k u ≡ seen who' k u
+  view_alike k nil h = refl
+  view_alike k (cons l c s) h =
+      cons_eq (label_alike k l h.0)
+      (view_alike (inner l k) c (subst (λ (j : ℕ). Closed j c) (inner_plus n k l) h.1))
+      (view_alike k s h.2)
 
   view_injective : (k : ℕ) (u v : Terms) → Closed (k + n) u → Closed (k + n) v → seen who k u ≡ seen who' k v → u ≡ v
   view_injective k nil nil h g e = refl
   view_injective k nil (cons l c s) h g e = never (cc)
   view_injective k (cons l c s) nil h g e = never (cc)
   view_injective k (cons l c s) (cons l' c' s') h g e =
-      let p : l ≡ l' = label-injective k l l' h.0 g.0 (cc) in
+      let p : l ≡ l' = label_injective k l l' h.0 g.0 (cc) in
       let a : seen who (inner l k) c ≡ seen who' (inner l' k) c' = cc in
       let b : seen who (inner l k) c ≡ seen who' (inner l k) c' = a ∙ ap (λ (m : Nameless). seen who' (inner m k) c') (sym p) in
       let i : Closed (inner l k + n) c = subst (λ (m : ℕ). Closed m c) (inner_plus n k l) h.1 in
@@ -156,10 +156,10 @@ module _ {W : Type 0} (n : ℕ) (who who' : ℕ → W) (told : ToldAlike n who w
       cons_eq p (view_injective (inner l k) c c' i j b) (view_injective k s s' h.2 g.2 (cc))
 
   -- So equality of two terms with n binders outside is that of the nameless terms
-  equal-alike : (t u : Term) → Closed n (one t) → Closed n (one u) → Equal who who' t u ↔ (t ≡ u)
-  equal-alike t u h g = (
+  equal_alike : (t u : Term) → Closed n (one t) → Closed n (one u) → Equal who who' t u ↔ (t ≡ u)
+  equal_alike t u h g = (
     λ e. one_injective t u (view_injective 0 (one t) (one u) (top t h) (top u g) e),
-    λ e. view-alike 0 (one t) (top t h) ∙ ap (λ (w : Term). seen who' 0 (one w)) e,
+    λ e. view_alike 0 (one t) (top t h) ∙ ap (λ (w : Term). seen who' 0 (one w)) e,
   )
     where
       top : (w : Term) → Closed n (one w) → Closed (0 + n) (one w)
@@ -204,9 +204,9 @@ AllInside nil = Unit {0}
 AllInside (cons l c s) = AllOf is_inside (variable_of l) × AllInside c × AllInside s
 
 module _ {W : Type 0} (who : ℕ → W) where
-  see-closed : (k : ℕ) (v : Variable) → ClosedVariable k v ↔ is_inside (see who k v)
-  see-closed k (free x) = (λ h. tt, λ h. tt)
-  see-closed k (bound i) = (
+  see_closed : (k : ℕ) (v : Variable) → ClosedVariable k v ↔ is_inside (see who k v)
+  see_closed k (free x) = (λ h. tt, λ h. tt)
+  see_closed k (bound i) = (
     λ h. subst is_inside (sym (see_low who k i h)) tt,
     λ h. elim (dec_lt i k) [
       | yes q ↦ q
@@ -216,27 +216,27 @@ module _ {W : Type 0} (who : ℕ → W) where
 
   label_inside : (k : ℕ) (l : Nameless) → ClosedLabel k l ↔ AllOf is_inside (variable_of (with_variable (see who k) l))
   label_inside k (own (symbol n)) = (λ h. tt, λ h. tt)
-  label_inside k (own (variable v)) = see-closed k v
+  label_inside k (own (variable v)) = see_closed k v
   label_inside k (own (application n)) = (λ h. tt, λ h. tt)
   label_inside k (own (binder b x)) = (λ h. tt, λ h. tt)
   label_inside k (slot z) = (λ h. tt, λ h. tt)
 
-  view-inside : (k : ℕ) (u : Terms) → Closed k u ↔ AllInside (relabel inner (λ j. with_variable (see who j)) k u)
-  view-inside k nil = (λ h. tt, λ h. tt)
-  view-inside k (cons l c s) =
+  view_inside : (k : ℕ) (u : Terms) → Closed k u ↔ AllInside (relabel inner (λ j. with_variable (see who j)) k u)
+  view_inside k nil = (λ h. tt, λ h. tt)
+  view_inside k (cons l c s) =
       let a = label_inside k l in
-      let b = view-inside (inner l k) c in
-      let d = view-inside k s in
+      let b = view_inside (inner l k) c in
+      let d = view_inside k s in
       (λ h. (a.0 h.0, b.0 h.1, d.0 h.2), λ h. (a.1 h.0, b.1 h.1, d.1 h.2))
 
 -- Main theorems. For closed terms equality is that of the nameless terms, whatever the binders outside are
 pub equal_closed : {W : Type 0} (who who' : ℕ → W) (t u : Term) → ClosedTerm t → ClosedTerm u → Equal who who' t u ↔ (t ≡ u)
-equal_closed who who' t u h g = equal-alike 0 who who' (λ i j a b. absurd (omega arith)) t u h g
+equal_closed who who' t u h g = equal_alike 0 who who' (λ i j a b. absurd (omega arith)) t u h g
 
 -- and what is equal to a closed term is that term
 pub closed_equal : {W : Type 0} (who who' : ℕ → W) (t u : Term) → ClosedTerm t → Equal who who' t u → t ≡ u
 closed_equal who who' t u h e =
-    (equal_closed who who' t u h ((view-inside who' 0 (one u)).1 (subst AllInside e ((view-inside who 0 (one t)).0 h)))).0 e
+    (equal_closed who who' t u h ((view_inside who' 0 (one u)).1 (subst AllInside e ((view_inside who 0 (one t)).0 h)))).0 e
 
 -- So whole terms are equal as the bytes have them when they are equal as terms of any surroundings
 pub equal_whole : {W : Type 0} (who who' : ℕ → W) (t u : NamedTerm)
@@ -252,7 +252,7 @@ pub equal_in_scope : {W : Type 0} (who : ℕ → W) (sc : List ℕ) (t u : Named
 equal_in_scope who sc t u apart =
     let told : ToldAlike (length sc) who who = λ i j a b. (apart i j a b, λ e. ap who e) in
     let r =
-    equal-alike (length sc) who who told (nameless_term sc t) (nameless_term sc u) (nameless_closed sc (one t))
+    equal_alike (length sc) who who told (nameless_term sc t) (nameless_term sc u) (nameless_closed sc (one t))
     (nameless_closed sc (one u)) in
     let q = scoped_is_alpha sc t u in
     (λ e. q.0 (r.0 e), λ a. r.1 (q.1 a))

@@ -27,12 +27,12 @@ use Rattle.meaning.proofs.PlaceLaws.{value_names_row, named_row}
 
 -- A call on an accepted problem: its answer and the buffer after it, by what it is given
 module _ (p : Problem) (v : PlaceValue) (buffer : Bytes) where
-  pub when-nowhere : {a : Answer ℕ} {after : Bytes} → ((r : Row) → Names p v (at r) → ⊥)
+  pub when_nowhere : {a : Answer ℕ} {after : Bytes} → ((r : Row) → Names p v (at r) → ⊥)
       → WriteOn p v buffer a after → (a ≡ refused 16) × (after ≡ buffer)
-  when-nowhere none (no_such_row h) = (refl, refl)
-  when-nowhere none (no_solution_row r m h) = absurd (none r m)
-  when-nowhere none (too_short r m h l) = absurd (none r m)
-  when-nowhere none (writes r m h l) = absurd (none r m)
+  when_nowhere none (no_such_row h) = (refl, refl)
+  when_nowhere none (no_solution_row r m h) = absurd (none r m)
+  when_nowhere none (too_short r m h l) = absurd (none r m)
+  when_nowhere none (writes r m h l) = absurd (none r m)
 
   module _ (accepted : Accepted p) (r : Row) (named : Names p v (at r)) where
     same_row : {k : Row} → Names p v (at k) → k ≡ r
@@ -82,8 +82,8 @@ module _ (p : Problem) (v : PlaceValue) (buffer : Bytes) where
         go (writes k m h l) z = take_at (row_text p k) _ n (got_is z) ∙ ap (row_text p) (same_row m)
 
   -- THERE IS AN ANSWER, whatever the row and the buffer
-  pub some-text : Accepted p → (a : Answer ℕ) × (after : Bytes) × WriteOn p v buffer a after
-  some-text accepted = go (named_row p v)
+  pub some_text : Accepted p → (a : Answer ℕ) × (after : Bytes) × WriteOn p v buffer a after
+  some_text accepted = go (named_row p v)
     where
       fits : (r : Row) → Names p v (at r) → SolutionRow p r → Dec (length buffer < length (row_text p r))
           → (a : Answer ℕ) × (after : Bytes) × WriteOn p v buffer a after
@@ -101,19 +101,19 @@ module _ (p : Problem) (v : PlaceValue) (buffer : Bytes) where
       go (inr none) = (refused 16, buffer, no_such_row none)
 
   -- ... AND ONLY ONE, with one buffer after it
-  pub one-text : {a a' : Answer ℕ} {after after' : Bytes} → Accepted p
+  pub one_text : {a a' : Answer ℕ} {after after' : Bytes} → Accepted p
       → WriteOn p v buffer a after → WriteOn p v buffer a' after' → (a ≡ a') × (after ≡ after')
-  one-text accepted (no_such_row none) w = let o = when-nowhere none w in (sym o.0, sym o.1)
-  one-text accepted (no_solution_row r m h) w = let o = when_other accepted r m h w in (sym o.0, sym o.1)
-  one-text accepted (too_short r m h l) w = let o = when_short accepted r m h l w in (sym o.0, sym o.1)
-  one-text accepted (writes r m h l) w = let o = when_room accepted r m h l w in (sym o.0, sym o.1)
+  one_text accepted (no_such_row none) w = let o = when_nowhere none w in (sym o.0, sym o.1)
+  one_text accepted (no_solution_row r m h) w = let o = when_other accepted r m h w in (sym o.0, sym o.1)
+  one_text accepted (too_short r m h l) w = let o = when_short accepted r m h l w in (sym o.0, sym o.1)
+  one_text accepted (writes r m h l) w = let o = when_room accepted r m h l w in (sym o.0, sym o.1)
 
   -- A refused call leaves the buffer
-  pub refused-on : {a : Answer ℕ} {after : Bytes} (r : ℕ) → a ≡ refused r → WriteOn p v buffer a after → after ≡ buffer
-  refused-on r z (no_such_row none) = refl
-  refused-on r z (no_solution_row q m h) = refl
-  refused-on r z (too_short q m h l) = refl
-  refused-on r z (writes q m h l) = absurd (refused_not (sym z))
+  pub refused_on : {a : Answer ℕ} {after : Bytes} (r : ℕ) → a ≡ refused r → WriteOn p v buffer a after → after ≡ buffer
+  refused_on r z (no_such_row none) = refl
+  refused_on r z (no_solution_row q m h) = refl
+  refused_on r z (too_short q m h l) = refl
+  refused_on r z (writes q m h l) = absurd (refused_not (sym z))
 
 -- A call on any bytes
 pub write_on : {s : Bytes} {v : PlaceValue} {buffer after : Bytes} {a : Answer ℕ} (p : Problem) → accept s ≡ got p
@@ -127,21 +127,21 @@ when_refused r e (not_accepted q f) = let z : q ≡ r = cc in (ap refused z, ref
 when_refused r e (on_accepted p f w) = absurd (refused_not (sym e ∙ f))
 
 module _ (s : Bytes) (v : PlaceValue) (buffer : Bytes) where
-  pub some-writing : All Byte s → (a : Answer ℕ) × (after : Bytes) × WriteCall s v buffer a after
-  some-writing b = go (accept s) refl
+  pub some_writing : All Byte s → (a : Answer ℕ) × (after : Bytes) × WriteCall s v buffer a after
+  some_writing b = go (accept s) refl
     where
       go : (x : Answer Problem) → accept s ≡ x → (a : Answer ℕ) × (after : Bytes) × WriteCall s v buffer a after
       go (refused r) e = (refused r, buffer, not_accepted r e)
-      go (got p) e = let (a, after, w) = some-text p v buffer (accept_accepted s p b e).0 in (a, after, on_accepted p e w)
+      go (got p) e = let (a, after, w) = some_text p v buffer (accept_accepted s p b e).0 in (a, after, on_accepted p e w)
 
-  pub one-writing : {a a' : Answer ℕ} {after after' : Bytes}
+  pub one_writing : {a a' : Answer ℕ} {after after' : Bytes}
       → All Byte s → WriteCall s v buffer a after → WriteCall s v buffer a' after' → (a ≡ a') × (after ≡ after')
-  one-writing b (not_accepted r e) w = let o = when_refused r e w in (sym o.0, sym o.1)
-  one-writing b (on_accepted p e d) w = one-text p v buffer (accept_accepted s p b e).0 d (write_on p e w)
+  one_writing b (not_accepted r e) w = let o = when_refused r e w in (sym o.0, sym o.1)
+  one_writing b (on_accepted p e d) w = one_text p v buffer (accept_accepted s p b e).0 d (write_on p e w)
 
-  pub refused-leaves : (after : Bytes) (r : ℕ) → WriteCall s v buffer (refused r) after → after ≡ buffer
-  refused-leaves after r w = go w refl
+  pub refused_leaves : (after : Bytes) (r : ℕ) → WriteCall s v buffer (refused r) after → after ≡ buffer
+  refused_leaves after r w = go w refl
     where
       go : {a : Answer ℕ} {end : Bytes} → WriteCall s v buffer a end → a ≡ refused r → end ≡ buffer
       go (not_accepted q e) z = refl
-      go (on_accepted p e d) z = refused-on p v buffer r z d
+      go (on_accepted p e d) z = refused_on p v buffer r z d

@@ -10,7 +10,7 @@ use Rattle.meaning.specs.Face.{faces}
 use Rattle.meaning.specs.Row.{face_of}
 
 -- "14 a face over 64 nodes", "if shapes agree"; T-09, of a letter used both ways: "14 isn't looked for in it". The number of nodes that a
--- face may have is handed in, so that the limit before T-10 can be spoken of too (`same-as-before`)
+-- face may have is handed in, so that the limit before T-10 can be spoken of too (`same_as_before`)
 unfoldable pub overlarge : ℕ → Problem → Bool
 overlarge limit p = is_some (faces p) && not (every (λ f. not (ltb limit (size (one (face_of p f))))) (functions p))
 

@@ -1,5 +1,5 @@
 -- The one filling that a row can be the solution row of, and the full list. The test of a row is yes exactly for a solution row
--- (`solves_is_right`); its filling is then the row's only solution (`row-solution-unique`); and the list holds every solution with its row,
+-- (`solves_is_right`); its filling is then the row's only solution (`row_solution_unique`); and the list holds every solution with its row,
 -- once and nothing else (`listed_solution`, `solution_listed`, `listed_once`): so nobody has to believe how they are made.
 --   candidate   a row's bodies, with the values from where document 01 copies them
 --   solves      whether it is a solution

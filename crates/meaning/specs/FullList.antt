@@ -1,4 +1,4 @@
--- "The full list of a problem is its solution rows in row order, each with its one solution". `full_list` computes it (`full-list-is`,
+-- "The full list of a problem is its solution rows in row order, each with its one solution". `full_list` computes it (`full_list_is`,
 -- `full_list_only`).
 --   Listed   a row with its solution, as it stands in the full list
 use Rattle.std.specs.Prelude.{◌↔◌, List}

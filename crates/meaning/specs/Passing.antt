@@ -1,4 +1,4 @@
--- The checker's test. It is yes exactly for the texts that pass (`passes-is-right`), so that nobody has to believe it.
+-- The checker's test. It is yes exactly for the texts that pass (`passes_is_right`), so that nobody has to believe it.
 --   both_ways   T-09: "the checker says no to every well-formed text"
 --   known    no metavariable that does not occur
 --   kinds    a body for each function, a value or nothing for each other metavariable

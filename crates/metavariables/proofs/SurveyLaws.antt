@@ -28,9 +28,9 @@ pub one_shifted : (m : ℕ) → m < 32 → (1 * 2 ^ m) % 2 ^ 32 ≡ 2 ^ m
 one_shifted m h = ap (λ (n : ℕ). n % 2 ^ 32) (one-mul (2 ^ m)) ∙ mod-eq_of_lt (pow-lt h)
 
 module _ (s m : ℕ) where
-  pub added-in : m < 32 → Added s m (bit_or s ((1 * 2 ^ m) % 2 ^ 32))
+  pub added_in : m < 32 → Added s m (bit_or s ((1 * 2 ^ m) % 2 ^ 32))
   unfolding Added
-  added-in h k l =
+  added_in h k l =
       ap (λ (n : ℕ). has (bit_or s n) k) (one_shifted m h) ∙ has_or s (2 ^ m) k ∙ ap (λ (b : Bool). has s k || b) (has_one k m)
       ∙ or_comm (has s k) (eqb k m)
 
@@ -39,13 +39,13 @@ module _ (s m : ℕ) where
   added_out h k l = sym (ap (λ (b : Bool). b || has s k) (ne_eqb k m (λ e. omega arith)))
 
 module _ (s g x : ℕ) where
-  pub marked-yes : (r : ℕ) → tag_in x ≡ g → Added s (payload_in x) r → Marked s g x r
+  pub marked_yes : (r : ℕ) → tag_in x ≡ g → Added s (payload_in x) r → Marked s g x r
   unfolding Added Marked
-  marked-yes r e a k l = a k l ∙ sym (ap (λ (b : Bool). (b && eqb k (payload_in x)) || has s k) (eq-eqb (tag_in x) g e))
+  marked_yes r e a k l = a k l ∙ sym (ap (λ (b : Bool). (b && eqb k (payload_in x)) || has s k) (eq-eqb (tag_in x) g e))
 
-  pub marked-no : (tag_in x ≡ g → ⊥) → Marked s g x s
+  pub marked_no : (tag_in x ≡ g → ⊥) → Marked s g x s
   unfolding Marked
-  marked-no n k l = sym (ap (λ (b : Bool). (b && eqb k (payload_in x)) || has s k) (ne_eqb (tag_in x) g n))
+  marked_no n k l = sym (ap (λ (b : Bool). (b && eqb k (payload_in x)) || has s k) (ne_eqb (tag_in x) g n))
 
 -- One token more
 numbers_cons : (g x : ℕ) (xs : List ℕ) (k : ℕ)
@@ -88,9 +88,9 @@ module _ (g : ℕ) (ts : List ℕ) where
 
 -- Sets of the width that the code has
 module _ (s : ℕ) (fits : s < 2 ^ 32) where
-  pub meets-code : (t : ℕ) → t < 2 ^ 32 → not (eqb (bit_and s t) 0) ≡ meets metavariable_count s t
+  pub meets_code : (t : ℕ) → t < 2 ^ 32 → not (eqb (bit_and s t) 0) ≡ meets metavariable_count s t
   unfolding metavariable_count
-  meets-code t fits' = meets_and 32 s t (and_lt 32 s t fits fits')
+  meets_code t fits' = meets_and 32 s t (and_lt 32 s t fits fits')
 
   pub count_code : ones s ≡ count metavariable_count s
   unfolding metavariable_count
@@ -103,20 +103,20 @@ module _ (s m : ℕ) (h : m < 32) where
       let few = ones-le m (s % 2 ^ m) (mod-lt s (pow_pos m)) in
       omega (arith, ap (λ (n : ℕ). ones (s % n)) (one_shifted m h))
 
-  pub rank-code : ones (s % ((1 * 2 ^ m) % 2 ^ 32)) ≡ count m s
-  rank-code = ap (λ (n : ℕ). ones (s % n)) (one_shifted m h) ∙ low_count m s
+  pub rank_code : ones (s % ((1 * 2 ^ m) % 2 ^ 32)) ≡ count m s
+  rank_code = ap (λ (n : ℕ). ones (s % n)) (one_shifted m h) ∙ low_count m s
 
 -- The sets that were found, against the tokens
 module _ (ps : List ℕ) (s : Occurring) (v : Surveyed ps s) where
-  pub functions-set : keep (has s.functions) (up_to metavariable_count) ≡ functions_in ps
+  pub functions_set : keep (has s.functions) (up_to metavariable_count) ≡ functions_in ps
   unfolding functions_in
-  functions-set =
+  functions_set =
       keep_same (has s.functions) (λ m. is_in m (numbers 6 ps)) (up_to metavariable_count)
       (λ m i. v.functions m (up_to_mem metavariable_count m i))
 
-  pub both-set : meets metavariable_count s.functions s.plain ≡ both_in ps
+  pub both_set : meets metavariable_count s.functions s.plain ≡ both_in ps
   unfolding meets both_in
-  both-set =
+  both_set =
       ap not
       (every_same (λ m. not (has s.functions m && has s.plain m)) (λ m. not (is_in m (numbers 6 ps) && is_in m (numbers 5 ps)))
       (up_to metavariable_count)
@@ -124,4 +124,4 @@ module _ (ps : List ℕ) (s : Occurring) (v : Surveyed ps s) where
 
   pub count_set : count metavariable_count s.functions ≡ length (functions_in ps)
   unfolding count
-  count_set = ap length functions-set
+  count_set = ap length functions_set

@@ -1,4 +1,6 @@
 // Which metavariables occur, and how: refusal 13, and whether a letter is used both ways, look at nothing else.
+#![tactic(auto)]
+
 ghost use Rattle.std.specs.Prelude.{◌≡◌, ◌<◌};
 ghost use Rattle.meaning.specs.Limits.{metavariable_count};
 ghost use Rattle.metavariables.specs.Survey.{has, Added, Marked, Surveyed, meets, count};

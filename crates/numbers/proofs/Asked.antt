@@ -15,26 +15,26 @@ use Rattle.numbers.specs.Tests.{Beneath, Tells, level_in, told}
 use Rattle.numbers.specs.Alike.{keys_at, level_of_keys, level_at, last_at, binder_at, mixed, sum_of_keys, hash_at, label_at, alike}
 use Rattle.numbers.specs.Numbering.{Numbered}
 use Rattle.numbers.proofs.KeyLevels.{level_uses}
-use Rattle.numbers.proofs.AlikeLaws.{same_keys_lem, keys-same, alike-parts, parts-alike, numbers_alike, alike_numbers}
+use Rattle.numbers.proofs.AlikeLaws.{same_keys_lem, keys_same, alike_parts, parts_alike, numbers_alike, alike_numbers}
 
 module _ (t : List ℕ) where
   -- Nodes of another depth do not change which is the last at a depth
-  pub last-run : (d a n : ℕ) → ((y : ℕ) → a ≤ y → y < a + n → depth_in (at t y) ≡ d → ⊥) → last_at t d (a + n) ≡ last_at t d a
+  pub last_run : (d a n : ℕ) → ((y : ℕ) → a ≤ y → y < a + n → depth_in (at t y) ≡ d → ⊥) → last_at t d (a + n) ≡ last_at t d a
   unfolding last_at
-  last-run d a zero h = let e : a + 0 ≡ a = omega arith in ap (last_at t d) e
-  last-run d a (suc n) h =
+  last_run d a zero h = let e : a + 0 ≡ a = omega arith in ap (last_at t d) e
+  last_run d a (suc n) h =
       let e : a + suc n ≡ suc (a + n) = omega arith in
       ap (last_at t d) e
       ∙ choose_false _ _ (ne_eqb (depth_in (at t (a + n))) d (h (a + n) (omega arith) (omega arith)))
-      ∙ last-run d a n (λ y p q. h y p (omega arith))
+      ∙ last_run d a n (λ y p q. h y p (omega arith))
 
-  last-beneath : (s d a b : ℕ) → d < s → Beneath t s a b → last_at t d a ≡ last_at t d b
-  last-beneath s d a b h up = go (dec_lt a b)
+  last_beneath : (s d a b : ℕ) → d < s → Beneath t s a b → last_at t d a ≡ last_at t d b
+  last_beneath s d a b h up = go (dec_lt a b)
     where
       run : (a b : ℕ) → a ≤ b → ((y : ℕ) → a ≤ y → y ≤ b → s ≤ depth_in (at t y)) → last_at t d b ≡ last_at t d a
       run a b g deep =
           let e : a + (b - a) ≡ b = omega arith in
-          ap (last_at t d) (sym e) ∙ last-run d a (b - a) (λ y p q z. omega (arith, deep y p (omega arith)))
+          ap (last_at t d) (sym e) ∙ last_run d a (b - a) (λ y p q z. omega (arith, deep y p (omega arith)))
 
       go : Dec (a < b) → last_at t d a ≡ last_at t d b
       go (yes g) = sym (run a b (omega arith) (λ y p q. up y (omega arith) (omega arith)))
@@ -54,13 +54,13 @@ module _ (t : List ℕ) where
         go (yes z) =
             choose_true _ _ (eq-eqb (level_at t a) 0 z) ∙ sym (choose_true _ _ (eq-eqb (level_at t b) 0 (sym levels ∙ z)))
         go (no z) =
-            choose_false _ _ (ne_eqb (level_at t a) 0 z) ∙ last-beneath s (level_at t a - 1) a b (omega arith) up
+            choose_false _ _ (ne_eqb (level_at t a) 0 z) ∙ last_beneath s (level_at t a - 1) a b (omega arith) up
             ∙ ap (λ (l : ℕ). last_at t (l - 1) b) levels ∙ sym (choose_false _ _ (ne_eqb (level_at t b) 0 (λ q. z (levels ∙ q))))
 
     pub beneath_alike : alike t a b ≡ true
     unfolding label_at hash_at
     beneath_alike =
-        parts-alike t a b
+        parts_alike t a b
         (ap₂ (λ (i h : ℕ). i + 65536 * mixed h i) binders (ap sum_of_keys same)) same
 
   module _ (ns : List ℕ) (made : Numbered t ns) (small : length t < 65536) where
@@ -83,8 +83,8 @@ module _ (t : List ℕ) where
           ne_eqb (at ns a) (at ns b)
           (λ z.
           let q =
-          keys-same t a b
-          (alike-parts t a b (numbers_alike t a b (at ns a) (at ns b) (omega arith) (omega arith) (made a h) (made b g) z)).1 in
+          keys_same t a b
+          (alike_parts t a b (numbers_alike t a b (at ns a) (at ns b) (omega arith) (omega arith) (made a h) (made b g) z)).1 in
           never (cc))
           ∙ sym e);
     }

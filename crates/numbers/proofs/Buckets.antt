@@ -17,59 +17,59 @@ use Rattle.tokens.specs.Key.{at, same_at, Inside}
 use Rattle.numbers.specs.Alike.{level_at, last_at, binder_at, hash_at, label_at, alike}
 use Rattle.numbers.specs.Numbering.{NumberOf, NumbersTo, bucket_at, Points, link_in, label_in, Linked, Chained, Lasts, Sought}
 use Rattle.numbers.proofs.Sums.{mixed_small}
-use Rattle.numbers.proofs.AlikeLaws.{keys-long, alike-parts, alike_self, number-later, number-own}
+use Rattle.numbers.proofs.AlikeLaws.{keys_long, alike_parts, alike_self, number_later, number_own}
 
 choose_few : (b : Bool) (m n a : ℕ) → m ≤ a → n ≤ a → choose b m n ≤ a
 choose_few true m n a h g = h
 choose_few false m n a h g = g
 
 module _ (t : List ℕ) where
-  pub hash-small : (a : ℕ) → hash_at t a < 4294967296
+  pub hash_small : (a : ℕ) → hash_at t a < 4294967296
   unfolding hash_at
-  hash-small a = mixed_small _ _
+  hash_small a = mixed_small _ _
 
   -- A binder above a node comes before it
-  last-few : (d a : ℕ) → last_at t d a ≤ a
+  last_few : (d a : ℕ) → last_at t d a ≤ a
   unfolding last_at
-  last-few d zero = omega arith
-  last-few d (suc a) = choose_few (eqb (depth_in (at t a)) d) (suc a) (last_at t d a) (suc a) (omega arith) (omega (arith, last-few d a))
+  last_few d zero = omega arith
+  last_few d (suc a) = choose_few (eqb (depth_in (at t a)) d) (suc a) (last_at t d a) (suc a) (omega arith) (omega (arith, last_few d a))
 
-  pub binder-few : (a : ℕ) → binder_at t a ≤ a
+  pub binder_few : (a : ℕ) → binder_at t a ≤ a
   unfolding binder_at
-  binder-few a = choose_few (eqb (level_at t a) 0) 0 (last_at t (level_at t a - 1) a) a (omega arith) (last-few (level_at t a - 1) a)
+  binder_few a = choose_few (eqb (level_at t a) 0) 0 (last_at t (level_at t a - 1) a) a (omega arith) (last_few (level_at t a - 1) a)
 
   -- Nodes that are alike use one binder as the innermost, and are in one bucket
   module _ (a b : ℕ) (h : a < 65536) (g : b < 65536) (e : alike t a b ≡ true) where
     pub alike_binder : binder_at t a ≡ binder_at t b
     unfolding label_at
-    alike_binder = omega (arith, (alike-parts t a b e).0, binder-few a, binder-few b)
+    alike_binder = omega (arith, (alike_parts t a b e).0, binder_few a, binder_few b)
 
     alike_bucket : bucket_at t a ≡ bucket_at t b
     unfolding label_at
-    alike_bucket = omega (arith, (alike-parts t a b e).0, binder-few a, binder-few b)
+    alike_bucket = omega (arith, (alike_parts t a b e).0, binder_few a, binder_few b)
 
-  other-bucket : (a b : ℕ) → a < 65536 → b < 65536 → (bucket_at t a ≡ bucket_at t b → ⊥) → alike t a b ≡ false
-  other-bucket a b h g n = go (alike t a b) refl
+  other_bucket : (a b : ℕ) → a < 65536 → b < 65536 → (bucket_at t a ≡ bucket_at t b → ⊥) → alike t a b ≡ false
+  other_bucket a b h g n = go (alike t a b) refl
     where
       go : (c : Bool) → alike t a b ≡ c → alike t a b ≡ false
       go true e = absurd (n (alike_bucket a b h g e))
       go false e = e
 
   -- The test of two nodes, by their labels and their sizes first
-  pub unlike-label : (a b : ℕ) → (label_at t a ≡ label_at t b → ⊥) → alike t a b ≡ false
+  pub unlike_label : (a b : ℕ) → (label_at t a ≡ label_at t b → ⊥) → alike t a b ≡ false
   unfolding alike
-  unlike-label a b n = ap (λ (c : Bool). c && same_at t a b) (ne_eqb (label_at t a) (label_at t b) n)
+  unlike_label a b n = ap (λ (c : Bool). c && same_at t a b) (ne_eqb (label_at t a) (label_at t b) n)
 
-  pub unlike-size : (a b : ℕ) → Inside t a → Inside t b → (size_in (at t a) ≡ size_in (at t b) → ⊥) → alike t a b ≡ false
-  unlike-size a b h g n = go (alike t a b) refl
+  pub unlike_size : (a b : ℕ) → Inside t a → Inside t b → (size_in (at t a) ≡ size_in (at t b) → ⊥) → alike t a b ≡ false
+  unlike_size a b h g n = go (alike t a b) refl
     where
       go : (c : Bool) → alike t a b ≡ c → alike t a b ≡ false
-      go true e = absurd (n (keys-long t a b h g (alike-parts t a b e).1))
+      go true e = absurd (n (keys_long t a b h g (alike_parts t a b e).1))
       go false e = e
 
-  pub alike-label : (a b : ℕ) → label_at t a ≡ label_at t b → alike t a b ≡ same_at t a b
+  pub alike_label : (a b : ℕ) → label_at t a ≡ label_at t b → alike t a b ≡ same_at t a b
   unfolding alike
-  alike-label a b e = ap (λ (c : Bool). c && same_at t a b) (eq-eqb (label_at t a) (label_at t b) e)
+  alike_label a b e = ap (λ (c : Bool). c && same_at t a b) (eq-eqb (label_at t a) (label_at t b) e)
 
   pub record Looking (k at : ℕ) : Type 0 where
     pub up_to : at ≤ k
@@ -80,7 +80,7 @@ module _ (t : List ℕ) where
     pub looking_begins : (from : ℕ) → Points t (bucket_at t k) k from → Looking k from
     looking_begins from p = record {
       up_to = p.up_to;
-      past = λ i h g. other-bucket i k (omega arith) small (λ e. omega (arith, p.past i h e));
+      past = λ i h g. other_bucket i k (omega arith) small (λ e. omega (arith, p.past i h e));
       own = p.own;
     }
 
@@ -99,7 +99,7 @@ module _ (t : List ℕ) where
         where
           go : (j : ℕ) → j < k → link_in (at links i) ≤ j → Dec (j < i) → Dec (i < j) → alike t j k ≡ false
           go j h g (yes l) m =
-              other-bucket j k (omega arith) small
+              other_bucket j k (omega arith) small
               (λ e. omega (arith, (linked.points i before).past j l (e ∙ sym (look.own i is))))
           go j h g (no l) (yes m) = look.past j h (omega arith)
           go j h g (no l) (no m) = let e : i ≡ j = omega arith in subst (λ (n : ℕ). alike t n k ≡ false) e unlike
@@ -112,10 +112,10 @@ module _ (t : List ℕ) where
 
     -- The number of node k
     pub number_found : (ns : List ℕ) (r : ℕ) → NumbersTo t k ns → Sought t k r → r < k → NumberOf t k (at ns r)
-    number_found ns r made s h = number-later t r k (at ns r) s.up_to s.equal (made r h)
+    number_found ns r made s h = number_later t r k (at ns r) s.up_to s.equal (made r h)
 
     pub number_new : (r : ℕ) → Sought t k r → k ≤ r → NumberOf t k (k + 65536 * level_at t k)
-    number_new r s h = number-own t k (s.none (omega (arith, s.up_to)))
+    number_new r s h = number_own t k (s.none (omega (arith, s.up_to)))
 
     pub numbers_more : (ns : List ℕ) (n : ℕ) → k < length ns → NumbersTo t k ns → NumberOf t k n → NumbersTo t (k + 1) (set ns k n)
     numbers_more ns n long made own a h = go (dec_lt a k)
@@ -138,7 +138,7 @@ module _ (t : List ℕ) where
       link = head + 65536 * label_at t k
 
       pub bucket_few : bucket < 256
-      bucket_few = omega (arith, hash-small k)
+      bucket_few = omega (arith, hash_small k)
 
       pub head_points : Points t bucket k head
       head_points = chained.begins bucket bucket_few
@@ -199,12 +199,12 @@ module _ (t : List ℕ) where
       chained_more = record { begins = begins_more; linked = linked_more }
 
   -- One node more among the last at each depth
-  last-next : (d k : ℕ) → last_at t d (k + 1) ≡ choose (eqb (depth_in (at t k)) d) (k + 1) (last_at t d k)
+  last_next : (d k : ℕ) → last_at t d (k + 1) ≡ choose (eqb (depth_in (at t k)) d) (k + 1) (last_at t d k)
   unfolding last_at
-  last-next d k = let e : k + 1 ≡ suc k = omega arith in ap (last_at t d) e ∙ ap (λ (n : ℕ). choose (eqb (depth_in (at t k)) d) n (last_at t d k)) (sym e)
+  last_next d k = let e : k + 1 ≡ suc k = omega arith in ap (last_at t d) e ∙ ap (λ (n : ℕ). choose (eqb (depth_in (at t k)) d) n (last_at t d k)) (sym e)
 
-  pub lasts-more : (k : ℕ) (last : List ℕ) → Lasts t k last → Lasts t (k + 1) (set last (depth_in (at t k)) (k + 1))
-  lasts-more k last h = record { long = length-set last d (k + 1) ∙ h.long; are = λ e few. go e few (ℕ_discrete d e) }
+  pub lasts_more : (k : ℕ) (last : List ℕ) → Lasts t k last → Lasts t (k + 1) (set last (depth_in (at t k)) (k + 1))
+  lasts_more k last h = record { long = length-set last d (k + 1) ∙ h.long; are = λ e few. go e few (ℕ_discrete d e) }
     where
       d : ℕ
       d = depth_in (at t k)
@@ -212,6 +212,6 @@ module _ (t : List ℕ) where
       go : (e : ℕ) → e < 256 → Dec (d ≡ e) → at (set last d (k + 1)) e ≡ last_at t e (k + 1)
       go e few (yes z) =
           ap (at (set last d (k + 1))) (sym z) ∙ get_or-set_same last d (k + 1) 0 (omega (arith, h.long))
-          ∙ sym (last-next e k ∙ choose_true _ _ (eq-eqb d e z))
+          ∙ sym (last_next e k ∙ choose_true _ _ (eq-eqb d e z))
       go e few (no n) =
-          get_or-set_other last d e (k + 1) 0 (λ q. n (sym q)) ∙ h.are e few ∙ sym (last-next e k ∙ choose_false _ _ (ne_eqb d e n))
+          get_or-set_other last d e (k + 1) 0 (λ q. n (sym q)) ∙ h.are e few ∙ sym (last_next e k ∙ choose_false _ _ (ne_eqb d e n))

@@ -16,21 +16,21 @@ use Rattle.numbers.specs.Alike.{keys_at, level_of_keys, level_at, last_at, binde
 use Rattle.numbers.specs.Numbering.{NumberOf, Numerable, bucket_at, Points, Chained, Lasts, Summed, Known, Passed}
 use Rattle.numbers.specs.declared.make.Node.{Node}
 use Rattle.numbers.proofs.KeyLevels.{level_deep}
-use Rattle.numbers.proofs.Sums.{sum-none, sum_part, sum_rises}
-use Rattle.numbers.proofs.Buckets.{hash-small, binder-few, numbers_more, chained_more}
+use Rattle.numbers.proofs.Sums.{sum_none, sum_part, sum_rises}
+use Rattle.numbers.proofs.Buckets.{hash_small, binder_few, numbers_more, chained_more}
 
 -- One node, by its size n and its end e as the code has them
 module _ (t : List ℕ) (k : ℕ) (inside : Inside t k) where
   -- The level that is found in its subterm
-  pub level-found : (n d e level : ℕ) → n ≡ size_in (at t k) → d ≡ depth_in (at t k) → e ≡ k + n → level ≡ level_of_keys (keys d (nodes t k (e - k)))
+  pub level_found : (n d e level : ℕ) → n ≡ size_in (at t k) → d ≡ depth_in (at t k) → e ≡ k + n → level ≡ level_of_keys (keys d (nodes t k (e - k)))
       → level ≡ level_at t k
   unfolding level_at
-  level-found n d e level is-n is-d is-e is-level =
+  level_found n d e level is-n is-d is-e is-level =
       let m : e - k ≡ size_in (at t k) = omega arith in
       is-level ∙ ap₂ (λ (i j : ℕ). level_of_keys (keys i (nodes t k j))) is-d m
 
-  pub level-few : (level : ℕ) → level ≡ level_at t k → level ≤ 256
-  level-few level is = omega (arith, level_deep t k)
+  pub level_few : (level : ℕ) → level ≡ level_at t k → level ≤ 256
+  level_few level is = omega (arith, level_deep t k)
 
   -- The sum of its subterm
   module _ (n e : ℕ) (is-n : n ≡ size_in (at t k)) (is-e : e ≡ k + n) (sums : List ℕ) (summed : Summed t k sums) where
@@ -56,15 +56,15 @@ module _ (t : List ℕ) (k : ℕ) (inside : Inside t k) where
             let q = ne_eqb (level_at t k) 0 z in
             choose_false _ _ q ∙ lasts.are (level_at t k - 1) (omega (arith, level_deep t k)) ∙ sym (choose_false _ _ q)
 
-    pub node-known : Known t k (record { level = level; binder = binder; hash = hash })
+    pub node_known : Known t k (record { level = level; binder = binder; hash = hash })
     unfolding hash_at
-    node-known = record { level = is-level; binder = binder_is; hash = is-hash ∙ ap₂ mixed is_sum binder_is }
+    node_known = record { level = is-level; binder = binder_is; hash = is-hash ∙ ap₂ mixed is_sum binder_is }
 
 -- The sums, one node more
 pub summing_begins : (t sums : List ℕ) → 0 < length sums → (n : ℕ) → n ≤ 0 → at (set sums 0 0) n ≡ sum_to t n
 summing_begins t sums h n l =
     let e : 0 ≡ n = omega arith in
-    subst (λ (m : ℕ). at (set sums 0 0) m ≡ sum_to t m) e (get_or-set_same sums 0 0 0 h ∙ sum-none t)
+    subst (λ (m : ℕ). at (set sums 0 0) m ≡ sum_to t m) e (get_or-set_same sums 0 0 0 h ∙ sum_none t)
 
 pub summing_more : (t sums : List ℕ) (k s : ℕ) → k < length t → k + 1 < length sums → s ≡ sum_to t (k + 1)
     → ((n : ℕ) → n ≤ k → at sums n ≡ sum_to t n)
@@ -78,9 +78,9 @@ summing_more t sums k s h room is are n l = elim (dec_lt n (k + 1)) [
 
 -- Before the first node: tables of n zeros
 module _ (t : List ℕ) (n : ℕ) where
-  pub lasts-none : n ≡ 256 → Lasts t 0 (replicate n 0)
+  pub lasts_none : n ≡ 256 → Lasts t 0 (replicate n 0)
   unfolding last_at
-  lasts-none e = record { long = length-replicate n 0 ∙ e; are = λ d h. get_or-replicate n d 0 0 (omega arith) }
+  lasts_none e = record { long = length-replicate n 0 ∙ e; are = λ d h. get_or-replicate n d 0 0 (omega arith) }
 
   pub passed_none : n ≡ 256 → (links ns : List ℕ) → length t ≤ length links → Summed t 0 ns → Passed t 0 (replicate n 0) links ns
   passed_none e links ns l m = record {
@@ -98,27 +98,27 @@ module _ (t : List ℕ) (n : ℕ) where
 
 -- What is known of a node, as the code has it
 module _ (t : List ℕ) (table : Numerable t) (k : ℕ) (there : k < length t) (node : Node) (known : Known t k node) where
-  pub node-binder : node.binder < 65536
-  node-binder = omega (arith, known.binder, binder-few t k, table.small)
+  pub node_binder : node.binder < 65536
+  node_binder = omega (arith, known.binder, binder_few t k, table.small)
 
-  pub node-hash : node.hash < 4294967296
-  node-hash = omega (arith, known.hash, hash-small t k)
+  pub node_hash : node.hash < 4294967296
+  node_hash = omega (arith, known.hash, hash_small t k)
 
-  pub node-level : node.level < 256
-  node-level = omega (arith, known.level, level_deep t k)
+  pub node_level : node.level < 256
+  node_level = omega (arith, known.level, level_deep t k)
 
-  pub node-label : node.binder + 65536 * node.hash ≡ label_at t k
+  pub node_label : node.binder + 65536 * node.hash ≡ label_at t k
   unfolding label_at
-  node-label = ap₂ (λ (b h : ℕ). b + 65536 * h) known.binder known.hash
+  node_label = ap₂ (λ (b h : ℕ). b + 65536 * h) known.binder known.hash
 
-  pub node-bucket : node.hash / 16777216 ≡ bucket_at t k
-  node-bucket = ap (λ (h : ℕ). h / 16777216) known.hash
+  pub node_bucket : node.hash / 16777216 ≡ bucket_at t k
+  node_bucket = ap (λ (h : ℕ). h / 16777216) known.hash
 
   module _ (heads links ns : List ℕ) (passed : Passed t k heads links ns) where
     pub head_points : (b : ℕ) → b ≡ bucket_at t k → Points t (bucket_at t k) k (at heads b)
     head_points b e =
         subst (λ (c : ℕ). Points t (bucket_at t k) k (at heads c)) (sym e)
-        (passed.chained.begins (bucket_at t k) (omega (arith, hash-small t k)))
+        (passed.chained.begins (bucket_at t k) (omega (arith, hash_small t k)))
 
     pub passed_more : (b l n : ℕ) → b ≡ bucket_at t k → l ≡ at heads b + 65536 * label_at t k → NumberOf t k n
         → Passed t (k + 1) (set heads b (k + 1)) (set links k l) (set ns k n)

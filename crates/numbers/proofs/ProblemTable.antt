@@ -14,8 +14,8 @@ use Rattle.meaning.proofs.Proper.{expressions_readable}
 use Rattle.tokens.specs.Token.{expression_tokens}
 use Rattle.tokens.specs.Key.{Inside, Held, Stands}
 use Rattle.tokens.proofs.TokenParts.{tokens_length}
-use Rattle.tokens.proofs.KeyLaws.{stands-inside}
-use Rattle.tokens.proofs.ProblemTokens.{nodes_few, expressions-room}
+use Rattle.tokens.proofs.KeyLaws.{stands_inside}
+use Rattle.tokens.proofs.ProblemTokens.{nodes_few, expressions_room}
 use Rattle.tokens.proofs.Spots.{Spot, spot}
 use Rattle.numbers.specs.Numbering.{Numerable}
 
@@ -23,9 +23,9 @@ module _ (p : Problem) (w : WithinLimits p) where
   abbrev pub table : List ℕ
   table = expression_tokens p
 
-  pub table-length : length table ≡ size (named_expressions p)
+  pub table_length : length table ≡ size (named_expressions p)
   unfolding expression_tokens
-  table-length = tokens_length [] (named_expressions p)
+  table_length = tokens_length [] (named_expressions p)
 
   -- The term at a node, and that it stands there
   module _ (a : ℕ) (h : a < length table) where
@@ -35,8 +35,8 @@ module _ (p : Problem) (w : WithinLimits p) where
     pub node : Node
     unfolding expression_tokens max_depth
     node =
-        spot 0 max_depth in_expression [] [] 0 (named_expressions p) [] table a a (omega arith) (omega (arith, table-length))
-        (expressions_readable p w) (expressions-room p w).depths (omega arith) (sym (append-nil table)) tt
+        spot 0 max_depth in_expression [] [] 0 (named_expressions p) [] table a a (omega arith) (omega (arith, table_length))
+        (expressions_readable p w) (expressions_room p w).depths (omega arith) (sym (append-nil table)) tt
 
     pub held : Held node.levels node.ctx node.scope node.named
     held = record { readable = node.readable; depths = node.depths; sizes = omega (arith, node.sizes, nodes_few p w) }
@@ -45,10 +45,10 @@ module _ (p : Problem) (w : WithinLimits p) where
     stands = record { after = node.after; split = ap (drop a) (sym (append-nil table)) ∙ node.split }
 
     inside : Inside table a
-    inside = stands-inside node.levels node.ctx table a node.scope node.named held stands
+    inside = stands_inside node.levels node.ctx table a node.scope node.named held stands
 
   pub table_short : length table < 1366
-  table_short = omega (arith, table-length, nodes_few p w)
+  table_short = omega (arith, table_length, nodes_few p w)
 
-  pub table-numerable : Numerable table
-  table-numerable = record { inside = inside; small = omega (arith, table_short) }
+  pub table_numerable : Numerable table
+  table_numerable = record { inside = inside; small = omega (arith, table_short) }

@@ -18,28 +18,28 @@ use Rattle.meaning.specs.Choices.{marks_of}
 use Rattle.meaning.proofs.Lists.{T_true, eqb_other, never}
 use Rattle.paths.specs.Words.{accepts, following, greedy, list_of, or_later}
 use Rattle.paths.specs.Paths.{Node, State, class_at, first_path, holed, later_marks, next, next_path, one_place, passed, size_at, takes, unset}
-use Rattle.paths.proofs.Walking.{accepted_walked, hole-step, takes_low}
+use Rattle.paths.proofs.Walking.{accepted_walked, hole_step, takes_low}
 
 -- A step that makes a hole of the place, and when it is refused
 module _ (x : Node) (c : Option ℕ) where
-  step-takes : (d : ℕ) → x.class ≡ some d → takes (some c) d ≡ true → next (one_place 0 c) x (some 0) ≡ some (one_place (x.size - 1) (some d))
+  step_takes : (d : ℕ) → x.class ≡ some d → takes (some c) d ≡ true → next (one_place 0 c) x (some 0) ≡ some (one_place (x.size - 1) (some d))
   unfolding next
-  step-takes d e t =
+  step_takes d e t =
       ap (λ (o : Option ℕ). and_then o (λ b. guard (takes (some c) b) (some (holed (one_place 0 c) 0 x.size b)))) e
       ∙ ap (λ (b : Bool). guard b (some (one_place (x.size - 1) (some d)))) t
 
-  step-refused : holds (takes (some c)) x.class ≡ false → next (one_place 0 c) x (some 0) ≡ none
+  step_refused : holds (takes (some c)) x.class ≡ false → next (one_place 0 c) x (some 0) ≡ none
   unfolding next
-  step-refused e = go x.class e
+  step_refused e = go x.class e
     where
       go : (o : Option ℕ) → holds (takes (some c)) o ≡ false
           → and_then o (λ b. guard (takes (some c) b) (some (holed (one_place 0 c) 0 x.size b))) ≡ none
       go none f = refl
       go (some b) f = ap (λ (a : Bool). guard a (some (one_place (x.size - 1) (some b)))) f
 
-  step-below : (k : ℕ) → 0 < k → next (one_place k c) x (some 0) ≡ none
+  step_below : (k : ℕ) → 0 < k → next (one_place k c) x (some 0) ≡ none
   unfolding next
-  step-below k l =
+  step_below k l =
       ap (λ (b : Bool). guard b (and_then x.class (λ a. guard (takes (some c) a) (some (holed (one_place k c) 0 x.size a)))))
       (eqb_other k 0 (λ e. omega arith))
 
@@ -48,21 +48,21 @@ module _ (k : ℕ) (c : Option ℕ) (x : Node) (xs : List Node) where
   abbrev begun : Option State → Marks
   begun o = list_of (λ r. r.0 ∷ greedy next (marks_of 1) r.1 xs) (or_later (some 0) o (some (none, passed (one_place k c))))
 
-  first-begun : first_path (one_place k c) (x ∷ xs) ≡ begun (next (one_place k c) x (some 0))
+  first_begun : first_path (one_place k c) (x ∷ xs) ≡ begun (next (one_place k c) x (some 0))
   unfolding greedy next
-  first-begun = refl
+  first_begun = refl
 
 pub first_takes : (c : Option ℕ) (x : Node) (xs : List Node) (d : ℕ) → x.class ≡ some d → takes (some c) d ≡ true
     → first_path (one_place 0 c) (x ∷ xs) ≡ some 0 ∷ first_path (one_place (x.size - 1) (some d)) xs
-first_takes c x xs d e t = first-begun 0 c x xs ∙ ap (begun 0 c x xs) (step-takes x c d e t)
+first_takes c x xs d e t = first_begun 0 c x xs ∙ ap (begun 0 c x xs) (step_takes x c d e t)
 
 pub first_passes : (c : Option ℕ) (x : Node) (xs : List Node) → holds (takes (some c)) x.class ≡ false
     → first_path (one_place 0 c) (x ∷ xs) ≡ none ∷ first_path (one_place 0 c) xs
-first_passes c x xs e = first-begun 0 c x xs ∙ ap (begun 0 c x xs) (step-refused x c e)
+first_passes c x xs e = first_begun 0 c x xs ∙ ap (begun 0 c x xs) (step_refused x c e)
 
 first_below : (k : ℕ) (c : Option ℕ) (x : Node) (xs : List Node) → 0 < k
     → first_path (one_place k c) (x ∷ xs) ≡ none ∷ first_path (one_place (k - 1) c) xs
-first_below k c x xs l = first-begun k c x xs ∙ ap (begun k c x xs) (step-below x c k l)
+first_below k c x xs l = first_begun k c x xs ∙ ap (begun k c x xs) (step_below x c k l)
 
 -- Node k of the list, and mark k
 node_at : (xs : List Node) (k : ℕ) → k < length xs → drop k xs ≡ record { size = size_at xs k; class = class_at xs k } ∷ drop (suc k) xs
@@ -77,15 +77,15 @@ mark_at (n ∷ ms) (suc k) m e = mark_at ms k m e
 
 -- The first path, from node k on
 module _ (xs : List Node) (k end : ℕ) (c : Option ℕ) where
-  abbrev first-from : Marks
-  first-from = first_path (one_place (end - k) c) (drop k xs)
+  abbrev first_from_lem : Marks
+  first_from_lem = first_path (one_place (end - k) c) (drop k xs)
 
-  pub first-at-end : length xs ≤ k → first-from ≡ []
+  pub first_at_end : length xs ≤ k → first_from_lem ≡ []
   unfolding greedy
-  first-at-end h = ap (first_path (one_place (end - k) c)) (drop_of_length-le xs h)
+  first_at_end h = ap (first_path (one_place (end - k) c)) (drop_of_length-le xs h)
 
   module _ (h : k < length xs) where
-    pub first_at_below : k < end → first-from ≡ none ∷ first_path (one_place (end - suc k) c) (drop (suc k) xs)
+    pub first_at_below : k < end → first_from_lem ≡ none ∷ first_path (one_place (end - suc k) c) (drop (suc k) xs)
     first_at_below l =
         let z : end - k - 1 ≡ end - suc k = omega arith in
         ap (first_path (one_place (end - k) c)) (node_at xs k h)
@@ -93,7 +93,7 @@ module _ (xs : List Node) (k end : ℕ) (c : Option ℕ) where
         ∙ ap {B = Marks} (λ (i : ℕ). none ∷ first_path (one_place i c) (drop (suc k) xs)) z
 
     pub first_at_hole : end ≤ k → (d : ℕ) → class_at xs k ≡ some d → takes (some c) d ≡ true
-        → first-from ≡ some 0 ∷ first_path (one_place (k + size_at xs k - suc k) (some d)) (drop (suc k) xs)
+        → first_from_lem ≡ some 0 ∷ first_path (one_place (k + size_at xs k - suc k) (some d)) (drop (suc k) xs)
     first_at_hole l d e t =
         let z : end - k ≡ 0 = omega arith in
         let y : size_at xs k - 1 ≡ k + size_at xs k - suc k = omega arith in
@@ -102,7 +102,7 @@ module _ (xs : List Node) (k end : ℕ) (c : Option ℕ) where
         ∙ ap {B = Marks} (λ (i : ℕ). some 0 ∷ first_path (one_place i (some d)) (drop (suc k) xs)) y
 
     pub first_at_none : end ≤ k → holds (takes (some c)) (class_at xs k) ≡ false
-        → first-from ≡ none ∷ first_path (one_place (end - suc k) c) (drop (suc k) xs)
+        → first_from_lem ≡ none ∷ first_path (one_place (end - suc k) c) (drop (suc k) xs)
     first_at_none l e =
         let z : end - k ≡ 0 = omega arith in
         let y : 0 ≡ end - suc k = omega arith in
@@ -128,10 +128,10 @@ module _ (xs : List Node) (ms : Marks) (k end : ℕ) (c : Option ℕ) where
         ∙ ap (λ (i : ℕ). accepts next (one_place i c) (drop (suc k) xs) (drop (suc k) ms)) z
 
     module _ (m : get_elem? ms k ≡ some (some 0)) where
-      walk-marked : (o : Option State) → next (one_place (end - k) c) (record { size = size_at xs k; class = class_at xs k }) (some 0) ≡ o
+      walk_marked : (o : Option State) → next (one_place (end - k) c) (record { size = size_at xs k; class = class_at xs k }) (some 0) ≡ o
           → walks ≡ holds (λ t. accepts next t (drop (suc k) xs) (drop (suc k) ms)) o
       unfolding accepts
-      walk-marked o e =
+      walk_marked o e =
           ap₂ (accepts next (one_place (end - k) c)) (node_at xs k h) (mark_at ms k (some 0) m)
           ∙ ap (holds (λ t. accepts next t (drop (suc k) xs) (drop (suc k) ms))) e
 
@@ -140,20 +140,20 @@ module _ (xs : List Node) (ms : Marks) (k end : ℕ) (c : Option ℕ) where
       walk_hole l d e t =
           let z : end - k ≡ 0 = omega arith in
           let y : size_at xs k - 1 ≡ k + size_at xs k - suc k = omega arith in
-          walk-marked (some (one_place (k + size_at xs k - suc k) (some d)))
+          walk_marked (some (one_place (k + size_at xs k - suc k) (some d)))
           (ap (λ (i : ℕ). next (one_place i c) (record { size = size_at xs k; class = class_at xs k }) (some 0)) z
-          ∙ step-takes (record { size = size_at xs k; class = class_at xs k }) c d e t
+          ∙ step_takes (record { size = size_at xs k; class = class_at xs k }) c d e t
           ∙ ap {B = Option State} (λ (i : ℕ). some (one_place i (some d))) y)
 
       pub walk_below : k < end → walks ≡ false
-      walk_below l = walk-marked none (step-below (record { size = size_at xs k; class = class_at xs k }) c (end - k) (omega arith))
+      walk_below l = walk_marked none (step_below (record { size = size_at xs k; class = class_at xs k }) c (end - k) (omega arith))
 
       pub walk_refused : end ≤ k → holds (takes (some c)) (class_at xs k) ≡ false → walks ≡ false
       walk_refused l e =
           let z : end - k ≡ 0 = omega arith in
-          walk-marked none
+          walk_marked none
           (ap (λ (i : ℕ). next (one_place i c) (record { size = size_at xs k; class = class_at xs k }) (some 0)) z
-          ∙ step-refused (record { size = size_at xs k; class = class_at xs k }) c e)
+          ∙ step_refused (record { size = size_at xs k; class = class_at xs k }) c e)
 
 -- The path after a path
 abbrev pub ClearFrom : Marks → ℕ → Type 0
@@ -198,7 +198,7 @@ gives_way s c d [] (m ∷ ms) l t e h w = absurd t
 gives_way s c d (x ∷ xs) (none ∷ ms) zero t e h w = never (cc)
 gives_way s c d (x ∷ xs) (some (suc q) ∷ ms) zero t e h w = let z : suc q ≡ 0 = cc in absurd (omega arith)
 gives_way s c d (x ∷ xs) (some zero ∷ ms) zero t e h w =
-    let g = hole-step (λ r. accepts next r xs ms) (one_place s c) x 0 t in
+    let g = hole_step (λ r. accepts next r xs ms) (one_place s c) x 0 t in
     let same : c ≡ d = sym (w.clear (λ k m b f. absurd (omega arith))) in
     let here : s - 1 ≡ 0 = omega (arith, g.here) in
     go (next (one_place s c) x (some 0))
@@ -226,11 +226,11 @@ gives_way s c d (x ∷ xs) (none ∷ ms) (suc l) t e h w =
     clear f zero m b g = let z : m ≡ none = cc in z
     clear f (suc k) m b g = f k m (omega arith) g
 gives_way s c d (x ∷ xs) (some (suc q) ∷ ms) (suc l) t e h w =
-    absurd (hole-step (λ r. accepts next r xs ms) (one_place s c) x (suc q) t).taken
+    absurd (hole_step (λ r. accepts next r xs ms) (one_place s c) x (suc q) t).taken
 gives_way s c d (x ∷ xs) (some zero ∷ ms) (suc l) t e h w =
-    let g = hole-step (λ r. accepts next r xs ms) (one_place s c) x 0 t in
+    let g = hole_step (λ r. accepts next r xs ms) (one_place s c) x 0 t in
     let step : next (one_place s c) x (some 0) ≡ some (one_place (x.size - 1) (some g.class)) =
-    ap (λ (i : ℕ). next (one_place i c) x (some 0)) g.here ∙ step-takes x c g.class g.has (T_true g.taken) in
+    ap (λ (i : ℕ). next (one_place i c) x (some 0)) g.here ∙ step_takes x c g.class g.has (T_true g.taken) in
     let later =
     gives_way (x.size - 1) (some g.class) d xs ms l g.on e (λ k m b f. h (suc k) m (omega arith) f)
     (record {

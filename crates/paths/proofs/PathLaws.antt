@@ -1,6 +1,6 @@
 -- The paths through a face are its choices, in order.
---   accepted-choice   the walk accepts just the choices
---   paths-choices     the two lists are equal
+--   accepted_choice   the walk accepts just the choices
+--   paths_choices     the two lists are equal
 --   paths_are         the paths are just the marks that the walk accepts
 --   paths_distinct    no path stands twice among the paths
 use mathlib.Core.Path.{◌≡◌, refl, ap, sym, ◌∙◌, subst}
@@ -18,12 +18,12 @@ use Rattle.meaning.specs.Equal.{View}
 use Rattle.meaning.specs.Choice.{Mark, Marks, Owner, Choice, Earlier, uses_face, views}
 use Rattle.meaning.specs.Choices.{all_marks, choices, marks_of}
 use Rattle.meaning.proofs.Lists.{T_true, true_T, mem_keep, keep_mem, is_some_lem}
-use Rattle.meaning.proofs.Ordered.{all_marks_are, all_marks_ordered, earlier_strict, keep-ordered, ordered-distinct}
+use Rattle.meaning.proofs.Ordered.{all_marks_are, all_marks_ordered, earlier_strict, keep_ordered, ordered_distinct}
 use Rattle.meaning.proofs.ChoiceLaws.{at_other, length_views}
 use Rattle.meaning.proofs.Determined.{choices_determined}
 use Rattle.paths.specs.Words.{accepts, all_words}
 use Rattle.paths.specs.Paths.{Node, State, Tells, class_at, letters, next, paths, size_at, takes, unset}
-use Rattle.paths.proofs.WordLaws.{words-kept}
+use Rattle.paths.proofs.WordLaws.{words_kept}
 use Rattle.paths.proofs.Walking.{Walked, takes_low, accepted_walked, accepted_placed}
 
 unset_takes : (n q c : ℕ) → q < n → T (takes (get_elem? (replicate n none) q) c)
@@ -36,8 +36,8 @@ not_some true e = e
 not_some false e = refl
 
 module _ (n : ℕ) (face : Term) (xs : List Node) (tells : Tells (views face) xs) (ms : Marks) where
-  walked-choice : length ms ≡ size (one face) → Walked (unset n) xs ms → Choice n face ms
-  walked-choice l w = record { long = l; places = places; equal = equal; unbound = unbound; apart = apart }
+  walked_choice : length ms ≡ size (one face) → Walked (unset n) xs ms → Choice n face ms
+  walked_choice l w = record { long = l; places = places; equal = equal; unbound = unbound; apart = apart }
     where
       seen : (k i : ℕ) → get_elem? ms k ≡ some (some i) → (u : View Owner) × (get_elem? (views face) k ≡ some u)
       seen k i e = at_other ms (views face) k (some i) (l ∙ sym (length_views [] 0 (one face))) e
@@ -63,8 +63,8 @@ module _ (n : ℕ) (face : Term) (xs : List Node) (tells : Tells (views face) xs
           → get_elem? (views face) j ≡ some u → j < k → j + size u ≤ k
       apart j k h i u d e f b = let g = w.apart j k h i d e b in let z = tells.sizes j u f in omega arith
 
-  choice-walked : Choice n face ms → Walked (unset n) xs ms
-  choice-walked c = record { past = λ k q e. omega arith; classed = classed; equal = equal; apart = apart }
+  choice_walked : Choice n face ms → Walked (unset n) xs ms
+  choice_walked c = record { past = λ k q e. omega arith; classed = classed; equal = equal; apart = apart }
     where
       seen : (k i : ℕ) → get_elem? ms k ≡ some (some i) → (u : View Owner) × (get_elem? (views face) k ≡ some u)
       seen k i e = at_other ms (views face) k (some i) (c.long ∙ sym (length_views [] 0 (one face))) e
@@ -98,15 +98,15 @@ all_words_marks n (suc k) = ap (λ (wss : List Marks). each (λ (m : Mark). map 
 -- The paths are a part of all ways to mark the nodes, so that they are in order, and none stands twice
 paths_kept : (s : State) (xs : List Node) → paths s xs ≡ keep (accepts next s xs) (all_marks (length s.classes) (length xs))
 paths_kept s xs =
-    words-kept next (letters s) s xs ∙ ap (keep (accepts next s xs)) (all_words_marks (length s.classes) (length xs))
+    words_kept next (letters s) s xs ∙ ap (keep (accepts next s xs)) (all_words_marks (length s.classes) (length xs))
 
 paths_ordered : (s : State) (xs : List Node) → Ordered Earlier (paths s xs)
 paths_ordered s xs =
     subst (Ordered Earlier) (sym (paths_kept s xs))
-    (keep-ordered Earlier (accepts next s xs) (all_marks (length s.classes) (length xs)) (all_marks_ordered (length s.classes) (length xs)))
+    (keep_ordered Earlier (accepts next s xs) (all_marks (length s.classes) (length xs)) (all_marks_ordered (length s.classes) (length xs)))
 
 pub paths_distinct : (s : State) (xs : List Node) → Distinct (paths s xs)
-paths_distinct s xs = ordered-distinct Earlier earlier_strict (paths s xs) (paths_ordered s xs)
+paths_distinct s xs = ordered_distinct Earlier earlier_strict (paths s xs) (paths_ordered s xs)
 
 -- A PATH is what the walk accepts
 pub paths_are : (s : State) (xs : List Node) (ms : Marks) → (ms ∈ paths s xs) ↔ T (accepts next s xs ms)
@@ -122,22 +122,22 @@ paths_are s xs ms = (
     all = all_marks (length s.classes) (length xs)
 
 module _ (n : ℕ) (face : Term) (xs : List Node) (tells : Tells (views face) xs) where
-  nodes-long : length xs ≡ size (one face)
-  nodes-long = tells.long ∙ length_views [] 0 (one face)
+  nodes_long_lem : length xs ≡ size (one face)
+  nodes_long_lem = tells.long ∙ length_views [] 0 (one face)
 
   -- A CHOICE is what the walk accepts
-  pub accepted-choice : (ms : Marks) → T (accepts next (unset n) xs ms) ↔ Choice n face ms
-  accepted-choice ms =
+  pub accepted_choice : (ms : Marks) → T (accepts next (unset n) xs ms) ↔ Choice n face ms
+  accepted_choice ms =
       let q = accepted_walked (unset n) xs ms in (
-        λ t. let (l, w) = q.0 t in walked-choice n face xs tells ms (l ∙ nodes-long) w,
-        λ c. q.1 (c.long ∙ sym nodes-long, choice-walked n face xs tells ms c),
+        λ t. let (l, w) = q.0 t in walked_choice n face xs tells ms (l ∙ nodes_long_lem) w,
+        λ c. q.1 (c.long ∙ sym nodes_long_lem, choice_walked n face xs tells ms c),
       )
 
   -- THE PATHS ARE THE CHOICES
-  pub paths-choices : paths (unset n) xs ≡ choices n face
-  paths-choices =
+  pub paths_choices : paths (unset n) xs ≡ choices n face
+  paths_choices =
       choices_determined n face (paths (unset n) xs) (paths_ordered (unset n) xs)
       (λ ms.
       let q = paths_are (unset n) xs ms in
-      let c = accepted-choice ms in
+      let c = accepted_choice ms in
       (λ h. c.0 (q.0 h), λ d. q.1 (c.1 d)))

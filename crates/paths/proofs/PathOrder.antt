@@ -16,7 +16,7 @@ use Rattle.meaning.proofs.Ordered.{Placed}
 use Rattle.paths.specs.Words.{accepts, first_step, or_later}
 use Rattle.paths.specs.Paths.{Node, State, first_path, later_marks, letters, next, next_path, passed, paths}
 use Rattle.paths.proofs.Walking.{accepted_placed}
-use Rattle.paths.proofs.WordOrder.{Idle, Lively, Stands, following-next, greedy-first, idle-last}
+use Rattle.paths.proofs.WordOrder.{Idle, Lively, Stands, following_next, greedy_first, idle_last}
 
 some_step : {S L : Type 0} (f : L → Option S) (front back : List L) (z : L) (t : S) → f z ≡ some t
     → is_some (first_step f (front ++ (z ∷ back))) ≡ true
@@ -63,13 +63,13 @@ cut_marks n (some q) h = (map some (up_to q), cut_place n q h)
 
 -- Main theorems: paths from any state
 module _ (s : State) (xs : List Node) where
-  pub paths-first : get_elem? (paths s xs) 0 ≡ some (first_path s xs)
-  paths-first = greedy-first next (letters s) (lively (length s.classes)) s xs
+  pub paths_first : get_elem? (paths s xs) 0 ≡ some (first_path s xs)
+  paths_first = greedy_first next (letters s) (lively (length s.classes)) s xs
 
-  pub paths-next : (ms : Marks) → T (accepts next s xs ms) → Stands next (letters s) s xs ms (next_path s xs ms)
-  paths-next ms t =
-      following-next next (letters s) (lively (length s.classes)) (Placed (length s.classes)) (later_marks (length s.classes))
+  pub paths_next : (ms : Marks) → T (accepts next s xs ms) → Stands next (letters s) s xs ms (next_path s xs ms)
+  paths_next ms t =
+      following_next next (letters s) (lively (length s.classes)) (Placed (length s.classes)) (later_marks (length s.classes))
       (cut_marks (length s.classes)) s xs ms (accepted_placed s xs ms t) t
 
-  pub paths-last : (mss : List Marks) × (paths s xs ≡ mss ++ (replicate (length xs) none ∷ []))
-  paths-last = idle-last next (letters s) none (idle (length s.classes)) s xs
+  pub paths_last : (mss : List Marks) × (paths s xs ≡ mss ++ (replicate (length xs) none ∷ []))
+  paths_last = idle_last next (letters s) none (idle (length s.classes)) s xs

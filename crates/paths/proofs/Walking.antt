@@ -69,17 +69,17 @@ pub record Holed (p : State → Bool) (s : State) (x : Node) (q : ℕ) : Type 0 
   pub on : T (p (holed s q x.size class))
 
 module _ (p : State → Bool) (s : State) (x : Node) (q : ℕ) where
-  pub hole-step : T (holds p (next s x (some q))) → Holed p s x q
+  pub hole_step : T (holds p (next s x (some q))) → Holed p s x q
   unfolding next
-  hole-step t =
+  hole_step t =
       let a = holds_guard p (eqb s.skip 0) _ t in
       let b = holds_then p x.class _ a.1 in
       let d = holds_guard p (takes (get_elem? s.classes q) b.0) (some (holed s q x.size b.0)) b.2 in
       record { here = eqb→eq s.skip 0 a.0; class = b.0; has = b.1; taken = d.0; on = d.1 }
 
-  step-hole : Holed p s x q → T (holds p (next s x (some q)))
+  step_hole : Holed p s x q → T (holds p (next s x (some q)))
   unfolding next
-  step-hole h =
+  step_hole h =
       guard_holds p (eqb s.skip 0) _ (true_T (ap (λ (k : ℕ). eqb k 0) h.here))
       (subst (λ (w : Option ℕ). T (holds p (and_then w (λ c.
       guard (takes (get_elem? s.classes q) c) (some (holed s q x.size c)))))) (sym h.has)
@@ -93,8 +93,8 @@ pub record Walked (s : State) (xs : List Node) (ms : Marks) : Type 0 where
 
 -- One node on, with none
 module _ (s : State) (x : Node) (xs : List Node) (ms : Marks) where
-  none-walked : Walked (passed s) xs ms → Walked s (x ∷ xs) (none ∷ ms)
-  none-walked w = record { past = past; classed = classed; equal = equal; apart = apart }
+  none_walked : Walked (passed s) xs ms → Walked s (x ∷ xs) (none ∷ ms)
+  none_walked w = record { past = past; classed = classed; equal = equal; apart = apart }
     where
       past : (k q : ℕ) → get_elem? (none ∷ ms) k ≡ some (some q) → s.skip ≤ k
       past zero q e = never (cc)
@@ -132,9 +132,9 @@ module _ (s : State) (x : Node) (q c : ℕ) (xs : List Node) (ms : Marks) (has :
   put : get_elem? (set s.classes q (some c)) q ≡ some (some c)
   put = set_same s.classes q (some c) (takes_low s.classes q c taken)
 
-  hole-walked : s.skip ≡ 0 → Walked (holed s q x.size c) xs ms
+  hole_walked : s.skip ≡ 0 → Walked (holed s q x.size c) xs ms
       → Walked s (x ∷ xs) (some q ∷ ms)
-  hole-walked here w = record { past = λ k p e. omega arith; classed = classed; equal = equal; apart = apart }
+  hole_walked here w = record { past = λ k p e. omega arith; classed = classed; equal = equal; apart = apart }
     where
       -- What has become a hole of place q has its class
       own : (k : ℕ) → get_elem? ms k ≡ some (some q) → class_at xs k ≡ some c
@@ -169,8 +169,8 @@ module _ (s : State) (x : Node) (q c : ℕ) (xs : List Node) (ms : Marks) (has :
       apart zero (suc k) p r d e l = let h = w.past k r e in omega arith
       apart (suc j) (suc k) p r d e l = let h = w.apart j k p r d e (omega arith) in omega arith
 
-  walked-hole : Walked s (x ∷ xs) (some q ∷ ms) → Walked (holed s q x.size c) xs ms
-  walked-hole w =
+  walked_hole : Walked s (x ∷ xs) (some q ∷ ms) → Walked (holed s q x.size c) xs ms
+  walked_hole w =
       record {
         past = λ k p e. let h = w.apart 0 (suc k) q p refl e (omega arith) in omega arith;
         classed = classed;
@@ -209,11 +209,11 @@ accepts_walked s [] [] t = (refl, nothing_walked s)
 accepts_walked s [] (m ∷ ms) t = absurd t
 accepts_walked s (x ∷ xs) [] t = absurd t
 accepts_walked s (x ∷ xs) (none ∷ ms) t =
-    let (l, w) = accepts_walked (passed s) xs ms t in (ap suc l, none-walked s x xs ms w)
+    let (l, w) = accepts_walked (passed s) xs ms t in (ap suc l, none_walked s x xs ms w)
 accepts_walked s (x ∷ xs) (some q ∷ ms) t =
-    let h = hole-step (λ r. accepts next r xs ms) s x q t in
+    let h = hole_step (λ r. accepts next r xs ms) s x q t in
     let (l, w) = accepts_walked (holed s q x.size h.class) xs ms h.on in
-    (ap suc l, hole-walked s x q h.class xs ms h.has h.taken h.here w)
+    (ap suc l, hole_walked s x q h.class xs ms h.has h.taken h.here w)
 
 walked_accepts : (s : State) (xs : List Node) (ms : Marks) → length ms ≡ length xs → Walked s xs ms → T (accepts next s xs ms)
 unfolding accepts next
@@ -224,12 +224,12 @@ walked_accepts s (x ∷ xs) (none ∷ ms) e w = walked_accepts (passed s) xs ms 
 walked_accepts s (x ∷ xs) (some q ∷ ms) e w =
     let (c, has, taken) = w.classed 0 q refl in
     let first = w.past 0 q refl in
-    step-hole (λ r. accepts next r xs ms) s x q (record {
+    step_hole (λ r. accepts next r xs ms) s x q (record {
       here = omega arith;
       class = c;
       has = has;
       taken = taken;
-      on = walked_accepts (holed s q x.size c) xs ms (omega arith) (walked-hole s x q c xs ms has taken w);
+      on = walked_accepts (holed s q x.size c) xs ms (omega arith) (walked_hole s x q c xs ms has taken w);
     })
 
 pub accepted_walked : (s : State) (xs : List Node) (ms : Marks) → T (accepts next s xs ms) ↔ ((length ms ≡ length xs) × Walked s xs ms)

@@ -1,4 +1,4 @@
--- The words of a system are those of all words that it accepts, in order (`words-kept`).
+-- The words of a system are those of all words that it accepts, in order (`words_kept`).
 use mathlib.Core.Path.{◌≡◌, refl, ap, ap₂, sym, ◌∙◌}
 use mathlib.Core.Bool.{Bool, true, false}
 use mathlib.Core.List.{List, [], ◌∷◌, ◌++◌, map}
@@ -40,13 +40,13 @@ each_same f g h (x ∷ xs) = ap₂ ◌++◌ (h x) (each_same f g h xs)
 
 module _ {S X L : Type 0} (step : S → X → L → Option S) (letters : List L) where
   -- THE WORDS ARE THOSE THAT ARE ACCEPTED
-  pub words-kept : (s : S) (xs : List X) → words step letters s xs ≡ keep (accepts step s xs) (all_words letters (length xs))
+  pub words_kept : (s : S) (xs : List X) → words step letters s xs ≡ keep (accepts step s xs) (all_words letters (length xs))
   unfolding words accepts
-  words-kept s [] = refl
-  words-kept s (x ∷ xs) =
+  words_kept s [] = refl
+  words_kept s (x ∷ xs) =
       each_same (λ m. list_of (λ t. map (λ ms. m ∷ ms) (words step letters t xs)) (step s x m))
       (λ m. keep (accepts step s (x ∷ xs)) (map (λ ms. m ∷ ms) (all_words letters (length xs))))
-      (λ m. go m (step s x m) (λ t. words-kept t xs)
+      (λ m. go m (step s x m) (λ t. words_kept t xs)
       ∙ sym (keep_map (accepts step s (x ∷ xs)) (λ ms. m ∷ ms) (all_words letters (length xs))))
       letters
       ∙ sym (keep_each (accepts step s (x ∷ xs)) (λ m. map (λ ms. m ∷ ms) (all_words letters (length xs))) letters)

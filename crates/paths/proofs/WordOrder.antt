@@ -35,12 +35,12 @@ module _ {S X L : Type 0} (step : S → X → L → Option S) (letters : List L)
   abbrev pub Lively : Type 0
   Lively = (s : S) (x : X) → is_some (first_step (step s x) letters) ≡ true
 
-  first-each : (s : S) (x : X) (xs : List X) → ((t : S) → get_elem? (words step letters t xs) 0 ≡ some (greedy step letters t xs))
+  first_each : (s : S) (x : X) (xs : List X) → ((t : S) → get_elem? (words step letters t xs) 0 ≡ some (greedy step letters t xs))
       → (ms : List L)
       → get_elem? (each (headed s x xs) ms) 0 ≡ and_then (first_step (step s x) ms) (λ r. some (r.0 ∷ greedy step letters r.1 xs))
   unfolding words
-  first-each s x xs h [] = refl
-  first-each s x xs h (m ∷ ms) = go (step s x m) (first-each s x xs h ms)
+  first_each s x xs h [] = refl
+  first_each s x xs h (m ∷ ms) = go (step s x m) (first_each s x xs h ms)
     where
       go : (w : Option S)
           → get_elem? (each (headed s x xs) ms) 0 ≡ and_then (first_step (step s x) ms) (λ r. some (r.0 ∷ greedy step letters r.1 xs))
@@ -53,12 +53,12 @@ module _ {S X L : Type 0} (step : S → X → L → Option S) (letters : List L)
           (first_map (λ ws. m ∷ ws) (words step letters t xs) ∙ ap (λ (o : Option (List L)). and_then o (λ ws. some (m ∷ ws))) (h t))
 
   -- THE FIRST WORD is the greedy one
-  pub greedy-first : Lively → (s : S) (xs : List X) → get_elem? (words step letters s xs) 0 ≡ some (greedy step letters s xs)
+  pub greedy_first : Lively → (s : S) (xs : List X) → get_elem? (words step letters s xs) 0 ≡ some (greedy step letters s xs)
   unfolding words greedy
-  greedy-first h s [] = refl
-  greedy-first h s (x ∷ xs) =
+  greedy_first h s [] = refl
+  greedy_first h s (x ∷ xs) =
       let (r, e) = is_some_lem (first_step (step s x) letters) (h s x) in
-      first-each s x xs (λ t. greedy-first h t xs) letters
+      first_each s x xs (λ t. greedy_first h t xs) letters
       ∙ ap (λ (o : Option (L × S)). and_then o (λ q. some (q.0 ∷ greedy step letters q.1 xs))) e
       ∙ ap (λ (o : Option (L × S)). some (list_of (λ q. q.0 ∷ greedy step letters q.1 xs) o)) (sym e)
 
@@ -69,16 +69,16 @@ module _ {S X L : Type 0} (step : S → X → L → Option S) (letters : List L)
     pub is_next : get_elem? after 0 ≡ next
 
   -- THE NEXT WORD after a word of the system; P says of a letter that it is one of the letters, and `later m` are those after it
-  pub following-next : Lively → (P : L → Type 0) (later : L → List L)
+  pub following_next : Lively → (P : L → Type 0) (later : L → List L)
       → ((m : L) → P m → (front : List L) × (letters ≡ front ++ (m ∷ later m)))
       → (s : S) (xs : List X) (ms : List L) → All P ms → T (accepts step s xs ms) → Stands s xs ms (following step letters later s xs ms)
   unfolding words accepts following
-  following-next h P later cut s [] [] a t = record { before = []; after = []; whole = refl; is_next = refl }
-  following-next h P later cut s [] (m ∷ ms) a t = absurd t
-  following-next h P later cut s (x ∷ xs) [] a t = absurd t
-  following-next h P later cut s (x ∷ xs) (m ∷ ms) a t =
+  following_next h P later cut s [] [] a t = record { before = []; after = []; whole = refl; is_next = refl }
+  following_next h P later cut s [] (m ∷ ms) a t = absurd t
+  following_next h P later cut s (x ∷ xs) [] a t = absurd t
+  following_next h P later cut s (x ∷ xs) (m ∷ ms) a t =
       let (r, e, g) = holds_some (λ q. accepts step q xs ms) (step s x m) t in
-      let d = following-next h P later cut r xs ms a.1 g in
+      let d = following_next h P later cut r xs ms a.1 g in
       let (front, f) = cut m a.0 in
       let mine : headed s x xs m ≡ map (λ ws. m ∷ ws) d.before ++ ((m ∷ ms) ∷ map (λ ws. m ∷ ws) d.after) =
       ap (list_of (λ q. map (λ (ws : List L). m ∷ ws) (words step letters q xs))) e ∙ ap (map (λ (ws : List L). m ∷ ws)) d.whole
@@ -94,7 +94,7 @@ module _ {S X L : Type 0} (step : S → X → L → Option S) (letters : List L)
             ∙ ap₂ or_else
             (first_map (λ ws. m ∷ ws) d.after ∙ ap (λ (o : Option (List L)). and_then o (λ ws. some (m ∷ ws))) d.is_next
             ∙ ap (λ (o : Option S). and_then o (λ q. and_then (following step letters later q xs ms) (λ ws. some (m ∷ ws)))) (sym e))
-            (first-each s x xs (λ q. greedy-first h q xs) (later m));
+            (first_each s x xs (λ q. greedy_first h q xs) (later m));
       }
 
   -- A letter that is always allowed, the last
@@ -104,13 +104,13 @@ module _ {S X L : Type 0} (step : S → X → L → Option S) (letters : List L)
     pub allowed : (s : S) (x : X) → (t : S) × (step s x z ≡ some t)
 
   -- THE LAST WORD has this letter only
-  pub idle-last : (z : L) → Idle z → (s : S) (xs : List X)
+  pub idle_last : (z : L) → Idle z → (s : S) (xs : List X)
       → (ws : List (List L)) × (words step letters s xs ≡ ws ++ (replicate (length xs) z ∷ []))
   unfolding words
-  idle-last z i s [] = ([], refl)
-  idle-last z i s (x ∷ xs) =
+  idle_last z i s [] = ([], refl)
+  idle_last z i s (x ∷ xs) =
       let (t, e) = i.allowed s x in
-      let (us, d) = idle-last z i t xs in (
+      let (us, d) = idle_last z i t xs in (
         each (headed s x xs) i.front ++ map (λ ms. z ∷ ms) us,
         ap (each (headed s x xs)) i.is_last ∙ each_append (headed s x xs) i.front (z ∷ [])
             ∙ ap (λ (zs : List (List L)). each (headed s x xs) i.front ++ zs)

@@ -2,7 +2,7 @@
 --   Node     what a path knows of a node: its size, and its class, none if no choice takes the node
 --   State    how many of the next nodes lie below a hole, and for each place its class, none as long as it has no hole
 --   next     the state after a node with this mark, if that is allowed
---   paths    the marks of all paths, in the order of document 01: `paths-choices` says that they are its choices
+--   paths    the marks of all paths, in the order of document 01: `paths_choices` says that they are its choices
 --   first_path, next_path    the first of them, and the one after a path
 --   Tells    the nodes tell the views of a face: sizes, equality, and which use a variable bound inside the face above them
 use Rattle.std.specs.Prelude.{◌≡◌, ◌↔◌, ℕ, zero, suc, ◌-◌, Bool, true, false, not, List, [], ◌∷◌, ◌++◌, map, length, replicate, set, eqb}

@@ -20,13 +20,13 @@ use Rattle.meaning.proofs.ChoiceLaws.{rows_are}
 use Rattle.masks.specs.Sets.{masks_in}
 use Rattle.faces.specs.declared.first.Firsts.{Firsts}
 use Rattle.choosing.specs.Rows.{MaskRow}
-use Rattle.choosing.proofs.Problem.{row_masks, first-row-of}
+use Rattle.choosing.proofs.Problem.{row_masks, first_row_of}
 use Rattle.rows.specs.Rows.{rows_of}
 use Rattle.accept.specs.declared.Standing.{Standing}
 use Rattle.accept.specs.declared.Verdict.TheVariants as verdicts
 use Rattle.prepare.specs.Prepared.{Prepares, Ready}
 use Rattle.prepare.specs.declared.Prepared.{Prepared}
-use Rattle.prepare.proofs.PreparedLaws.{prepared_refused, prepared_accepted, ready-faced, ready-rows}
+use Rattle.prepare.proofs.PreparedLaws.{prepared_refused, prepared_accepted, ready_faced, ready_rows}
 use Rattle.places.specs.Places.{value_of, AtPast, IsRowOf, Openable, Begins, Starts}
 use Rattle.places.specs.declared.Place as code
 use Rattle.places.specs.declared.Started.{Started}
@@ -72,8 +72,8 @@ module _ (p : Problem) (es ns : List ℕ) (firsts : Firsts) (has_rows : Bool) (t
         },
       )
 
-  pub past-named : AtPast v → Names p (value_of v) past
-  past-named h = record {
+  pub past_named : AtPast v → Names p (value_of v) past
+  past_named h = record {
     is_place = tt;
     is_value = same_value v (place_value past) (h.masks ∙ ap (λ (w : PlaceValue). w.masks) (sym past_value_lem))
         (h.past ∙ ap (λ (w : PlaceValue). w.is_past) (sym past_value_lem));
@@ -97,27 +97,27 @@ module _ (p : Problem) (es ns : List ℕ) (firsts : Firsts) (has_rows : Bool) (t
       let whole : value_of v ≡ record { masks = replicate max_functions 0; is_past = true } = n.is_value ∙ past_value_lem in
       record { masks = ap (λ (w : PlaceValue). w.masks) whole; past = ap (λ (w : PlaceValue). w.is_past) whole }
 
-  pub nothing-named : (IsRowOf v has_rows es ns firsts → ⊥) → (AtPast v → ⊥) → (place : Place Row) → Names p (value_of v) place → ⊥
-  nothing-named f g (at r) n = f (named_row r n)
-  nothing-named f g past n = g (named_past n)
+  pub nothing_named : (IsRowOf v has_rows es ns firsts → ⊥) → (AtPast v → ⊥) → (place : Place Row) → Names p (value_of v) place → ⊥
+  nothing_named f g (at r) n = f (named_row r n)
+  nothing_named f g past n = g (named_past n)
 
   -- The first place is the start
-  pub begins-start : Begins has_rows es ns firsts v → value_of v ≡ place_value (start p)
+  pub begins_start : Begins has_rows es ns firsts v → value_of v ≡ place_value (start p)
   unfolding Begins rows_of
-  begins-start h = go has_rows refl h
+  begins_start h = go has_rows refl h
     where
       go : (b : Bool) → has_rows ≡ b → Begins b es ns firsts v → value_of v ≡ place_value (start p)
       go true e h =
           same_value v (record { masks = masks_in h.0; is_past = false }) (ap masks_in h.2.sets) h.2.here
-          ∙ first-row-of p ns es firsts.nodes firsts.count (listed e) (masks_in h.0) h.1
-      go false e h = (past-named h).is_value ∙ ap (λ (l : List Row). place_value (place_of l)) (sym (no_rows p (sym told ∙ e)))
+          ∙ first_row_of p ns es firsts.nodes firsts.count (listed e) (masks_in h.0) h.1
+      go false e h = (past_named h).is_value ∙ ap (λ (l : List Row). place_value (place_of l)) (sym (no_rows p (sym told ∙ e)))
 
 -- The answers of `start`
 module _ (s ps es ns fs : List ℕ) (prepared : Prepared) (h : Prepares (accept s) ps es ns fs prepared) where
-  pub starts-refused : (n : ℕ) (r : Started) → prepared.verdict ≡ verdicts.Refused n → r.answer ≡ starts.Refused n
+  pub starts_refused : (n : ℕ) (r : Started) → prepared.verdict ≡ verdicts.Refused n → r.answer ≡ starts.Refused n
       → Starts (start_call s) r
   unfolding start_call Starts
-  starts-refused n r e q = rw (prepared_refused (accept s) ps es ns fs prepared n h e) q
+  starts_refused n r e q = rw (prepared_refused (accept s) ps es ns fs prepared n h e) q
 
   module _ (a : Standing) (e : prepared.verdict ≡ verdicts.Accepted a) where
     ready : Ready (accept s) ps es ns fs a prepared.firsts
@@ -131,7 +131,7 @@ module _ (s ps es ns fs : List ℕ) (prepared : Prepared) (h : Prepares (accept 
     starts_inside = (ready.laid.expressions_inside, ready.tabled.numbers_inside)
 
     pub starts_open : Openable a.rows (part es) (part ns) prepared.firsts
-    starts_open = ready-faced (accept s) ps es ns fs a prepared.firsts ready
+    starts_open = ready_faced (accept s) ps es ns fs a prepared.firsts ready
 
     pub starts_begins : (r : Started) → r.answer ≡ starts.Begins → Begins a.rows (part es) (part ns) prepared.firsts r.place
         → Starts (start_call s) r
@@ -139,6 +139,6 @@ module _ (s ps es ns fs : List ℕ) (prepared : Prepared) (h : Prepares (accept 
     starts_begins r q b =
         rw ready.answer (
           q,
-          begins-start ready.problem (part es) (part ns) prepared.firsts a.rows ready.laid.has_rows
-              (ready-rows (accept s) ps es ns fs a prepared.firsts ready) r.place b,
+          begins_start ready.problem (part es) (part ns) prepared.firsts a.rows ready.laid.has_rows
+              (ready_rows (accept s) ps es ns fs a prepared.firsts ready) r.place b,
         )

@@ -35,33 +35,33 @@ zero_at n ms e j = ap (λ (l : List ℕ). get_or l j 0) e ∙ get_d_zeros n j
 
 -- One set is empty, or is not, by its test
 module _ (sets : List NodeSet) (k : ℕ) (r : Bool) (test : r ≡ eqb (mask (get_or sets k (record { w0 = 0; w1 = 0; w2 = 0; w3 = 0 }))) 0) where
-  pub empty-at : r ≡ true → get_or (masks_in sets) k 0 ≡ 0
-  empty-at e = sym (masks_at sets k) ∙ eqb-true _ 0 (sym test ∙ e)
+  pub empty_at : r ≡ true → get_or (masks_in sets) k 0 ≡ 0
+  empty_at e = sym (masks_at sets k) ∙ eqb-true _ 0 (sym test ∙ e)
 
   pub filled_at : (n : ℕ) → r ≡ false → masks_in sets ≡ replicate n 0 → ⊥
   filled_at n e z = eqb-false _ 0 (sym test ∙ e) (masks_at sets k ∙ zero_at n (masks_in sets) z k)
 
 -- The answers of `named`
 module _ (v : Place) (has_rows : Bool) (es ns : List ℕ) (firsts : Firsts) where
-  pub tells-past : v.past ≡ true → masks_in v.sets ≡ replicate max_functions 0 → Tells v has_rows es ns firsts named.Past
+  pub tells_past : v.past ≡ true → masks_in v.sets ≡ replicate max_functions 0 → Tells v has_rows es ns firsts named.Past
   unfolding Tells
-  tells-past e m = record { masks = m; past = e }
+  tells_past e m = record { masks = m; past = e }
 
   pub tells_row : v.past ≡ false → has_rows ≡ true → masks_in v.sets ∈ rows_of es ns firsts → Tells v has_rows es ns firsts named.Row
   unfolding Tells
   tells_row e a m = record { here = e; some_rows = a; member = m }
 
-  pub tells-no-past : v.past ≡ true → (masks_in v.sets ≡ replicate max_functions 0 → ⊥) → Tells v has_rows es ns firsts named.Nothing
+  pub tells_no_past : v.past ≡ true → (masks_in v.sets ≡ replicate max_functions 0 → ⊥) → Tells v has_rows es ns firsts named.Nothing
   unfolding Tells
-  tells-no-past e n = (λ r. true≢false (sym e ∙ r.here), λ q. n q.masks)
+  tells_no_past e n = (λ r. true≢false (sym e ∙ r.here), λ q. n q.masks)
 
-  pub tells-no-rows : v.past ≡ false → has_rows ≡ false → Tells v has_rows es ns firsts named.Nothing
+  pub tells_no_rows : v.past ≡ false → has_rows ≡ false → Tells v has_rows es ns firsts named.Nothing
   unfolding Tells
-  tells-no-rows e a = (λ r. false≢true (sym a ∙ r.some_rows), λ q. false≢true (sym e ∙ q.past))
+  tells_no_rows e a = (λ r. false≢true (sym a ∙ r.some_rows), λ q. false≢true (sym e ∙ q.past))
 
-  pub tells-no-row : v.past ≡ false → (masks_in v.sets ∈ rows_of es ns firsts → ⊥) → Tells v has_rows es ns firsts named.Nothing
+  pub tells_no_row : v.past ≡ false → (masks_in v.sets ∈ rows_of es ns firsts → ⊥) → Tells v has_rows es ns firsts named.Nothing
   unfolding Tells
-  tells-no-row e n = (λ r. n r.member, λ q. false≢true (sym e ∙ q.past))
+  tells_no_row e n = (λ r. n r.member, λ q. false≢true (sym e ∙ q.past))
 
 -- The answers of `first`
 pub begins_row : (has_rows : Bool) (es ns : List ℕ) (firsts : Firsts) (row : List NodeSet) (r : Place) → has_rows ≡ true

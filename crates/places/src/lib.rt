@@ -1,5 +1,7 @@
 // Places as a host holds them: a node set for each function by ascending number, and whether it is past the last. Any value may be handed
 // in; which place of a problem it names, if any, is looked up in the problem's tables.
+#![tactic(auto)]
+
 ghost use Rattle.std.specs.Prelude.{◌≡◌, true, ◌↔◌, replicate};
 ghost use Rattle.meaning.specs.Limits.{max_functions};
 ghost use Rattle.meaning.specs.Entry.{start_call};

@@ -1,5 +1,7 @@
 // What happens once a call, whatever is asked: the problem is read and checked, the nodes of its expressions are numbered, and where it has
 // rows the nodes of its functions' faces are looked up. The start, searching and writing begin with it.
+#![tactic(auto)]
+
 ghost use Rattle.std.specs.Prelude.{◌<◌, ◌≤◌, length};
 ghost use Rattle.meaning.specs.Limits.{metavariable_count};
 ghost use Rattle.meaning.specs.Accept.{accept};

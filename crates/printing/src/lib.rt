@@ -1,4 +1,6 @@
 // What document 01's program `readings` prints, on standard output. `listing` makes the lines; here they are only written.
+#![tactic(auto)]
+
 ghost use Rattle.std.specs.Prelude.{◌≤◌, length};
 ghost use Rattle.listing.specs.Listing.{line_room};
 

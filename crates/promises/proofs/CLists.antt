@@ -25,8 +25,8 @@ use Rattle.meaning.specs.Entry.{HostReply, SearchCall, not_accepted, on_accepted
 use Rattle.meaning.specs.Calls.{HasEnd, HostCall, Run, allowed, found_in, founds, left, positive}
 use Rattle.meaning.proofs.Lists.{choose_false, choose_true, eqb_other, never}
 use Rattle.meaning.proofs.ProblemReading.{accept_accepted}
-use Rattle.meaning.proofs.CallLaws.{end-here, end_later, no_end, which-end}
-use Rattle.meaning.proofs.OneCall.{NamedReply, reply-named}
+use Rattle.meaning.proofs.CallLaws.{end_here, end_later, no_end, which_end}
+use Rattle.meaning.proofs.OneCall.{NamedReply, reply_named}
 use Rattle.meaning.proofs.PlaceLaws.{from_place, place_long}
 use Rattle.words.specs.Words.{has_place, place_of_words, placed}
 use Rattle.words.proofs.WordLaws.{Small, place_small, placed_back}
@@ -62,37 +62,37 @@ reply_long p (refused_call r) a h = tt
 
 call_long : (s : Bytes) (v : PlaceValue) (n : ℕ) (reply : HostReply) → All Byte s → SearchCall s v n reply → LongReply reply
 call_long s v n reply b (not_accepted r e) = tt
-call_long s v n reply b (on_accepted p e c) = reply_long p reply (accept_accepted s p b e).0 (reply-named p c)
+call_long s v n reply b (on_accepted p e c) = reply_long p reply (accept_accepted s p b e).0 (reply_named p c)
 
 -- One call more at the front
 pub record AsCalls (s : Bytes) (place : List ℕ) (cs : List CCall) : Type 0 where
   pub calls : List HostCall
   pub run : Run (SearchCall s) (place_of_words place) calls
-  pub founds-are : map place_of_words (c_found cs) ≡ founds calls
-  pub ends-are : CEnd cs ↔ HasEnd calls
-  pub allowances-are : c_allowed cs ≡ positive calls
+  pub founds_are : map place_of_words (c_found cs) ≡ founds calls
+  pub ends_are : CEnd cs ↔ HasEnd calls
+  pub allowances_are : c_allowed cs ≡ positive calls
 
 no_calls : (s : Bytes) (place : List ℕ) → AsCalls s place []
 no_calls s place =
     record {
       calls = [];
       run = tt;
-      founds-are = refl;
-      ends-are = (λ x. absurd (Memᴰ.not-nil x.1), λ h. absurd (no_end h));
-      allowances-are = refl;
+      founds_are = refl;
+      ends_are = (λ x. absurd (Memᴰ.not-nil x.1), λ h. absurd (no_end h));
+      allowances_are = refl;
     }
 
 module _ (s : Bytes) (place : List ℕ) (c : CCall) (cs : List CCall) where
   -- An answer that is not 256 finds nothing, and one that is not 258 is no End
-  nothing-found : (c.answer ≡ 256 → ⊥) → c_found (c ∷ cs) ≡ c_found cs
-  nothing-found other = choose_false _ _ (eqb_other c.answer 256 other)
+  nothing_found : (c.answer ≡ 256 → ⊥) → c_found (c ∷ cs) ≡ c_found cs
+  nothing_found other = choose_false _ _ (eqb_other c.answer 256 other)
 
-  no-end-here : (c.answer ≡ 258 → ⊥) → CEnd (c ∷ cs) → CEnd cs
-  no-end-here other (d, m, e) =
+  no_end_here : (c.answer ≡ 258 → ⊥) → CEnd (c ∷ cs) → CEnd cs
+  no_end_here other (d, m, e) =
       ⊎_elim (λ q. absurd (other (ap (λ (x : CCall). x.answer) (sym q) ∙ e))) (λ k. (d, k, e)) (Memᴰ.cases_cons m)
 
-  later-end : CEnd cs → CEnd (c ∷ cs)
-  later-end (d, m, e) = (d, Memᴰ.tail m, e)
+  later_end : CEnd cs → CEnd (c ∷ cs)
+  later_end (d, m, e) = (d, Memᴰ.tail m, e)
 
   -- A call that is refused for its row buffer is passed over
   passed_over : has_place (length c.row) ≡ false → c.answer < 256 → c.place' ≡ place → AsCalls s c.place' cs → AsCalls s place (c ∷ cs)
@@ -100,10 +100,10 @@ module _ (s : Bytes) (place : List ℕ) (c : CCall) (cs : List CCall) where
       record {
         calls = rest.calls;
         run = subst (λ (words : List ℕ). Run (SearchCall s) (place_of_words words) rest.calls) stays rest.run;
-        founds-are = ap (map place_of_words) (nothing-found (λ z. omega arith)) ∙ rest.founds-are;
-        ends-are = (λ h. rest.ends-are.0 (no-end-here (λ z. omega arith) h), λ h. later-end (rest.ends-are.1 h));
-        allowances-are =
-            ap (λ (b : Bool). choose b (allowed c.allowance) 0 + c_allowed cs) short ∙ zero-add (c_allowed cs) ∙ rest.allowances-are;
+        founds_are = ap (map place_of_words) (nothing_found (λ z. omega arith)) ∙ rest.founds_are;
+        ends_are = (λ h. rest.ends_are.0 (no_end_here (λ z. omega arith) h), λ h. later_end (rest.ends_are.1 h));
+        allowances_are =
+            ap (λ (b : Bool). choose b (allowed c.allowance) 0 + c_allowed cs) short ∙ zero-add (c_allowed cs) ∙ rest.allowances_are;
       }
 
   -- Any other is one of document 01's
@@ -112,26 +112,26 @@ module _ (s : Bytes) (place : List ℕ) (c : CCall) (cs : List CCall) where
     end_here_is : (c.answer ≡ 258) ↔ ((w : PlaceValue) × (reply ≡ end w))
     next : place_of_words c.place' ≡ left (place_of_words place) reply
 
-  one-call : (reply : HostReply) → has_place (length c.row) ≡ true → SearchCall s (place_of_words place) c.allowance reply → Seen reply
+  one_call : (reply : HostReply) → has_place (length c.row) ≡ true → SearchCall s (place_of_words place) c.allowance reply → Seen reply
       → AsCalls s c.place' cs → AsCalls s place (c ∷ cs)
-  one-call reply long call seen rest =
+  one_call reply long call seen rest =
       let d : HostCall = record { allowance = c.allowance; reply = reply } in
       record {
         calls = d ∷ rest.calls;
         run = (call, subst (λ (v : PlaceValue). Run (SearchCall s) v rest.calls) seen.next rest.run);
-        founds-are = seen.found_here ∙ ap (λ (l : List PlaceValue). found_in reply ++ l) rest.founds-are;
-        ends-are = (
+        founds_are = seen.found_here ∙ ap (λ (l : List PlaceValue). found_in reply ++ l) rest.founds_are;
+        ends_are = (
           λ (x : CEnd (c ∷ cs)).
               ⊎_elim
-              (λ q. let (w, e) = seen.end_here_is.0 (ap (λ (y : CCall). y.answer) (sym q) ∙ x.2) in end-here w e)
-              (λ m. end_later (rest.ends-are.0 (x.0, m, x.2)))
+              (λ q. let (w, e) = seen.end_here_is.0 (ap (λ (y : CCall). y.answer) (sym q) ∙ x.2) in end_here w e)
+              (λ m. end_later (rest.ends_are.0 (x.0, m, x.2)))
               (Memᴰ.cases_cons x.1),
           λ h.
-              ⊎_elim (λ w. (c, Memᴰ.head refl, seen.end_here_is.1 w)) (λ m. later-end (rest.ends-are.1 m)) (which-end h),
+              ⊎_elim (λ w. (c, Memᴰ.head refl, seen.end_here_is.1 w)) (λ m. later_end (rest.ends_are.1 m)) (which_end h),
         );
-        allowances-are =
+        allowances_are =
             ap (λ (b : Bool). choose b (allowed c.allowance) 0 + c_allowed cs) long
-            ∙ ap (λ (n : ℕ). allowed c.allowance + n) rest.allowances-are;
+            ∙ ap (λ (n : ℕ). allowed c.allowance + n) rest.allowances_are;
       }
 
   seen_as : (reply : HostReply) → RefusesReply reply → LongReply reply → c.answer ≡ reply_code reply → c.place' ≡ place_after place reply
@@ -146,20 +146,20 @@ module _ (s : Bytes) (place : List ℕ) (c : CCall) (cs : List CCall) where
       }
   seen_as (end next) h next_long a moved gives =
       record {
-        found_here = ap (map place_of_words) (nothing-found (λ z. omega (arith, a)));
+        found_here = ap (map place_of_words) (nothing_found (λ z. omega (arith, a)));
         end_here_is = (λ z. (next, refl), λ w. a);
         next = ap place_of_words moved ∙ long_back place next next_long;
       }
   seen_as (paused next) h next_long a moved gives =
       record {
-        found_here = ap (map place_of_words) (nothing-found (λ z. omega (arith, a)));
+        found_here = ap (map place_of_words) (nothing_found (λ z. omega (arith, a)));
         end_here_is = (λ z. absurd (omega (arith, a)), λ w. never (let q = w.1 in cc));
         next = ap place_of_words moved ∙ long_back place next next_long;
       }
   seen_as (refused_call r) h long a moved gives =
       let below = small r h in
       record {
-        found_here = ap (map place_of_words) (nothing-found (λ z. omega (arith, a)));
+        found_here = ap (map place_of_words) (nothing_found (λ z. omega (arith, a)));
         end_here_is = (λ z. absurd (omega (arith, a)), λ w. never (let q = w.1 in cc));
         next = ap place_of_words moved;
       }
@@ -171,11 +171,11 @@ module _ (s : Bytes) (place : List ℕ) (c : CCall) (cs : List CCall) where
   short_refused (paused next) h = omega arith
   short_refused (refused_call r) h = (small r h).1
 
-  short-stays : (reply : HostReply) → place_after place (with_row false reply) ≡ place
-  short-stays (found row next) = refl
-  short-stays (end next) = refl
-  short-stays (paused next) = refl
-  short-stays (refused_call r) = refl
+  short_stays : (reply : HostReply) → place_after place (with_row false reply) ≡ place
+  short_stays (found row next) = refl
+  short_stays (end next) = refl
+  short_stays (paused next) = refl
+  short_stays (refused_call r) = refl
 
   add_call : All Byte s → SearchExport s c.allowance place c.row c.place' c.row' c.answer → AsCalls s c.place' cs
       → AsCalls s place (c ∷ cs)
@@ -185,13 +185,13 @@ module _ (s : Bytes) (place : List ℕ) (c : CCall) (cs : List CCall) where
           → c.place' ≡ place_after place (with_row long x.reply) → c.row' ≡ row_after c.row (with_row long x.reply)
           → AsCalls s place (c ∷ cs)
       go true long a moved gives =
-          one-call x.reply long x.call
+          one_call x.reply long x.call
           (seen_as x.reply (search_numbers s (place_of_words place) c.allowance x.reply true x.call)
           (call_long s (place_of_words place) c.allowance x.reply b x.call) a moved gives)
           rest
       go false short a moved gives =
           let below = short_refused x.reply (search_numbers s (place_of_words place) c.allowance x.reply false x.call) in
-          passed_over short (omega (arith, a)) (moved ∙ short-stays x.reply) rest
+          passed_over short (omega (arith, a)) (moved ∙ short_stays x.reply) rest
 
 -- A LIST OF CALLS IN C, from the words of any place on
 pub as_calls : (s : Bytes) (place : List ℕ) (cs : List CCall) → All Byte s → CRun s place cs → AsCalls s place cs

@@ -26,8 +26,8 @@ use Rattle.meaning.proofs.FullListLaws.{full_list_every, full_list_once}
 use Rattle.meaning.proofs.TextbookLaws.{textbook}
 use Rattle.meaning.proofs.WriteLaws.{when_large, write_on}
 use Rattle.meaning.proofs.EntryLaws.{RowOfText, WrittenText, check_is_right, passing_written, written_passes_lem}
-use Rattle.meaning.proofs.AlphaTexts.{same_filling}
-use Rattle.meaning.proofs.GivenLaws.{text-named, texts-given}
+use Rattle.meaning.proofs.AlphaTexts.{same_filling_lem}
+use Rattle.meaning.proofs.GivenLaws.{text_named, texts_given}
 use Rattle.promises.specs.Promises.{Interface, Owed, ReadBack, SecondDemand, TextOf}
 
 pub record Lawful (host : Interface) : Type 0 where
@@ -48,15 +48,15 @@ read_back s v out out' n b w =
       choices = x.row;
       named = x.named;
       filling = σ;
-      reads = ap named_by x.text ∙ text-named x.problem a x.row σ x.named.is_place solution bodies;
+      reads = ap named_by x.text ∙ text_named x.problem a x.row σ x.named.is_place solution bodies;
       solution = solution;
       bodies = bodies;
     }
 
 module _ (host : Interface) (lawful : Lawful host) where
   -- THE SECOND DEMAND
-  pub texts-kept : SecondDemand host
-  texts-kept = record {
+  pub texts_kept : SecondDemand host
+  texts_kept = record {
     passes = λ s text a c p is e f.
         let right = check_is_right s text p is e f in
         let same = lawful.checks s text a c in
@@ -66,7 +66,7 @@ module _ (host : Interface) (lawful : Lawful host) where
         lawful.checks s (take n out') a c
         ∙ (written_passes_lem s (host.value row) out out' n b (lawful.writes s row out out' (got n) w)).yes;
     has_row = row_of;
-    only_names = λ s text text' is is' b b' c c' f f'. same_filling text text' is is' b b' f f';
+    only_names = λ s text text' is is' b b' c c' f f'. same_filling_lem text text' is is' b b' f f';
   }
     where
       row_of : (s text : Bytes) → All Byte s → host.Checking s text (got true)
@@ -107,7 +107,7 @@ module _ (host : Interface) (lawful : Lawful host) where
         → Owed host s rows ended allowances
     owed rows ended allowances d =
         let long : length (map host.value rows) ≡ length rows = length-map rows host.value in
-        let texts : TextsGiven p (map host.value rows) d.full = texts-given p accepted d.full d.is_full (map host.value rows) d.prefix in
+        let texts : TextsGiven p (map host.value rows) d.full = texts_given p accepted d.full d.is_full (map host.value rows) d.prefix in
         record {
           problem = p;
           accepted = e;

@@ -19,7 +19,7 @@ use Rattle.meaning.specs.Longest.{LongestCall}
 use Rattle.meaning.proofs.Lists.{never}
 use Rattle.meaning.proofs.CallLaws as calls
 use Rattle.meaning.proofs.PlaceLaws.{place_long}
-use Rattle.meaning.proofs.WriteLaws.{refused-leaves}
+use Rattle.meaning.proofs.WriteLaws.{refused_leaves}
 use Rattle.masks.specs.Sets.{masks_in}
 use Rattle.masks.specs.declared.NodeSet.{NodeSet}
 use Rattle.places.specs.Places.{AtPast, AtRow, Starts, value_of}
@@ -60,8 +60,8 @@ use Rattle.promises.specs.Promises as page
 use Rattle.promises.proofs.RefusalNumbers.{check_numbers, check_read, longest_read, write_numbers, write_read}
 use Rattle.promises.proofs.CallLists.{allowed_carried, call_of, carried_run, end_carried, founds_carried, kept_run}
 use Rattle.promises.proofs.CLists.{as_calls, c_started}
-use Rattle.promises.proofs.HostTexts.{Lawful, owed, texts-kept}
-use Rattle.promises.proofs.Longest.{longest-kept}
+use Rattle.promises.proofs.HostTexts.{Lawful, owed, texts_kept}
+use Rattle.promises.proofs.Longest.{longest_kept}
 
 -- The contract of `search_open`
 open_contract : OpenContract
@@ -111,7 +111,7 @@ buffers_stay words row (refused_call r) h = (refl, refl)
 text_stays : (s : Bytes) (v : PlaceValue) (out out' : Bytes) (before : ℕ) (a : Answer ℕ) → 0 < write_code a → WriteCall s v out a out'
     → (out' ≡ out) × (length_after before a ≡ before)
 text_stays s v out out' before (got n) h w = absurd (omega arith)
-text_stays s v out out' before (refused n) h w = (refused-leaves s v out out' n w, refl)
+text_stays s v out out' before (refused n) h w = (refused_leaves s v out out' n w, refl)
 
 longest_stays_lem : (n : ℕ) (out out' : Bytes) (before : ℕ) (a : Answer ℕ) → 0 < write_code a → LongestCall n out a out'
     → (out' ≡ out) × (length_after before a ≡ before)
@@ -179,7 +179,7 @@ first_demand = record {
   search_stays = λ s place n k r c e. place_stays k r c.1 e;
   owned_stays = λ s kept n k r c e. place_stays k _ c.1 e;
   open_stays = λ s kept kept' n k r c e. place_stays k _ c e;
-  write_stays = λ s row out out' k c. refused-leaves s (value_of row) out out' k c.1;
+  write_stays = λ s row out out' k c. refused_leaves s (value_of row) out out' k c.1;
   longest_stays = λ n out out' k c. refused_stays c.1;
   start_stays_in_c = λ s place place' r c above.
       let h : StartExport s place place' r = c.1 in
@@ -228,10 +228,10 @@ c_lawful = record {
 }
 
 pub second_demand : SecondDemand in_rattle
-second_demand = texts-kept in_rattle rattle_lawful
+second_demand = texts_kept in_rattle rattle_lawful
 
 pub second_demand_in_c : SecondDemand in_c
-second_demand_in_c = texts-kept in_c c_lawful
+second_demand_in_c = texts_kept in_c c_lawful
 
 -- THE THIRD DEMAND
 demand_as : {p : Problem} {given given' : List PlaceValue} {ended ended' : Type 0} {n n' : ℕ} → given ≡ given' → (ended' ↔ ended) → n ≡ n'
@@ -270,18 +270,18 @@ third_demand = record {
       let (p, a, here) = c_started s words place b c.1 in
       let h = as_calls s place cs b run in
       owed in_c c_lawful s b p a (c_found cs) (CEnd cs) (c_allowed cs)
-      (demand_as (sym h.founds-are) h.ends-are (sym h.allowances-are)
+      (demand_as (sym h.founds_are) h.ends_are (sym h.allowances_are)
       (calls.third_demand s p h.calls b
       (record { accepted = a; run = subst (λ (v : PlaceValue). Run (SearchCall s) v h.calls) here h.run })));
 }
 
 -- T-13, in Rattle and in C
 pub longest_list : LongestList in_rattle
-longest_list = longest-kept in_rattle (λ n out out' a w. subst (λ (y : Answer ℕ). LongestCall n out y out') (sym w.2) w.1.1)
+longest_list = longest_kept in_rattle (λ n out out' a w. subst (λ (y : Answer ℕ). LongestCall n out y out') (sym w.2) w.1.1)
 
 pub longest_list_in_c : LongestList in_c
 longest_list_in_c =
-    longest-kept in_c
+    longest_kept in_c
     (λ n out out' a (k, k', r, c, e).
     let h : LongestExport n out k out' k' r = c.1 in
     let same : a ≡ h.answer =

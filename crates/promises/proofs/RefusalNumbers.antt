@@ -28,7 +28,7 @@ use Rattle.meaning.specs.PlaceValue.{PlaceValue}
 use Rattle.meaning.specs.Entry.{HostReply, reply_value, start_call, SearchCall, not_accepted, on_accepted, no_allowance, no_such_place, searches}
 use Rattle.meaning.specs.Entry.{WriteCall, check_call, check_on, no_such_row, no_solution_row, too_short, writes}
 use Rattle.meaning.specs.Longest.{length_of, longest_into}
-use Rattle.longest.proofs.IntoLaws.{into-by}
+use Rattle.longest.proofs.IntoLaws.{into_by}
 use Rattle.words.specs.Words.{has_place}
 use Rattle.tivagyesz.specs.Exported.{check_code, length_after, place_into, start_into, with_row, write_code}
 use Rattle.promises.specs.Numbers.{is_refusal, Refuses, answer, refusal, RefusesReply, check_answer, write_answer}
@@ -243,7 +243,7 @@ check_numbers s t = then (accept s) _ (accepted s) (λ p. then (read_text t) _ (
 -- `matcher_longest`
 pub longest_numbers : (n r : ℕ) (buffer : Bytes) → length_of (longest_into n buffer) ≡ refused r → (r ≡ 28) ⊎ (r ≡ 29)
 longest_numbers n r buffer =
-    into-by n buffer (λ a. length_of a ≡ refused r → (r ≡ 28) ⊎ (r ≡ 29)) (λ e. inl (cc)) (λ e. inr (cc)) (λ h e. never (cc))
+    into_by n buffer (λ a. length_of a ≡ refused r → (r ≡ 28) ⊎ (r ≡ 29)) (λ e. inl (cc)) (λ e. inr (cc)) (λ h e. never (cc))
 
 -- The numbers of refusals are above 0 and below 256
 pub small : (r : ℕ) → is_refusal r ≡ true → (0 < r) × (r < 256)
@@ -275,4 +275,4 @@ write_read (refused (suc r)) before h = refl
 pub longest_read : (n before : ℕ) (buffer : Bytes)
     → let a = length_of (longest_into n buffer) in write_answer (write_code a) (length_after before a) ≡ a
 longest_read n before buffer =
-    into-by n buffer (λ a. write_answer (write_code (length_of a)) (length_after before (length_of a)) ≡ length_of a) refl refl (λ h. refl)
+    into_by n buffer (λ a. write_answer (write_code (length_of a)) (length_after before (length_of a)) ≡ length_of a) refl refl (λ h. refl)

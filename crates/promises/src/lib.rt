@@ -1,1 +1,2 @@
 // The promises: no code.
+#![tactic(auto)]

@@ -1,4 +1,6 @@
 // Document 01's program: "reads a problem on standard input", and prints its solutions.
+#![tactic(auto)]
+
 mod input;
 
 use input::{Input, read_input};

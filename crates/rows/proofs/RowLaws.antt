@@ -24,9 +24,9 @@ use Rattle.masks.proofs.Cases.{lt_or_ge}
 use Rattle.masks.proofs.Words.{masks_at, masks_set}
 use Rattle.faces.specs.declared.first.Firsts.{Firsts}
 use Rattle.choosing.specs.Rows.{MaskRow, Next, Steps, behind, choices_at, choices_from, first_at, first_from}
-use Rattle.choosing.proofs.Stepping.{Carried, Fresh, carried-at, carried-more, carried_none, fresh-more, fresh-none}
-use Rattle.choosing.proofs.RowSteps.{choices-absent, choices-there, empty_last, first_absent, first_at_lem, first_row, first_there, mem-row, row-mem}
-use Rattle.choosing.proofs.RowSteps.{row-length, steps_on, steps_past}
+use Rattle.choosing.proofs.Stepping.{Carried, Fresh, carried_at, carried_more, carried_none, fresh_more, fresh_none}
+use Rattle.choosing.proofs.RowSteps.{choices_absent, choices_there, empty_last, first_absent, first_at_lem, first_row, first_there, mem_row, row_mem}
+use Rattle.choosing.proofs.RowSteps.{row_length, steps_on, steps_past}
 use Rattle.rows.specs.Rows.{Faced, StepsAt, StepsFrom, begun, begun_from, choices_of, rows_of}
 
 pub above_zero : (m : ℕ) → eqb m 0 ≡ false → 0 < m
@@ -38,17 +38,17 @@ module _ (count : ℕ) (first : List NodeSet) (row : List NodeSet) where
   abbrev again : ℕ → MaskRow
   again j = begun count (masks_in first) j (masks_in row)
 
-  pub again-none : (j : ℕ) → count ≤ j → masks_in row ≡ again j
+  pub again_none : (j : ℕ) → count ≤ j → masks_in row ≡ again j
   unfolding begun_from
-  again-none j h =
+  again_none j h =
       let z : 0 ≡ count - j = omega arith in
       subst (λ (d : ℕ). masks_in row ≡ begun_from (masks_in first) (masks_in row) j d) z refl
 
-  pub again-more : (j : ℕ) (next : List NodeSet) (s : NodeSet) → j < count → masks_in next ≡ again (suc j)
+  pub again_more : (j : ℕ) (next : List NodeSet) (s : NodeSet) → j < count → masks_in next ≡ again (suc j)
       → mask s ≡ get_or (masks_in first) j 0
       → masks_in (set next j s) ≡ again j
   unfolding begun_from
-  again-more j next s h e q =
+  again_more j next s h e q =
       let d : suc (count - suc j) ≡ count - j = omega arith in
       masks_set next j s
       ∙ subst (λ (n : ℕ). set (masks_in next) j (mask s) ≡ begun_from (masks_in first) (masks_in row) j n) d
@@ -68,14 +68,14 @@ nothing = record { w0 = 0; w1 = 0; w2 = 0; w3 = 0 }
 module _ (es ns : List ℕ) (firsts : Firsts) where
   -- ---- one function
 
-  pub there-choice : (k m : ℕ) → k < firsts.count → (m ∈ choices_from ns es (table.at firsts.nodes k)) ↔ (m ∈ choices_of es ns firsts k)
-  there-choice k m h =
-      let e = choices-there ns es firsts.nodes firsts.count k h in
+  pub there_choice : (k m : ℕ) → k < firsts.count → (m ∈ choices_from ns es (table.at firsts.nodes k)) ↔ (m ∈ choices_of es ns firsts k)
+  there_choice k m h =
+      let e = choices_there ns es firsts.nodes firsts.count k h in
       (subst (λ (cs : List ℕ). m ∈ cs) (sym e), subst (λ (cs : List ℕ). m ∈ cs) e)
 
-  pub absent-choice : (k m : ℕ) → firsts.count ≤ k → (eqb m 0 ≡ true) ↔ (m ∈ choices_of es ns firsts k)
-  absent-choice k m h =
-      let e = choices-absent ns es firsts.nodes firsts.count k h in (
+  pub absent_choice : (k m : ℕ) → firsts.count ≤ k → (eqb m 0 ≡ true) ↔ (m ∈ choices_of es ns firsts k)
+  absent_choice k m h =
+      let e = choices_absent ns es firsts.nodes firsts.count k h in (
         λ q. subst (λ (cs : List ℕ). m ∈ cs) (sym e) (Memᴰ.head (eqb-true m 0 q)),
         λ i. ⊎_elim (λ (q : m ≡ 0). eq-eqb m 0 q) (λ (q : m ∈ []). absurd (Memᴰ.not-nil q))
             (Memᴰ.cases_cons (subst (λ (cs : List ℕ). m ∈ cs) e i)),
@@ -84,34 +84,34 @@ module _ (es ns : List ℕ) (firsts : Firsts) where
   -- A function that has a choice with a node is there
   pub there : (k m : ℕ) → m ∈ choices_of es ns firsts k → 0 < m → k < firsts.count
   there k m i h =
-      ⊎_elim (λ l. l) (λ g. absurd (let e = eqb-true m 0 ((absent-choice k m g).1 i) in omega arith)) (lt_or_ge k firsts.count)
+      ⊎_elim (λ l. l) (λ g. absurd (let e = eqb-true m 0 ((absent_choice k m g).1 i) in omega arith)) (lt_or_ge k firsts.count)
 
   pub first_here : (k m : ℕ) → k < firsts.count → m ≡ first_from ns es (table.at firsts.nodes k)
       → m ≡ first_at ns es firsts.nodes firsts.count k
   first_here k m h e = e ∙ sym (first_there ns es firsts.nodes firsts.count k h)
 
-  pub first-none : (k m : ℕ) → firsts.count ≤ k → m ≡ 0 → m ≡ first_at ns es firsts.nodes firsts.count k
-  first-none k m h e = e ∙ sym (first_absent ns es firsts.nodes firsts.count k h)
+  pub first_none : (k m : ℕ) → firsts.count ≤ k → m ≡ 0 → m ≡ first_at ns es firsts.nodes firsts.count k
+  first_none k m h e = e ∙ sym (first_absent ns es firsts.nodes firsts.count k h)
 
   pub next_here : (k m x : ℕ) → k < firsts.count → Next (choices_from ns es (table.at firsts.nodes k)) m x → Next (choices_of es ns firsts k) m x
-  next_here k m x h = subst (λ (cs : List ℕ). Next cs m x) (sym (choices-there ns es firsts.nodes firsts.count k h))
+  next_here k m x h = subst (λ (cs : List ℕ). Next cs m x) (sym (choices_there ns es firsts.nodes firsts.count k h))
 
   -- ---- a row
 
-  pub row-choice : (row : List NodeSet) → masks_in row ∈ rows_of es ns firsts → (k : ℕ) → k < max_functions
+  pub row_choice : (row : List NodeSet) → masks_in row ∈ rows_of es ns firsts → (k : ℕ) → k < max_functions
       → get_or (masks_in row) k 0 ∈ choices_of es ns firsts k
   unfolding rows_of
-  row-choice row m k h = row-mem ns es firsts.nodes firsts.count (masks_in row) m k h
+  row_choice row m k h = row_mem ns es firsts.nodes firsts.count (masks_in row) m k h
 
   row_long : (row : List NodeSet) → masks_in row ∈ rows_of es ns firsts → length (masks_in row) ≡ max_functions
   unfolding rows_of
-  row_long row m = row-length ns es firsts.nodes firsts.count (masks_in row) m
+  row_long row m = row_length ns es firsts.nodes firsts.count (masks_in row) m
 
-  pub choice-row : (row : List NodeSet) → length row ≡ max_functions
+  pub choice_row : (row : List NodeSet) → length row ≡ max_functions
       → ((k : ℕ) → k < max_functions → get_or (masks_in row) k 0 ∈ choices_of es ns firsts k)
       → masks_in row ∈ rows_of es ns firsts
   unfolding rows_of
-  choice-row row l c = mem-row ns es firsts.nodes firsts.count (masks_in row) (length-map row mask ∙ l) c
+  choice_row row l c = mem_row ns es firsts.nodes firsts.count (masks_in row) (length-map row mask ∙ l) c
 
   -- ---- the first row, and the next
 
@@ -128,13 +128,13 @@ module _ (es ns : List ℕ) (firsts : Firsts) where
   Passing row k =
       (f : MaskRow) → place_of (rows_of es ns firsts) ≡ at f → Carrying (masks_in row) (begun firsts.count f k (masks_in row)) k
 
-  pub freshly-none : (row : List NodeSet) → length row ≡ max_functions → Freshly row max_functions
-  freshly-none row l = fresh-none first max_functions (masks_in row) (length-map row mask ∙ l)
+  pub freshly_none : (row : List NodeSet) → length row ≡ max_functions → Freshly row max_functions
+  freshly_none row l = fresh_none first max_functions (masks_in row) (length-map row mask ∙ l)
 
-  pub freshly-more : (row : List NodeSet) (j : ℕ) (s : NodeSet) → j < max_functions → Freshly row (suc j) → mask s ≡ first j → Freshly (set row j s) j
-  freshly-more row j s h w e =
+  pub freshly_more : (row : List NodeSet) (j : ℕ) (s : NodeSet) → j < max_functions → Freshly row (suc j) → mask s ≡ first j → Freshly (set row j s) j
+  freshly_more row j s h w e =
       subst (λ (r : List ℕ). Fresh first max_functions r j) (sym (masks_set row j s ∙ ap (set (masks_in row) j) e))
-      (fresh-more first max_functions (masks_in row) j h w)
+      (fresh_more first max_functions (masks_in row) j h w)
 
   module _ (f : Faced es ns firsts) where
     pub first_of_rows : (row : List NodeSet) → Freshly row 0 → place_of (rows_of es ns firsts) ≡ at (masks_in row)
@@ -159,7 +159,7 @@ module _ (es ns : List ℕ) (firsts : Firsts) where
       carrying_there = go (max_functions - firsts.count) firsts.count (omega (arith, f.faces.few)) (omega arith)
         where
           only : (j : ℕ) → firsts.count ≤ j → j < max_functions → get_or old j 0 ≡ 0
-          only j h g = eqb-true (get_or old j 0) 0 ((absent-choice j (get_or old j 0) h).1 (row-choice row m j g))
+          only j h g = eqb-true (get_or old j 0) 0 ((absent_choice j (get_or old j 0) h).1 (row_choice row m j g))
 
           go : (d j : ℕ) → j + d ≡ max_functions → firsts.count ≤ j → Carrying old old j
           go zero j e h =
@@ -172,7 +172,7 @@ module _ (es ns : List ℕ) (firsts : Firsts) where
               let same : set old j (first j) ≡ old =
               ap (set old j) (first_absent ns es firsts.nodes firsts.count j h ∙ sym z) ∙ set-get_or old j 0 in
               subst (λ (r : MaskRow). Carrying old r j) same
-              (carried-more (choices_at ns es firsts.nodes firsts.count) first max_functions old old j g
+              (carried_more (choices_at ns es firsts.nodes firsts.count) first max_functions old old j g
               (go d (suc j) (omega arith) (omega arith)) (last_choice j (get_or old j 0) z))
 
       passing_there : Passing row firsts.count
@@ -189,7 +189,7 @@ module _ (es ns : List ℕ) (firsts : Firsts) where
       still : (g : MaskRow) (e : place_of (rows_of es ns firsts) ≡ at g)
           → get_or (masks_in row) j 0 ≡ get_or (begun firsts.count g (suc j) (masks_in row)) j 0
       still g e =
-          carried-at (choices_at ns es firsts.nodes firsts.count) first max_functions (masks_in row)
+          carried_at (choices_at ns es firsts.nodes firsts.count) first max_functions (masks_in row)
           (begun firsts.count g (suc j) (masks_in row)) j few (w g e)
 
       -- Its last choice: it begins again
@@ -200,7 +200,7 @@ module _ (es ns : List ℕ) (firsts : Firsts) where
           let next = begun firsts.count g (suc j) (masks_in row) in
           subst (λ (n : ℕ). Carrying (masks_in row) (begun_from g (masks_in row) j n) j) d
           (subst (λ (x : ℕ). Carrying (masks_in row) (set next j x) j) (sym (first_set g e j few))
-          (carried-more (choices_at ns es firsts.nodes firsts.count) first max_functions (masks_in row) next j few (w g e)
+          (carried_more (choices_at ns es firsts.nodes firsts.count) first max_functions (masks_in row) next j few (w g e)
           (last_choice j (get_or next j 0) (sym (still g e) ∙ z))))
 
       -- Another choice: that is the next row, as it is written into an array in which the later functions have begun again
@@ -237,11 +237,11 @@ module _ (es ns : List ℕ) (firsts : Firsts) where
       last_moves h =
           let j : ℕ = firsts.count - 1 in
           let here : 0 < get_or (masks_in row) j 0 = subst (λ (x : ℕ). 0 < x) (masks_at row j) h in
-          let some = there j (get_or (masks_in row) j 0) (row-choice row m j (omega (arith, f.faces.few))) here in
+          let some = there j (get_or (masks_in row) j 0) (row_choice row m j (omega (arith, f.faces.few))) here in
           record {
             steps = record { few = omega arith; moves = λ q. here; passed = λ i l q. absurd (omega arith) };
             some = omega arith;
-            again = again-none firsts.count first row firsts.count (omega arith);
+            again = again_none firsts.count first row firsts.count (omega arith);
           }
 
       module _ (next : List NodeSet) (k : ℕ) (w : Moving firsts.count first row next k) where
@@ -268,7 +268,7 @@ module _ (es ns : List ℕ) (firsts : Firsts) where
         moving_choice =
             let same = sym (same_set (k - 1) pred) in (
               subst (λ (x : ℕ). x ∈ choices_of es ns firsts (k - 1)) same
-                  (row-choice row m (k - 1) (omega (arith, w.steps.few, w.some, f.faces.few))),
+                  (row_choice row m (k - 1) (omega (arith, w.steps.few, w.some, f.faces.few))),
               subst (λ (x : ℕ). 0 < x) same (w.steps.moves w.some),
             )
 

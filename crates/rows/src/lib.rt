@@ -1,5 +1,7 @@
 // The rows of a problem: one choice for each function, by walks through their faces. What rows are and in what order they come is defined in
 // crate `choosing`, where it is proved that they are the problem's.
+#![tactic(auto)]
+
 ghost use Rattle.std.specs.Prelude.{◌≡◌, ◌↔◌, true, ◌-◌, ◌<◌, ◌≤◌};
 ghost use Rattle.meaning.specs.Limits.{max_functions};
 ghost use Rattle.meaning.specs.Basics.{◌∈◌};

@@ -1,4 +1,6 @@
 // What a text says of each metavariable, as the checker holds it: the one field that the text has for it, if there is one.
+#![tactic(auto)]
+
 ghost use Rattle.std.specs.Prelude.{[]};
 ghost use Rattle.said.specs.Said.{SaidBy};
 

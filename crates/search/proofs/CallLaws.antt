@@ -27,7 +27,7 @@ use Rattle.meaning.proofs.Lists.{is_some_lem, mem_split, never}
 use Rattle.meaning.proofs.Solutions.{solves_is_right}
 use Rattle.masks.specs.Sets.{masks_in}
 use Rattle.masks.specs.declared.NodeSet.{NodeSet}
-use Rattle.metavariables.proofs.SurveyMeaning.{kept-functions}
+use Rattle.metavariables.proofs.SurveyMeaning.{kept_functions}
 use Rattle.faces.specs.declared.first.Firsts.{Firsts}
 use Rattle.choosing.specs.Rows.{MaskRow}
 use Rattle.rows.specs.Rows.{rows_of}
@@ -35,12 +35,12 @@ use Rattle.accept.specs.declared.Standing.{Standing}
 use Rattle.accept.specs.declared.Verdict.TheVariants as verdicts
 use Rattle.prepare.specs.Prepared.{Prepares, Ready}
 use Rattle.prepare.specs.declared.Prepared.{Prepared}
-use Rattle.prepare.proofs.PreparedLaws.{nodes_mean, ready-nodes, ready-tells, ready-faced, ready-rows, prepared_refused, prepared_accepted}
+use Rattle.prepare.proofs.PreparedLaws.{nodes_mean, ready_nodes, ready_tells, ready_faced, ready_rows, prepared_refused, prepared_accepted}
 use Rattle.places.specs.Places.{value_of, IsRowOf, AtPast, Openable, Tells}
 use Rattle.places.specs.declared.Named.{Named}
 use Rattle.places.specs.declared.Named.TheVariants as named
 use Rattle.places.specs.declared.Place as code
-use Rattle.places.proofs.Naming.{row_value_lem, past_value_lem, same_value, row_named, past-named, nothing-named}
+use Rattle.places.proofs.Naming.{row_value_lem, past_value_lem, same_value, row_named, past_named, nothing_named}
 use Rattle.numbers.specs.Tests.{Tests, told}
 use Rattle.fit.specs.Laid as fit
 use Rattle.fit.specs.Judging.{judged_at}
@@ -153,35 +153,35 @@ module _ (s : Bytes) (ps es ns fs : List ℕ) (a : Standing) (firsts : Firsts) (
   fs' = take a.faces fs
 
   -- What `judge` is told
-  pub ready-laid : a.rows ≡ true → fit.Laid p (told ns') ps' es' fs' a.occurring.functions firsts
-  ready-laid e =
+  pub ready_laid : a.rows ≡ true → fit.Laid p (told ns') ps' es' fs' a.occurring.functions firsts
+  ready_laid e =
       let laid = ready.laid in
       let (xs, shapes) = is_some_lem (faces p) (sym laid.has_rows ∙ e) in
-      let nodes = ready-nodes (accept s) ps es ns fs a firsts ready e in
+      let nodes = ready_nodes (accept s) ps es ns fs a firsts ready e in
       record {
         accepted = laid.accepted;
         patterns = laid.patterns;
         expressions = laid.expressions;
-        tells = ready-tells (accept s) ps es ns fs a firsts ready;
+        tells = ready_tells (accept s) ps es ns fs a firsts ready;
         found = xs;
         agree = shapes;
         recorded = laid.recorded xs shapes;
-        set = kept-functions p laid.accepted.within a.occurring laid.survey;
+        set = kept_functions p laid.accepted.within a.occurring laid.survey;
         fits = nodes.fits;
         nodes = nodes_mean p ps es fs a laid firsts xs shapes nodes;
       }
 
   -- What `seek` requires
-  pub ready-seekable : (fixed : Fixed) (v : code.Place) (scratch : List ℕ) → fixed.functions ≡ a.occurring.functions
+  pub ready_seekable : (fixed : Fixed) (v : code.Place) (scratch : List ℕ) → fixed.functions ≡ a.occurring.functions
       → fixed.firsts ≡ firsts → place_of (all_rows es' ns' fixed) ≡ at (masks_in fixed.first) → RowThere es ns a firsts v
       → length ps ≤ length scratch → Seekable ps' es' ns' fs' fixed (masks_in v.sets) scratch
-  ready-seekable fixed v scratch f g first h room =
+  ready_seekable fixed v scratch f g first h room =
       record {
         grounded = record {
           problem = p;
-          laid = rw (f, g) (ready-laid h.some_rows);
-          faced = rw g (ready-faced (accept s) ps es ns fs a firsts ready h.some_rows);
-          listed = rw g (ready-rows (accept s) ps es ns fs a firsts ready h.some_rows);
+          laid = rw (f, g) (ready_laid h.some_rows);
+          faced = rw g (ready_faced (accept s) ps es ns fs a firsts ready h.some_rows);
+          listed = rw g (ready_rows (accept s) ps es ns fs a firsts ready h.some_rows);
           first = first;
           room = omega (arith, length-take-le a.patterns ps ready.laid.patterns_inside, ready.laid.patterns_inside);
         };
@@ -194,14 +194,14 @@ module _ (s : Bytes) (ps es ns fs : List ℕ) (a : Standing) (firsts : Firsts) (
     answers_nowhere f g h =
         refuses_answers s place n 16 r h
         (on_accepted p ready.answer (no_such_place above
-        (nothing-named p es' ns' firsts a.rows ready.laid.has_rows
-        (ready-rows (accept s) ps es ns fs a firsts ready) place f g)))
+        (nothing_named p es' ns' firsts a.rows ready.laid.has_rows
+        (ready_rows (accept s) ps es ns fs a firsts ready) place f g)))
 
     -- Past the last there is nothing to find
     pub answers_past : AtPast place → Ended r → Answers s place n r
     answers_past h d =
-        let named = past-named p es' ns' firsts a.rows ready.laid.has_rows
-        (ready-rows (accept s) ps es ns fs a firsts ready) in
+        let named = past_named p es' ns' firsts a.rows ready.laid.has_rows
+        (ready_rows (accept s) ps es ns fs a firsts ready) in
         let w : value_of r.place ≡ place_value past = (named r.place d.place).is_value in
         let e : host_reply r ≡ reply_value (end past) =
         ap (λ (x : Answer). reply_with x (masks_in r.row) (value_of r.place)) d.answer ∙ ap {B = HostReply} end w in
@@ -234,14 +234,14 @@ module _ (s : Bytes) (ps es ns fs : List ℕ) (a : Standing) (firsts : Firsts) (
         }
       where
         listing : a.rows ≡ true → rows_of es' ns' firsts ≡ map masks_of (rows p)
-        listing = ready-rows (accept s) ps es ns fs a firsts ready
+        listing = ready_rows (accept s) ps es ns fs a firsts ready
 
         alike : RowThere es ns a firsts place → (d : Sought ps es ns fs a firsts (masks_in place.sets) n r) → (before later : List Row) (r₀ : Row)
             → rows p ≡ before ++ (r₀ ∷ later) → (x : Row) → x ∈ r₀ ∷ later
             → Judged ps' es' ns' fs' d.fixed (masks_of x) ↔ SolutionRow p x
         alike h d before later r₀ split x i =
             rw (d.functions, d.first_nodes)
-            (judged_solves p (told ns') ps' es' fs' a.occurring.functions firsts (ready-laid h.some_rows) x
+            (judged_solves p (told ns') ps' es' fs' a.occurring.functions firsts (ready_laid h.some_rows) x
             (subst (λ (l : List Row). x ∈ l) (sym split) (Memᴰ.append_right before i)))
 
 abbrev pub TellsThere : List ℕ → List ℕ → Standing → Firsts → code.Place → Named → Type 0
@@ -249,13 +249,13 @@ TellsThere es ns a firsts place x = Tells place a.rows (take a.expressions es) (
 
 -- The answers of `from_place`
 module _ (ps es ns fs : List ℕ) (a : Standing) (firsts : Firsts) (place : code.Place) (n : ℕ) (r : Searched) where
-  pub placed-zero : n ≡ 0 → Refuses 15 place r → Placed ps es ns fs a firsts place n r
+  pub placed_zero : n ≡ 0 → Refuses 15 place r → Placed ps es ns fs a firsts place n r
   unfolding Placed
-  placed-zero e h s ready = refuses_answers s place n 15 r h (on_accepted ready.problem ready.answer (no_allowance e))
+  placed_zero e h s ready = refuses_answers s place n 15 r h (on_accepted ready.problem ready.answer (no_allowance e))
 
-  pub placed-nowhere : (n ≡ 0 → ⊥) → TellsThere es ns a firsts place named.Nothing → Refuses 16 place r → Placed ps es ns fs a firsts place n r
+  pub placed_nowhere : (n ≡ 0 → ⊥) → TellsThere es ns a firsts place named.Nothing → Refuses 16 place r → Placed ps es ns fs a firsts place n r
   unfolding Placed Tells
-  placed-nowhere e t h s ready = answers_nowhere s ps es ns fs a firsts ready place n (positive n e) r t.0 t.1 h
+  placed_nowhere e t h s ready = answers_nowhere s ps es ns fs a firsts ready place n (positive n e) r t.0 t.1 h
 
   pub placed_past : (n ≡ 0 → ⊥) → TellsThere es ns a firsts place named.Past → Ended r → Placed ps es ns fs a firsts place n r
   unfolding Placed Tells
@@ -291,13 +291,13 @@ search_accepted s ps es ns fs place n p a r h e q = q s (prepared_accepted (acce
 
 -- What the calls of `from_place` and `from_row` require
 module _ (ps es ns fs : List ℕ) (a : Standing) (firsts : Firsts) (scratch : List ℕ) (h : Callable ps es ns fs a firsts scratch) where
-  pub callable-open : Openable a.rows (take a.expressions es) (take a.expressions ns) firsts
-  callable-open = ready-faced (accept h.bytes) ps es ns fs a firsts h.ready
+  pub callable_open : Openable a.rows (take a.expressions es) (take a.expressions ns) firsts
+  callable_open = ready_faced (accept h.bytes) ps es ns fs a firsts h.ready
 
-  pub callable-seekable : (place : code.Place) → RowThere es ns a firsts place → (first : List NodeSet)
+  pub callable_seekable : (place : code.Place) → RowThere es ns a firsts place → (first : List NodeSet)
       → place_of (rows_of (take a.expressions es) (take a.expressions ns) firsts) ≡ at (masks_in first)
       → Seekable (take a.patterns ps) (take a.expressions es) (take a.expressions ns) (take a.faces fs)
       (record { functions = a.occurring.functions; firsts = firsts; first = first }) (masks_in place.sets) scratch
-  callable-seekable place row first e =
-      ready-seekable h.bytes ps es ns fs a firsts h.ready
+  callable_seekable place row first e =
+      ready_seekable h.bytes ps es ns fs a firsts h.ready
       (record { functions = a.occurring.functions; firsts = firsts; first = first }) place scratch refl refl e row h.room

@@ -26,15 +26,15 @@ module _ {A B : Type 0} (f : A → B) where
   place_map (x ∷ xs) = refl
 
   -- A split of mapped rows is one of the rows
-  split-map : (xs : List A) (us : List B) (y : B) (vs : List B) → map f xs ≡ us ++ (y ∷ vs)
+  split_map : (xs : List A) (us : List B) (y : B) (vs : List B) → map f xs ≡ us ++ (y ∷ vs)
       → (front : List A) × (a : A) × (rest : List A) × (xs ≡ front ++ (a ∷ rest)) × (us ≡ map f front) × (y ≡ f a) × (vs ≡ map f rest)
-  split-map [] [] y vs e = never (cc)
-  split-map [] (u ∷ us) y vs e = never (cc)
-  split-map (x ∷ xs) [] y vs e = ([], x, xs, refl, refl, cc, cc)
-  split-map (x ∷ xs) (u ∷ us) y vs e =
+  split_map [] [] y vs e = never (cc)
+  split_map [] (u ∷ us) y vs e = never (cc)
+  split_map (x ∷ xs) [] y vs e = ([], x, xs, refl, refl, cc, cc)
+  split_map (x ∷ xs) (u ∷ us) y vs e =
       let rest : map f xs ≡ us ++ (y ∷ vs) = cc in
       let same : u ≡ f x = cc in
-      let (front, a, rest, p, q, r, t) = split-map xs us y vs rest in
+      let (front, a, rest, p, q, r, t) = split_map xs us y vs rest in
       (x ∷ front, a, rest, ap {B = List A} (λ l. x ∷ l) p, (let z : us ≡ map f front = q in cc), r, t)
 
   module _ (Tested : B → Type 0) (Solves : A → Type 0) where
@@ -53,7 +53,7 @@ module _ {A B : Type 0} (f : A → B) where
     pub keeps_back : {n : ℕ} {ys : List B} {reply : Reply B (Place B)} (xs : List A) → Alike xs → map f xs ≡ ys → Keeps Tested n ys reply
         → Back n xs reply
     keeps_back {n} xs h e (finds skipped r later a t l) =
-        let (front, b, rest, p, q, s, u) = split-map xs skipped r later e in
+        let (front, b, rest, p, q, s, u) = split_map xs skipped r later e in
         let whole : Alike front = λ x m. h x (subst (λ (l : List A). x ∈ l) (sym p) (Memᴰ.append_left (b ∷ rest) m)) in
         let is : Solves b =
         (h b (subst (λ (l : List A). b ∈ l) (sym p) (Memᴰ.append_right front (Memᴰ.head refl)))).0 (subst Tested s t) in
@@ -73,7 +73,7 @@ module _ {A B : Type 0} (f : A → B) where
           same = refl;
         }
     keeps_back {n} xs h e (pauses passed r later a l) =
-        let (front, b, rest, p, q, s, u) = split-map xs passed r later e in
+        let (front, b, rest, p, q, s, u) = split_map xs passed r later e in
         let whole : Alike front = λ x m. h x (subst (λ (l : List A). x ∈ l) (sym p) (Memᴰ.append_left (b ∷ rest) m)) in
         let long : length passed ≡ length front = ap length q ∙ length-map front f in
         record {

@@ -9,7 +9,7 @@ use lib.ListN.{length}
 use Rattle.meaning.specs.Basics.{choose, ◌∈◌}
 use Rattle.meaning.specs.Search.{Place, at, past, place_of, found, end, paused, Keeps, finds, ends, pauses}
 use Rattle.meaning.proofs.Lists.{mem_split, never}
-use Rattle.meaning.proofs.OneCall.{one-before}
+use Rattle.meaning.proofs.OneCall.{one_before}
 use Rattle.masks.specs.Sets.{masks_in}
 use Rattle.masks.specs.declared.NodeSet.{NodeSet}
 use Rattle.choosing.specs.Rows.{MaskRow, Leads, Steps}
@@ -29,16 +29,16 @@ module _ (ps es ns fs : List ℕ) (fixed : Fixed) (row : MaskRow) (scratch : Lis
   ground = h.grounded
 
   -- What `judge` requires
-  pub seekable-ready : fit.Ready ps es ns fs fixed.functions fixed.firsts row scratch
+  pub seekable_ready : fit.Ready ps es ns fs fixed.functions fixed.firsts row scratch
   unfolding rows_of
-  seekable-ready =
+  seekable_ready =
       let (r, m, e) = (row_masks ground.problem ns es fixed.firsts.nodes fixed.firsts.count ground.listed row).0 h.is_row in
       laid_ready ground.problem ps es ns fs fixed.functions fixed.firsts ground.laid ground.faced.numbers row
       (record { choices = r; is_row = m; masks = e }) scratch
       ground.room
 
-  pub seekable-steppable : Steppable es ns fixed row
-  seekable-steppable = record { faced = ground.faced; first = ground.first; is_row = h.is_row }
+  pub seekable_steppable : Steppable es ns fixed row
+  seekable_steppable = record { faced = ground.faced; first = ground.first; is_row = h.is_row }
 
 -- Where a step leads
 abbrev Leading : List ℕ → List ℕ → Fixed → MaskRow → Bool → MaskRow → Type 0
@@ -75,9 +75,9 @@ module _ (ps es ns fs : List ℕ) (fixed : Fixed) (row : MaskRow) where
   no_solution_lem s q = true≢false (sym q ∙ s)
 
   -- A Found
-  pub seeks-found : (n : ℕ) (r : Searched) → 0 < n → judged ps es ns fs fixed row ≡ true → Passed es ns fixed row r
+  pub seeks_found : (n : ℕ) (r : Searched) → 0 < n → judged ps es ns fs fixed row ≡ true → Passed es ns fixed row r
       → Seeks ps es ns fs fixed row n r
-  seeks-found n r l s p = record {
+  seeks_found n r l s p = record {
     keeps = λ before later e.
         let leads = steps_lead es ns fixed row _ _ p.after before later e in
         let reply : mask_reply r.answer (masks_in r.row) r.place ≡ found row (place_of later) =
@@ -87,8 +87,8 @@ module _ (ps es ns fs : List ℕ) (fixed : Fixed) (row : MaskRow) where
   }
 
   -- A pause, where no allowance is left
-  pub seeks-paused : (n : ℕ) (here : List NodeSet) (r : Searched) → n ≡ 0 → masks_in here ≡ row → Paused here r → Seeks ps es ns fs fixed row n r
-  seeks-paused n here r z q d = record {
+  pub seeks_paused : (n : ℕ) (here : List NodeSet) (r : Searched) → n ≡ 0 → masks_in here ≡ row → Paused here r → Seeks ps es ns fs fixed row n r
+  seeks_paused n here r z q d = record {
     keeps = λ before later e.
         let reply : mask_reply r.answer (masks_in r.row) r.place ≡ paused (at row) =
         rw (d.answer, at_place r.place here d.place, q) in
@@ -96,9 +96,9 @@ module _ (ps es ns fs : List ℕ) (fixed : Fixed) (row : MaskRow) where
     clean = λ q. absurd (true≢false (sym q ∙ d.place.here));
   }
 
-  begins-with : (next : MaskRow) (later : List MaskRow) → place_of later ≡ at next → (rest : List MaskRow) × (later ≡ next ∷ rest)
-  begins-with next [] e = never (cc)
-  begins-with next (x ∷ xs) e = (xs, let z : x ≡ next = cc in ap {B = List MaskRow} (λ y. y ∷ xs) z)
+  begins_with : (next : MaskRow) (later : List MaskRow) → place_of later ≡ at next → (rest : List MaskRow) × (later ≡ next ∷ rest)
+  begins_with next [] e = never (cc)
+  begins_with next (x ∷ xs) e = (xs, let z : x ≡ next = cc in ap {B = List MaskRow} (λ y. y ∷ xs) z)
 
   -- No solution row, and a step from it
   module _ (s : judged ps es ns fs fixed row ≡ false) (more : Bool) (next : MaskRow) (steps : StepsFrom es ns fixed.firsts row more next) where
@@ -124,10 +124,10 @@ module _ (ps es ns fs : List ℕ) (fixed : Fixed) (row : MaskRow) where
     pub seeks_on : (n m : ℕ) (r : Searched) → n ≡ suc m → more ≡ true → Seeks ps es ns fs fixed next m r → Seeks ps es ns fs fixed row n r
     seeks_on n m r z g k = record {
       keeps = λ before later e.
-          let (rest, q) = begins-with next later ((leads before later e).goes g) in
+          let (rest, q) = begins_with next later ((leads before later e).goes g) in
           let on : all_rows es ns fixed ≡ (before ++ (row ∷ [])) ++ (next ∷ rest) =
           e ∙ ap (λ (l : List MaskRow). before ++ (row ∷ l)) q ∙ sym (append_assoc before (row ∷ []) (next ∷ rest)) in
-          let kept = one-before Solves row (no_solution_lem s) (k.keeps (before ++ (row ∷ [])) rest on) in
+          let kept = one_before Solves row (no_solution_lem s) (k.keeps (before ++ (row ∷ [])) rest on) in
           rw (z, q) kept;
       clean = k.clean;
     }
@@ -136,7 +136,7 @@ module _ (ps es ns fs : List ℕ) (fixed : Fixed) (row : MaskRow) where
     next_member : more ≡ true → row ∈ all_rows es ns fixed → next ∈ all_rows es ns fixed
     next_member g m =
         let (before, later, e) = mem_split row (all_rows es ns fixed) m in
-        let (rest, q) = begins-with next later ((leads before later e).goes g) in
+        let (rest, q) = begins_with next later ((leads before later e).goes g) in
         subst (λ (l : List MaskRow). next ∈ l) (sym (e ∙ ap (λ (l : List MaskRow). before ++ (row ∷ l)) q))
         (Memᴰ.append_right before (Memᴰ.tail (Memᴰ.head refl)))
 
@@ -169,9 +169,9 @@ module _ (es ns : List ℕ) (fixed : Fixed) (row : MaskRow) (more : Bool) (next 
     clean = λ q. absurd (true≢false (sym q ∙ place.here));
   }
 
-  pub passed-last : more ≡ false → AtPast r.place → Passed es ns fixed row r
+  pub passed_last : more ≡ false → AtPast r.place → Passed es ns fixed row r
   unfolding StepsFrom Steps
-  passed-last m place = record {
+  passed_last m place = record {
     answer = answer;
     here = here;
     after = λ before later e. record {

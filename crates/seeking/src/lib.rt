@@ -1,4 +1,6 @@
 // Judging rows one after the other, from a row of a prepared problem on. What happens here once a row is small and allocates nothing.
+#![tactic(auto)]
+
 ghost use Rattle.std.specs.Prelude.{◌<◌};
 ghost use Rattle.masks.specs.Sets.{masks_in};
 ghost use Rattle.seeking.specs.Seeking.{Steppable, Passed, Ended, Paused, Seekable, Seeks};

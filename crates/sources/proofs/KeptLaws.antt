@@ -63,10 +63,10 @@ answers_none q kept = record { ok = refl; nodes = λ ns e. cc }
 
 -- The demand of a recorded face, by the parts of its slot's token
 module _ (ps ns kept : List ℕ) (n tag : ℕ) (is : tag ≡ tag_in (at ps (pattern_node n))) where
-  pub face-none : (tag ≡ 5 → ⊥)
+  pub face_none : (tag ≡ 5 → ⊥)
       → Answers (kept_after (told ns) kept (demand_at ps n)) (record { ok = true; sources = record { nodes = kept } })
   unfolding demand_at
-  face-none h = rw (← is, ne_eqb tag 5 h) (answers_none (told ns) kept)
+  face_none h = rw (← is, ne_eqb tag 5 h) (answers_none (told ns) kept)
 
   module _ (h : tag ≡ 5) (m : ℕ) (load : m ≡ payload_in (at ps (pattern_node n))) where
     face_demand : demand_at ps n ≡ (m, expression_node n) ∷ []
@@ -95,8 +95,8 @@ kept_append q kept (d ∷ ds) ds' = go (agrees_at q kept d) (kept_append q (kept
 
 -- The nodes kept stay nodes of the table
 module _ (ns kept : List ℕ) (d : Demand) (k : Kept ns kept) (a : Askable ns d) where
-  set-kept : Kept ns (set kept d.0 d.1)
-  set-kept =
+  set_kept : Kept ns (set kept d.0 d.1)
+  set_kept =
       record {
         long = length-set kept d.0 d.1 ∙ k.long;
         inside = λ m h o.
@@ -112,12 +112,12 @@ module _ (ns kept : List ℕ) (d : Demand) (k : Kept ns kept) (a : Askable ns d)
       other : (m : ℕ) → (m ≡ d.0 → ⊥) → at (set kept d.0 d.1) m ≡ at kept m
       other m e = get_or-set_other kept d.0 m d.1 0 e
 
-  kept-with : Kept ns (kept_with kept d)
+  kept_with_lem : Kept ns (kept_with kept d)
   unfolding kept_with
-  kept-with = go (eqb (at kept d.0) open_node)
+  kept_with_lem = go (eqb (at kept d.0) open_node)
     where
       go : (b : Bool) → Kept ns (choose b (set kept d.0 d.1) kept)
-      go true = set-kept
+      go true = set_kept
       go false = k
 
 pub kept_stays : (q : Tests) (ns kept : List ℕ) (ds : List Demand) (kept' : List ℕ) → Kept ns kept → All (Askable ns) ds
@@ -125,7 +125,7 @@ pub kept_stays : (q : Tests) (ns kept : List ℕ) (ds : List Demand) (kept' : Li
 unfolding kept_after
 kept_stays q ns kept [] kept' k a e = subst (Kept ns) (let i : kept ≡ kept' = cc in i) k
 kept_stays q ns kept (d ∷ ds) kept' k a e =
-    go (agrees_at q kept d) (kept_stays q ns (kept_with kept d) ds kept' (kept-with ns kept d k a.0) a.1) e
+    go (agrees_at q kept d) (kept_stays q ns (kept_with kept d) ds kept' (kept_with_lem ns kept d k a.0) a.1) e
   where
     go : (b : Bool) → (kept_after q (kept_with kept d) ds ≡ some kept' → Kept ns kept')
         → guard b (kept_after q (kept_with kept d) ds) ≡ some kept' → Kept ns kept'
@@ -134,15 +134,15 @@ kept_stays q ns kept (d ∷ ds) kept' k a e =
 
 -- What an answer says
 module _ (o : Option (List ℕ)) (r : Agreed) (a : Answers o r) where
-  pub answer-some : r.ok ≡ true → o ≡ some r.sources.nodes
-  answer-some e = go o refl (sym a.ok ∙ e)
+  pub answer_some : r.ok ≡ true → o ≡ some r.sources.nodes
+  answer_some e = go o refl (sym a.ok ∙ e)
     where
       go : (w : Option (List ℕ)) → o ≡ w → is_some w ≡ true → o ≡ some r.sources.nodes
       go none q t = never (cc)
       go (some ns) q t = q ∙ ap some (sym (a.nodes ns q))
 
-  pub answer-none : r.ok ≡ false → o ≡ none
-  answer-none e = go o refl (sym a.ok ∙ e)
+  pub answer_none : r.ok ≡ false → o ≡ none
+  answer_none e = go o refl (sym a.ok ∙ e)
     where
       go : (w : Option (List ℕ)) → o ≡ w → is_some w ≡ false → o ≡ none
       go none q t = q
@@ -174,7 +174,7 @@ module _ (ps ns faces : List ℕ) (end : Option (List ℕ)) (k : ℕ) (kept : Li
     module _ (r : Agreed) (a : Answers (kept_after (told ns) kept (demand_at ps (at faces k))) r) where
       pub going_on : not r.ok ≡ false → Going ps ns faces end (k + 1) r.sources.nodes
       going_on e =
-          let q = answer-some (kept_after (told ns) kept (demand_at ps (at faces k))) r a (sym (not-not r.ok) ∙ ap not e) in
+          let q = answer_some (kept_after (told ns) kept (demand_at ps (at faces k))) r a (sym (not-not r.ok) ∙ ap not e) in
           let z : k + 1 ≡ suc k = omega arith in
           rw z
           (record {
@@ -187,13 +187,13 @@ module _ (ps ns faces : List ℕ) (end : Option (List ℕ)) (k : ℕ) (kept : Li
       pub going_fails : not r.ok ≡ true → Answers end r
       going_fails t =
           let e : r.ok ≡ false = sym (not-not r.ok) ∙ ap not t in
-          let q = answer-none (kept_after (told ns) kept (demand_at ps (at faces k))) r a e in
+          let q = answer_none (kept_after (told ns) kept (demand_at ps (at faces k))) r a e in
           let w : none ≡ end =
           sym (ap (λ (o : Option (List ℕ)). and_then o (λ ms. kept_after (told ns) ms (demands_in ps (drop (suc k) faces)))) q) ∙ goes in
           subst (λ (o : Option (List ℕ)). Answers o r) w (record { ok = e; nodes = λ ms f. never (cc) })
 
-  pub going-ends : length faces ≤ k → Answers end (record { ok = true; sources = record { nodes = kept } })
-  going-ends h =
+  pub going_ends : length faces ≤ k → Answers end (record { ok = true; sources = record { nodes = kept } })
+  going_ends h =
       subst (λ (o : Option (List ℕ)). Answers o (record { ok = true; sources = record { nodes = kept } }))
       (sym (ap (λ (ms : List ℕ). kept_after (told ns) kept (demands_in ps ms)) (drop_of_length-le faces h)) ∙ g.leads)
       (answers_none (told ns) kept)

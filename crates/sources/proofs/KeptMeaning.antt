@@ -36,20 +36,20 @@ use Rattle.demands.specs.Agreeing.{agrees_with, agree_after}
 use Rattle.demands.proofs.Agreement.{lookup_append, lookup_earlier, lookup_later, lookup_own, lookup_only}
 use Rattle.masks.proofs.Cases.{same_truth}
 use Rattle.tokens.specs.Key.{at, level_from, same_at, uses_at, closed_at}
-use Rattle.tokens.proofs.KeyLaws.{closed-means, same_means}
+use Rattle.tokens.proofs.KeyLaws.{closed_means, same_means}
 use Rattle.numbers.specs.Tests.{Tests, closed_by, Tells}
-use Rattle.faces.proofs.NodeTokens.{AtNode, node-inside}
+use Rattle.faces.proofs.NodeTokens.{AtNode, node_inside}
 use Rattle.sources.specs.Demand.{Demand, open_node, agrees_at, kept_with, kept_after}
 
 -- The tests on a table, of the terms at its nodes
 module _ (table : List ℕ) (a : ℕ) (t : Term) (n : AtNode table a t) where
   node_closed : (closed_at table a ≡ true) ↔ ClosedTerm t
   node_closed =
-      let m = closed-means n.levels n.context table a n.scope n.named n.held n.stands in
+      let m = closed_means n.levels n.context table a n.scope n.named n.held n.stands in
       (λ e. subst ClosedTerm (sym n.term) (m.0 e), λ c. m.1 (subst ClosedTerm n.term c))
 
-  node-same : (b : ℕ) (u : Term) → AtNode table b u → ClosedTerm t → (same_at table a b ≡ true) ↔ (t ≡ u)
-  node-same b u o c =
+  node_same : (b : ℕ) (u : Term) → AtNode table b u → ClosedTerm t → (same_at table a b ≡ true) ↔ (t ≡ u)
+  node_same b u o c =
       let closed : ClosedTerm (nameless_term n.scope n.named) = subst ClosedTerm n.term c in
       let m =
       same_means n.levels o.levels n.context o.context table a b n.scope o.scope n.named o.named n.held o.held
@@ -63,11 +63,11 @@ module _ (table : List ℕ) (a : ℕ) (t : Term) (n : AtNode table a t) where
 
 -- A term that is moved under more binders and is closed before or after is not changed
 module _ (more under : ℕ) (t whole : Term) (moved : shift more under (one t) ≡ one whole) where
-  moved-closed : ClosedTerm t → t ≡ whole
-  moved-closed c = one_injective t whole (sym (shift_closed more under (one t) (closed_more 0 under (one t) (omega arith) c)) ∙ moved)
+  moved_closed : ClosedTerm t → t ≡ whole
+  moved_closed c = one_injective t whole (sym (shift_closed more under (one t) (closed_more 0 under (one t) (omega arith) c)) ∙ moved)
 
-  closed-moved : ClosedTerm whole → t ≡ whole
-  closed-moved c =
+  closed_moved : ClosedTerm whole → t ≡ whole
+  closed_moved c =
       let still : shift more under (one whole) ≡ one whole =
       shift_closed more under (one whole) (closed_more 0 under (one whole) (omega arith) c) in
       let e : some (one t) ≡ some (one whole) =
@@ -94,24 +94,24 @@ AllSay es (d ∷ ds) [] = ⊥
 AllSay es (d ∷ ds) (s ∷ ss) = Says es d s × AllSay es ds ss
 
 module _ (es : List ℕ) (d : Demand) (s : Source) (w : Says es d s) where
-  pub said-inside : d.1 < length es
-  said-inside = node-inside es d.1 w.at.whole w.at.stands
+  pub said_inside : d.1 < length es
+  said_inside = node_inside es d.1 w.at.whole w.at.stands
 
   said_closed : (closed_at es d.1 ≡ true) ↔ ClosedTerm s.term
   said_closed =
       let n = node_closed es d.1 w.at.whole w.at.stands in (
-        λ e. subst ClosedTerm (sym (closed-moved w.at.more w.at.under s.term w.at.whole w.at.moved (n.0 e))) (n.0 e),
-        λ c. n.1 (subst ClosedTerm (moved-closed w.at.more w.at.under s.term w.at.whole w.at.moved c) c),
+        λ e. subst ClosedTerm (sym (closed_moved w.at.more w.at.under s.term w.at.whole w.at.moved (n.0 e))) (n.0 e),
+        λ c. n.1 (subst ClosedTerm (moved_closed w.at.more w.at.under s.term w.at.whole w.at.moved c) c),
       )
 
   said_same : (d' : Demand) (s' : Source) → Says es d' s' → ClosedTerm s.term → (same_at es d.1 d'.1 ≡ true) ↔ (s.term ≡ s'.term)
   said_same d' s' w' c =
-      let own : s.term ≡ w.at.whole = moved-closed w.at.more w.at.under s.term w.at.whole w.at.moved c in
+      let own : s.term ≡ w.at.whole = moved_closed w.at.more w.at.under s.term w.at.whole w.at.moved c in
       let closed : ClosedTerm w.at.whole = subst ClosedTerm own c in
-      let n = node-same es d.1 w.at.whole w.at.stands d'.1 w'.at.whole w'.at.stands closed in (
-        λ e. own ∙ n.0 e ∙ sym (closed-moved w'.at.more w'.at.under s'.term w'.at.whole w'.at.moved
+      let n = node_same es d.1 w.at.whole w.at.stands d'.1 w'.at.whole w'.at.stands closed in (
+        λ e. own ∙ n.0 e ∙ sym (closed_moved w'.at.more w'.at.under s'.term w'.at.whole w'.at.moved
             (subst ClosedTerm (n.0 e) closed)),
-        λ e. n.1 (sym own ∙ e ∙ moved-closed w'.at.more w'.at.under s'.term w'.at.whole w'.at.moved
+        λ e. n.1 (sym own ∙ e ∙ moved_closed w'.at.more w'.at.under s'.term w'.at.whole w'.at.moved
             (subst ClosedTerm e c)),
       )
 
@@ -142,30 +142,30 @@ module _ (es : List ℕ) (few : length es ≤ 65536) (kept : List ℕ) (ks : Lis
   here : at kept d.0 ≡ node_of (lookup s.number ks)
   here = ap (at kept) w.number ∙ f.nodes s.number w.small
 
-  open-here : lookup s.number ks ≡ none → eqb (at kept d.0) open_node ≡ true
-  open-here e = eq-eqb (at kept d.0) open_node (here ∙ ap node_of e)
+  open_here : lookup s.number ks ≡ none → eqb (at kept d.0) open_node ≡ true
+  open_here e = eq-eqb (at kept d.0) open_node (here ∙ ap node_of e)
 
   -- A node that is kept is one of the table
   kept_here : (k : Source) → lookup s.number ks ≡ some k → eqb (at kept d.0) open_node ≡ false
   kept_here k e =
-      let small : k.node < length es = said-inside es (s.number, k.node) k (f.said s.number k e).0 in
+      let small : k.node < length es = said_inside es (s.number, k.node) k (f.said s.number k e).0 in
       let q : at kept d.0 ≡ k.node = here ∙ ap node_of e in
       ne_eqb (at kept d.0) open_node (λ o. omega arith)
 
-  test-said : (q : Tests) → Tells es q → (o : Option Source) → lookup s.number ks ≡ o → agrees_at q kept d ≡ agrees_with o s
+  test_said : (q : Tests) → Tells es q → (o : Option Source) → lookup s.number ks ≡ o → agrees_at q kept d ≡ agrees_with o s
   unfolding agrees_at
-  test-said q tells none e =
+  test_said q tells none e =
       let c = said_closed es d s w in
-      choose_true _ _ (open-here e)
-      ∙ told_closed es q tells d.1 (said-inside es d s w)
+      choose_true _ _ (open_here e)
+      ∙ told_closed es q tells d.1 (said_inside es d s w)
       ∙ same_truth (closed_at es d.1) (is_closed 0 (one s.term))
       (λ t. T_true (closed_test 0 (one s.term) (c.0 t))) (λ t. c.1 (test_closed 0 (one s.term) (true_T t)))
-  test-said q tells (some k) e =
+  test_said q tells (some k) e =
       let (v, c) = f.said s.number k e in
       let n = said_same es (s.number, k.node) k v d s w c in
       choose_false _ _ (kept_here k e)
       ∙ ap (λ (j : ℕ). q.same j d.1) (here ∙ ap node_of e)
-      ∙ told_same es q tells k.node d.1 (said-inside es (s.number, k.node) k v) (said-inside es d s w)
+      ∙ told_same es q tells k.node d.1 (said_inside es (s.number, k.node) k v) (said_inside es d s w)
       ((said_closed es (s.number, k.node) k v).1 c)
       ∙ same_truth (same_at es k.node d.1) (same_terms (one k.term) (one s.term))
       (λ t. T_true (subst (λ (u : Term). T (same_terms (one k.term) (one u))) (n.0 t) (same_terms_refl (one k.term))))
@@ -175,23 +175,23 @@ module _ (es : List ℕ) (few : length es ≤ 65536) (kept : List ℕ) (ks : Lis
   abbrev after : List Source
   after = ks ++ (s ∷ [])
 
-  other-same : (m : ℕ) → eqb m s.number ≡ false → lookup m after ≡ lookup m ks
-  other-same m e = lookup_append m ks (s ∷ []) ∙ ap (or_else (lookup m ks)) (choose_false (some s) none e) ∙ or_none_lem (lookup m ks)
+  other_same : (m : ℕ) → eqb m s.number ≡ false → lookup m after ≡ lookup m ks
+  other_same m e = lookup_append m ks (s ∷ []) ∙ ap (or_else (lookup m ks)) (choose_false (some s) none e) ∙ or_none_lem (lookup m ks)
     where
       or_none_lem : (o : Option Source) → or_else o none ≡ o
       or_none_lem none = refl
       or_none_lem (some k) = refl
 
-  said-after : (m : ℕ) (x : Source) → (lookup s.number ks ≡ none → ClosedTerm s.term) → lookup m after ≡ some x
+  said_after : (m : ℕ) (x : Source) → (lookup s.number ks ≡ none → ClosedTerm s.term) → lookup m after ≡ some x
       → (lookup m ks ≡ none) ⊎ ((k : Source) × (lookup m ks ≡ some k)) → Says es (m, x.node) x × ClosedTerm x.term
-  said-after m x c e (inl n) =
+  said_after m x c e (inl n) =
       let (own, number) = lookup_only m s x (sym (lookup_later m ks (s ∷ []) n) ∙ e) in
       subst (λ (y : Source). Says es (m, y.node) y × ClosedTerm y.term) (sym own) (
         subst (λ (z : Demand). Says es z s) (ap₂ {C = Demand} (λ a b. (a, b)) (w.number ∙ sym number) w.node) w,
         c
             (sym (ap (λ (a : ℕ). lookup a ks) number) ∙ n),
       )
-  said-after m x c e (inr (k, l)) =
+  said_after m x c e (inr (k, l)) =
       let q : some k ≡ some x = sym (lookup_earlier m ks (s ∷ []) k l) ∙ e in
       let i : k ≡ x = cc in
       f.said m x (l ∙ ap some i)
@@ -199,11 +199,11 @@ module _ (es : List ℕ) (few : length es ≤ 65536) (kept : List ℕ) (ks : Lis
   firsts_after : (o : Option Source) → lookup s.number ks ≡ o → agrees_with o s ≡ true → Firsts es (kept_with kept d) after
   unfolding kept_with
   firsts_after none e t =
-      subst (λ (l : List ℕ). Firsts es l after) (sym (choose_true _ _ (open-here e)))
+      subst (λ (l : List ℕ). Firsts es l after) (sym (choose_true _ _ (open_here e)))
       (record {
         long = length-set kept d.0 d.1 ∙ f.long;
         nodes = λ m h. by_test (eqb m s.number) (λ q. own m h (eqb_eq m s.number q)) (other m h);
-        said = λ m x q. said-after m x (λ z. test_closed 0 (one s.term) (true_T t)) q (lookup_cases m ks);
+        said = λ m x q. said_after m x (λ z. test_closed 0 (one s.term) (true_T t)) q (lookup_cases m ks);
       })
     where
       own : (m : ℕ) → m < metavariable_count → m ≡ s.number → at (set kept d.0 d.1) m ≡ node_of (lookup m after)
@@ -217,13 +217,13 @@ module _ (es : List ℕ) (few : length es ≤ 65536) (kept : List ℕ) (ks : Lis
       other : (m : ℕ) → m < metavariable_count → eqb m s.number ≡ false → at (set kept d.0 d.1) m ≡ node_of (lookup m after)
       other m h q =
           get_or-set_other kept d.0 m d.1 0 (λ z. eqb-false m s.number q (z ∙ w.number)) ∙ f.nodes m h ∙ sym
-          (ap node_of (other-same m q))
+          (ap node_of (other_same m q))
   firsts_after (some k) e t =
       subst (λ (l : List ℕ). Firsts es l after) (sym (choose_false _ _ (kept_here k e)))
       (record {
         long = f.long;
-        nodes = λ m h. f.nodes m h ∙ sym (ap node_of (by_test (eqb m s.number) (λ q. own m (eqb_eq m s.number q)) (other-same m)));
-        said = λ m x q. said-after m x (λ n. never (cc)) q (lookup_cases m ks);
+        nodes = λ m h. f.nodes m h ∙ sym (ap node_of (by_test (eqb m s.number) (λ q. own m (eqb_eq m s.number q)) (other_same m)));
+        said = λ m x q. said_after m x (λ n. never (cc)) q (lookup_cases m ks);
       })
     where
       own : (m : ℕ) → m ≡ s.number → lookup m after ≡ lookup m ks
@@ -251,7 +251,7 @@ kept_means es few q tells kept ks [] [] f w =
 kept_means es few q tells kept ks [] (s ∷ ss) f w = absurd w
 kept_means es few q tells kept ks (d ∷ ds) [] f w = absurd w
 kept_means es few q tells kept ks (d ∷ ds) (s ∷ ss) f w =
-    go (agrees_with (lookup s.number ks) s) refl (test-said es few kept ks f d s w.0 q tells (lookup s.number ks) refl)
+    go (agrees_with (lookup s.number ks) s) refl (test_said es few kept ks f d s w.0 q tells (lookup s.number ks) refl)
     (λ t. kept_means es few q tells (kept_with kept d) (ks ++ (s ∷ [])) ds ss
     (firsts_after es few kept ks f d s w.0 (lookup s.number ks) refl t) w.1)
   where

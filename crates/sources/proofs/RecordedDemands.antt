@@ -23,10 +23,10 @@ use Rattle.tokens.specs.Token.{payload_of}
 use Rattle.tokens.specs.Key.{at}
 use Rattle.lockstep.specs.Walk.{pattern_node, expression_node}
 use Rattle.lockstep.specs.Recorded.{Records, RecordedBy}
-use Rattle.faces.proofs.NodeTokens.{AtNode, node-inside, node-tag, node-payload}
+use Rattle.faces.proofs.NodeTokens.{AtNode, node_inside, node_tag, node_payload}
 use Rattle.sources.specs.Demand.{Demand, demand_at, demands_in}
 use Rattle.sources.specs.Kept.{Askable, Demandable}
-use Rattle.sources.proofs.KeptMeaning.{MovedAt, Says, AllSay, said-inside}
+use Rattle.sources.proofs.KeptMeaning.{MovedAt, Says, AllSay, said_inside}
 
 -- A slot of a table has the number of a metavariable, and a function application one argument
 abbrev pub FitSlot : Slot → Type 0
@@ -65,7 +65,7 @@ said_asks es ks long (d ∷ ds) (s ∷ ss) a = (one a.0, said_asks es ks long ds
     one : Says es d s → Askable ks d
     one w = record {
       number = subst (λ (m : ℕ). m < metavariable_count) (sym w.number) w.small;
-      inside = omega (arith, long, said-inside es d s w);
+      inside = omega (arith, long, said_inside es d s w);
     }
 
 -- What a face faces stands at its node
@@ -77,43 +77,43 @@ module _ (ps es : List ℕ) (P E : ℕ → Option Term) (D : ℕ → ℕ) (patte
   slot_at n x r = pattern_at (pattern_node n) (slot x.what, x.children) r.slots
 
   -- One face, by the kind of its slot
-  demand-says : (n : ℕ) (sc : List ℕ) (z : Slot) (x : Face) → Records P E D n x → FitSlot z → MovedFace es x
+  demand_says : (n : ℕ) (sc : List ℕ) (z : Slot) (x : Face) → Records P E D n x → FitSlot z → MovedFace es x
       → AllSay es (choose (eqb (tag_of (slot z)) 5) ((payload_of sc (slot z), expression_node n) ∷ []) []) (source_at z x.node x.term)
   unfolding payload_of
-  demand-says n sc (metavariable m) x r small moved =
+  demand_says n sc (metavariable m) x r small moved =
       (record { number = refl; small = small; node = r.node; at = subst (λ (j : ℕ). MovedAt es j x.term) (sym r.node) moved }, tt)
-  demand-says n sc (function f a) x r small moved = tt
-  demand-says n sc (hole i) x r small moved = tt
+  demand_says n sc (function f a) x r small moved = tt
+  demand_says n sc (hole i) x r small moved = tt
 
-  face-says : (n : ℕ) (x : Face) → Records P E D n x → MovedFace es x → AllSay es (demand_at ps n) (source_of x)
+  face_says : (n : ℕ) (x : Face) → Records P E D n x → MovedFace es x → AllSay es (demand_at ps n) (source_of x)
   unfolding demand_at
-  face-says n x r moved =
+  face_says n x r moved =
       let a = slot_at n x r in
       subst (λ (ds : List Demand). AllSay es ds (source_of x))
       (sym (ap₂ (λ (g m : ℕ). choose (eqb g 5) ((m, expression_node n) ∷ []) [])
-      (node-tag ps (pattern_node n) x.what x.children a) (node-payload ps (pattern_node n) x.what x.children a)))
-      (demand-says n a.scope x.what x r (slot_fits ps (pattern_node n) x.what x.children a) moved)
+      (node_tag ps (pattern_node n) x.what x.children a) (node_payload ps (pattern_node n) x.what x.children a)))
+      (demand_says n a.scope x.what x r (slot_fits ps (pattern_node n) x.what x.children a) moved)
 
   -- THE THEOREM
-  pub recorded-say : (ns : List ℕ) (xs : List Face) → RecordedBy P E D ns xs → All (MovedFace es) xs
+  pub recorded_say : (ns : List ℕ) (xs : List Face) → RecordedBy P E D ns xs → All (MovedFace es) xs
       → AllSay es (demands_in ps ns) (each source_of xs)
-  recorded-say [] [] r moved = tt
-  recorded-say [] (x ∷ xs) r moved = absurd r
-  recorded-say (n ∷ ns) [] r moved = absurd r
-  recorded-say (n ∷ ns) (x ∷ xs) r moved =
-      append_say es (demand_at ps n) (demands_in ps ns) (source_of x) (each source_of xs) (face-says n x r.0 moved.0)
-      (recorded-say ns xs r.1 moved.1)
+  recorded_say [] [] r moved = tt
+  recorded_say [] (x ∷ xs) r moved = absurd r
+  recorded_say (n ∷ ns) [] r moved = absurd r
+  recorded_say (n ∷ ns) (x ∷ xs) r moved =
+      append_say es (demand_at ps n) (demands_in ps ns) (source_of x) (each source_of xs) (face_says n x r.0 moved.0)
+      (recorded_say ns xs r.1 moved.1)
 
   -- What the code asks of recorded faces, where ks has a number for each node
-  pub recorded-reads : (ks : List ℕ) → length ks ≡ length es → (ns : List ℕ) (xs : List Face) → RecordedBy P E D ns xs
+  pub recorded_reads : (ks : List ℕ) → length ks ≡ length es → (ns : List ℕ) (xs : List Face) → RecordedBy P E D ns xs
       → All (MovedFace es) xs → All (Demandable ps ks) ns
-  recorded-reads ks long [] [] r moved = tt
-  recorded-reads ks long [] (x ∷ xs) r moved = absurd r
-  recorded-reads ks long (n ∷ ns) [] r moved = absurd r
-  recorded-reads ks long (n ∷ ns) (x ∷ xs) r moved = (
+  recorded_reads ks long [] [] r moved = tt
+  recorded_reads ks long [] (x ∷ xs) r moved = absurd r
+  recorded_reads ks long (n ∷ ns) [] r moved = absurd r
+  recorded_reads ks long (n ∷ ns) (x ∷ xs) r moved = (
     record {
-      slot = node-inside ps (pattern_node n) (slot x.what, x.children) (slot_at n x r.0);
-      asks = said_asks es ks long (demand_at ps n) (source_of x) (face-says n x r.0 moved.0);
+      slot = node_inside ps (pattern_node n) (slot x.what, x.children) (slot_at n x r.0);
+      asks = said_asks es ks long (demand_at ps n) (source_of x) (face_says n x r.0 moved.0);
     },
-    recorded-reads ks long ns xs r.1 moved.1,
+    recorded_reads ks long ns xs r.1 moved.1,
   )

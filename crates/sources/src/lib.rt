@@ -1,4 +1,6 @@
 // Where the values of metavariables are copied from: one demand after the other, each kept or compared with the first.
+#![tactic(auto)]
+
 ghost use Rattle.std.specs.Prelude.{[], ◌∷◌};
 ghost use Rattle.meaning.specs.Basics.{All};
 ghost use Rattle.numbers.specs.Tests.{told};

@@ -42,21 +42,21 @@ use Rattle.table.specs.declared.problem.Top.TheVariants as tops
 
 -- A constraint's head
 module _ (left : ℕ) (s : Bytes) where
-  pub top-cut : {r : ℕ} → PartsDone s (parts.Refused r) → TopDone left s (tops.Refused r)
+  pub top_cut : {r : ℕ} → PartsDone s (parts.Refused r) → TopDone left s (tops.Refused r)
   unfolding constraint_head
-  top-cut p = record { says = rw (← p.says); fits = tt }
+  top_cut p = record { says = rw (← p.says); fits = tt }
 
-  pub top-misplaced : {t n : ℕ} → PartsDone s (parts.Field t n) → (t ≡ 7 → ⊥) → TopDone left s (tops.Refused 4)
+  pub top_misplaced : {t n : ℕ} → PartsDone s (parts.Field t n) → (t ≡ 7 → ⊥) → TopDone left s (tops.Refused 4)
   unfolding constraint_head
-  top-misplaced {t} p z = record { says = rw (← p.says, ne_eqb t 7 z); fits = tt }
+  top_misplaced {t} p z = record { says = rw (← p.says, ne_eqb t 7 z); fits = tt }
 
-  pub top-over : {t n : ℕ} → PartsDone s (parts.Field t n) → t ≡ 7 → left ≡ 0 → TopDone left s (tops.Refused 11)
+  pub top_over : {t n : ℕ} → PartsDone s (parts.Field t n) → t ≡ 7 → left ≡ 0 → TopDone left s (tops.Refused 11)
   unfolding constraint_head
-  top-over {t} p e z = record { says = rw (← p.says, eq-eqb t 7 e, eq-eqb left 0 z); fits = tt }
+  top_over {t} p e z = record { says = rw (← p.says, eq-eqb t 7 e, eq-eqb left 0 z); fits = tt }
 
-  pub top-content : {t n : ℕ} → PartsDone s (parts.Field t n) → t ≡ 7 → (left ≡ 0 → ⊥) → TopDone left s (tops.Content n)
+  pub top_content : {t n : ℕ} → PartsDone s (parts.Field t n) → t ≡ 7 → (left ≡ 0 → ⊥) → TopDone left s (tops.Content n)
   unfolding constraint_head
-  top-content {t} {n} p e z = record { says = rw (← p.says, eq-eqb t 7 e, ne_eqb left 0 z, e); fits = (p.fits.0, positive left z) }
+  top_content {t} {n} p e z = record { says = rw (← p.says, eq-eqb t 7 e, ne_eqb left 0 z, e); fits = (p.fits.0, positive left z) }
 
 -- A constraint
 pair_end : (k m : ℕ) → m ≤ k → eqb (k - m) k ≡ eqb m 0
@@ -90,19 +90,19 @@ pair_read o p x y t later (got z) e hf hd hm hp d j =
 
 -- The returns of `read_pair`
 module _ (s o x : List ℕ) where
-  pub pair-refused : {r : ℕ} (p p' y : List ℕ) → TermDone [] s (read_term max_depth in_pattern s) o p (terms.Refused r)
+  pub pair_refused : {r : ℕ} (p p' y : List ℕ) → TermDone [] s (read_term max_depth in_pattern s) o p (terms.Refused r)
       → PairDone (read_pair s) o p' x y (pairs.Refused r)
   unfolding read_pair pair_answer Written
-  pair-refused {r} p p' y d =
+  pair_refused {r} p p' y d =
       let e : read_pair s ≡ refused r = rw (not_took d) in
       record { answer = rw (e, pair_answer); pattern_table = rw (e, Written) tt; expression_table = rw (e, Written) tt }
 
-  pub pair-paired : {k m : ℕ} (p y : List ℕ) (e : Term) (r : Pair) → TermDone [] s (read_term max_depth in_pattern s) o p (terms.Took k m)
+  pub pair_paired : {k m : ℕ} (p y : List ℕ) (e : Term) (r : Pair) → TermDone [] s (read_term max_depth in_pattern s) o p (terms.Took k m)
       → TermDone [] (take (length s - k) (drop k s)) (read_term max_depth in_expression (take (length s - k) (drop k s))) x y e
       → r ≡ paired_of m (length s - k) e
       → PairDone (read_pair s) o p x y r
   unfolding read_pair expression_of
-  pair-paired {k} {m} p y e r d f j =
+  pair_paired {k} {m} p y e r d f j =
       let t = took [] s (read_term max_depth in_pattern s) o p k m d in
       let part = later_part (read_term max_depth in_pattern) (term_fine max_depth in_pattern) [] s o p t in
       let within = term_fine max_depth in_pattern s (t.term, t.later) t.reads in
@@ -239,8 +239,8 @@ reading_begins s o x =
     }
 
 module _ {s o x p y : List ℕ} {m n k at : ℕ} (r : Reading s o x p y m n k at) where
-  pub reading-ends : length s ≤ at → ProblemDone (read_constraints max_constraints s) o p x y (answers.Problem m n k)
-  reading-ends h =
+  pub reading_ends : length s ≤ at → ProblemDone (read_constraints max_constraints s) o p x y (answers.Problem m n k)
+  reading_ends h =
       let none = constraints_none (max_constraints - k) (drop at s) (omega (arith, length-drop at s)) in
       problem_got r.done (r.leads ∙ rw (none, append-nil r.done)) r.patterns r.expressions r.counted
 

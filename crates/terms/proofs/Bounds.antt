@@ -43,21 +43,21 @@ Fine read = (s : Bytes) (x : NamedTerm × Bytes) → read s ≡ got x → Within
 
 -- Inner fields take their bytes from the content
 module _ (read : Reader) (fine : Fine read) where
-  graft-room : (s : Bytes) (x : NamedTerm × Bytes) (f : Forest Named) → read s ≡ got x → 3 * size f ≤ length x.1
+  graft_room : (s : Bytes) (x : NamedTerm × Bytes) (f : Forest Named) → read s ≡ got x → 3 * size f ≤ length x.1
       → 3 * size (graft x.0 f) ≤ length s
-  graft-room s x f e h = omega (arith, (fine s x e).room)
+  graft_room s x f e h = omega (arith, (fine s x e).room)
 
-  exactly-room : (n : ℕ) (s : Bytes) (f : Forest Named) → read_exactly n read s ≡ got f → 3 * size f ≤ length s
+  exactly_room : (n : ℕ) (s : Bytes) (f : Forest Named) → read_exactly n read s ≡ got f → 3 * size f ≤ length s
   unfolding read_exactly
-  exactly-room zero s f h =
+  exactly_room zero s f h =
       by_choice (eqb (length s) 0) (got nil) (refused 7) h
       (λ b e. let w : nil ≡ f = cc in rw (← w) (omega arith))
       (λ b e. refused_got e)
-  exactly-room (suc n) s f h =
+  exactly_room (suc n) s f h =
       let a = after_inv (read s) _ h in
       let b = after_inv (read_exactly n read a.0.1) _ a.2 in
       let w : graft a.0.0 b.0 ≡ f = cc in
-      rw (← w) (graft-room s a.0 b.0 a.1 (exactly-room n a.0.1 b.0 b.1))
+      rw (← w) (graft_room s a.0 b.0 a.1 (exactly_room n a.0.1 b.0 b.1))
 
   all_room : (n : ℕ) (s : Bytes) (f : Forest Named) → read_all n read s ≡ got f → 3 * size f ≤ length s
   unfolding read_all
@@ -69,7 +69,7 @@ module _ (read : Reader) (fine : Fine read) where
       let x = after_inv (read s) _ e in
       let y = after_inv (read_all n read x.0.1) _ x.2 in
       let w : graft x.0.0 y.0 ≡ f = cc in
-      rw (← w) (graft-room s x.0 y.0 x.1 (all_room n x.0.1 y.0 y.1)))
+      rw (← w) (graft_room s x.0 y.0 x.1 (all_room n x.0.1 y.0 y.1)))
 
 -- A field that is read: its content and what is after it
 record FieldAt (s content later : Bytes) : Type 0 where
@@ -136,7 +136,7 @@ content_room read fine ctx k (leaf l) t h e = let w : (l, nil) ≡ t = got_is e 
 content_room read fine ctx k (over l n s) t h e =
     let a = after_inv (read_exactly n (read (context_below l ctx)) s) _ e in
     let w : (l, a.0) ≡ t = got_is a.2 in
-    rw (← w) (omega (arith, exactly-room (read (context_below l ctx)) (fine (context_below l ctx)) n s a.0 a.1))
+    rw (← w) (omega (arith, exactly_room (read (context_below l ctx)) (fine (context_below l ctx)) n s a.0 a.1))
 content_room read fine ctx k (many s) t h e =
     let a = after_inv (read_all (length s) (read ctx) s) _ e in
     let w : (own (application (trees a.0)), a.0) ≡ t = got_is a.2 in

@@ -59,36 +59,36 @@ fields_from : Due → Reader → NamedTerm × Bytes → Answer (Forest Named)
 fields_from due read x = after (read_fields due read x.1) (λ f. got (graft x.0 f))
 
 module _ (read : Reader) (fine : Fine read) (s : Bytes) where
-  next-done : (due : Due) → next_of due (length s) ≡ nexts.Done → read_fields due read s ≡ got nil
+  next_done : (due : Due) → next_of due (length s) ≡ nexts.Done → read_fields due read s ≡ got nil
   unfolding read_fields read_all read_exactly
-  next-done dues.All h =
+  next_done dues.All h =
       by_choice (eqb (length s) 0) nexts.Done (nexts.Field dues.All) h
       (λ b e. rw (eqb-true (length s) 0 b))
       (λ b e. absurd (let z : ◌≡◌ {A = ℕ} 0 1 = cc in omega arith))
-  next-done (dues.Exactly n) h =
+  next_done (dues.Exactly n) h =
       by_choice (eqb n 0) (choose (eqb (length s) 0) nexts.Done (nexts.Refused 7)) (nexts.Field (dues.Exactly (n - 1))) h
       (λ b e. by_choice (eqb (length s) 0) nexts.Done (nexts.Refused 7) e
       (λ b2 e2. rw (eqb-true n 0 b, read_exactly, b2))
       (λ b2 e2. absurd (let z : ◌≡◌ {A = ℕ} 0 1 = cc in omega arith)))
       (λ b e. absurd (let z : ◌≡◌ {A = ℕ} 0 1 = cc in omega arith))
 
-  next-refused : (due : Due) {r : ℕ} → next_of due (length s) ≡ nexts.Refused r → read_fields due read s ≡ refused r
+  next_refused : (due : Due) {r : ℕ} → next_of due (length s) ≡ nexts.Refused r → read_fields due read s ≡ refused r
   unfolding read_fields read_all read_exactly
-  next-refused dues.All h =
+  next_refused dues.All h =
       by_choice (eqb (length s) 0) nexts.Done (nexts.Field dues.All) h
       (λ b e. absurd (let z : ◌≡◌ {A = ℕ} 0 1 = cc in omega arith))
       (λ b e. absurd (let z : ◌≡◌ {A = ℕ} 0 1 = cc in omega arith))
-  next-refused (dues.Exactly n) {r} h =
+  next_refused (dues.Exactly n) {r} h =
       by_choice (eqb n 0) (choose (eqb (length s) 0) nexts.Done (nexts.Refused 7)) (nexts.Field (dues.Exactly (n - 1))) h
       (λ b e. by_choice (eqb (length s) 0) nexts.Done (nexts.Refused 7) e
       (λ b2 e2. absurd (let z : ◌≡◌ {A = ℕ} 0 1 = cc in omega arith))
       (λ b2 e2. let w : 7 ≡ r = cc in rw (eqb-true n 0 b, read_exactly, b2, w)))
       (λ b e. absurd (let z : ◌≡◌ {A = ℕ} 0 1 = cc in omega arith))
 
-  all-step : (n : ℕ) → length s ≡ n → (n ≡ 0 → ⊥) → read_all n read s ≡ after (read s) (fields_from dues.All read)
+  all_step : (n : ℕ) → length s ≡ n → (n ≡ 0 → ⊥) → read_all n read s ≡ after (read s) (fields_from dues.All read)
   unfolding read_all read_fields fields_from
-  all-step zero l z = absurd (z refl)
-  all-step (suc n) l z = rw (ne_eqb (length s) 0 (λ e. omega arith)) (go (read s) refl)
+  all_step zero l z = absurd (z refl)
+  all_step (suc n) l z = rw (ne_eqb (length s) 0 (λ e. omega arith)) (go (read s) refl)
     where
       go : (a : Answer (NamedTerm × Bytes)) → read s ≡ a
           → after a (λ x. after (read_all n read x.1) (λ f. got (graft x.0 f)))
@@ -96,10 +96,10 @@ module _ (read : Reader) (fine : Fine read) (s : Bytes) where
       go (refused r) e = refl
       go (got x) e = let w = fine s x e in rw (all_bound read fine n (length x.1) x.1 (omega (arith, w.room)) (omega arith))
 
-  exactly-step : (n : ℕ) → (n ≡ 0 → ⊥) → read_exactly n read s ≡ after (read s) (fields_from (dues.Exactly (n - 1)) read)
+  exactly_step : (n : ℕ) → (n ≡ 0 → ⊥) → read_exactly n read s ≡ after (read s) (fields_from (dues.Exactly (n - 1)) read)
   unfolding read_exactly read_fields fields_from
-  exactly-step zero z = absurd (z refl)
-  exactly-step (suc n) z = let w : suc n - 1 ≡ n = omega arith in rw w
+  exactly_step zero z = absurd (z refl)
+  exactly_step (suc n) z = let w : suc n - 1 ≡ n = omega arith in rw w
 
   next_field : (due later : Due) → next_of due (length s) ≡ nexts.Field later
       → read_fields due read s ≡ after (read s) (fields_from later read)
@@ -107,13 +107,13 @@ module _ (read : Reader) (fine : Fine read) (s : Bytes) where
   next_field dues.All later h =
       by_choice (eqb (length s) 0) nexts.Done (nexts.Field dues.All) h
       (λ b e. absurd (let z : ◌≡◌ {A = ℕ} 0 1 = cc in omega arith))
-      (λ b e. let w : dues.All ≡ later = cc in rw (← w) (all-step (length s) refl (eqb-false (length s) 0 b)))
+      (λ b e. let w : dues.All ≡ later = cc in rw (← w) (all_step (length s) refl (eqb-false (length s) 0 b)))
   next_field (dues.Exactly n) later h =
       by_choice (eqb n 0) (choose (eqb (length s) 0) nexts.Done (nexts.Refused 7)) (nexts.Field (dues.Exactly (n - 1))) h
       (λ b e. by_choice (eqb (length s) 0) nexts.Done (nexts.Refused 7) e
       (λ b2 e2. absurd (let z : ◌≡◌ {A = ℕ} 0 1 = cc in omega arith))
       (λ b2 e2. absurd (let z : ◌≡◌ {A = ℕ} 0 1 = cc in omega arith)))
-      (λ b e. let w : dues.Exactly (n - 1) ≡ later = cc in rw (← w) (exactly-step n (eqb-false n 0 b)))
+      (λ b e. let w : dues.Exactly (n - 1) ≡ later = cc in rw (← w) (exactly_step n (eqb-false n 0 b)))
 
 -- A term that was read, taken out of the code's answer
 pub record Took (sc : List ℕ) (s : Bytes) (a : Answer (NamedTerm × Bytes)) (before after : List ℕ) (bytes nodes : ℕ) : Type 0 where
@@ -216,16 +216,16 @@ reading_begins read sc due s o =
 
 module _ {read : Reader} (fine : Fine read) {sc : List ℕ} {due left : Due} {s o p : List ℕ} {nodes count at : ℕ}
     (r : Reading read sc due s o p left nodes count at) where
-  pub reading-ends : length s < 65536 → next_of left (length s - at) ≡ nexts.Done
+  pub reading_ends : length s < 65536 → next_of left (length s - at) ≡ nexts.Done
       → FieldsDone sc (read_fields due read s) o p (fields.Read nodes count)
-  reading-ends short h =
-      let none = next-done read fine (drop at s) left (rw (length-drop at s) h) in
+  reading_ends short h =
+      let none = next_done read fine (drop at s) left (rw (length-drop at s) h) in
       fields_got r.done (r.leads ∙ rw (none, graft_none r.done)) r.row r.counted
       (omega (arith, r.row.few, r.within), omega (arith, r.few, r.within))
 
   pub reading_refused : {q : ℕ} {p' : List ℕ} → next_of left (length s - at) ≡ nexts.Refused q
       → FieldsDone sc (read_fields due read s) o p' (fields.Refused q)
-  reading_refused {q} h = fields_refused (r.leads ∙ rw (next-refused read fine (drop at s) left {r = q} (rw (length-drop at s) h)))
+  reading_refused {q} h = fields_refused (r.leads ∙ rw (next_refused read fine (drop at s) left {r = q} (rw (length-drop at s) h)))
 
   abbrev rest : Bytes
   rest = take (length s - at) (drop at s)
@@ -233,12 +233,12 @@ module _ {read : Reader} (fine : Fine read) {sc : List ℕ} {due left : Due} {s 
   abbrev room : List ℕ
   room = take (length p - nodes) (drop nodes p)
 
-  rest-length : length rest ≡ length s - at
-  rest-length = part_length at (length s) s r.within (omega arith)
+  rest_length : length rest ≡ length s - at
+  rest_length = part_length at (length s) s r.within (omega arith)
 
   -- What `read_term` requires
-  pub rest-space : Space (length s) (length o) → Space (length rest) (length room)
-  rest-space space = row_space r.row r.within space (omega (arith, rest-length, r.within))
+  pub rest_space : Space (length s) (length o) → Space (length rest) (length room)
+  rest_space space = row_space r.row r.within space (omega (arith, rest_length, r.within))
 
   module _ {later : Due} (h : next_of left (length s - at) ≡ nexts.Field later) where
     next : read_fields due read s ≡ after (after (read rest) (fields_from later read)) (λ f. got (graft_all r.done f))
@@ -257,7 +257,7 @@ module _ {read : Reader} (fine : Fine read) {sc : List ℕ} {due left : Due} {s 
       fits = took_fits read fine sc rest room x d
 
       within : at + k ≤ length s
-      within = omega (arith, fits.within, rest-length, r.within)
+      within = omega (arith, fits.within, rest_length, r.within)
 
       pub sums_fit : length s < 65536 → (nodes + m < 2 ^ 64) × (count + 1 < 2 ^ 64) × (at + k < 2 ^ 64)
       sums_fit short =
@@ -337,12 +337,12 @@ term_headed site n s o x end (got f) inner o' r ho he e v c =
 
 -- The returns of `read_term`
 module _ (site : Site) (levels : ℕ) (ctx : Context) (s o : List ℕ) where
-  pub term-refused : {r : ℕ} → OpenDone levels ctx s (opens.Refused r)
+  pub term_refused : {r : ℕ} → OpenDone levels ctx s (opens.Refused r)
       → TermDone (site_scope site) s (read_term levels ctx s) o o (terms.Refused r)
   unfolding open_read term_answer Written
-  term-refused h = record { answer = rw (h.says, term_answer); table = rw (h.says, Written) tt }
+  term_refused h = record { answer = rw (h.says, term_answer); table = rw (h.says, Written) tt }
 
-  pub term-closed : {levels' : ℕ} {ctx' : Context} {sc' : List ℕ} (n : Node) (end : ℕ) (x o' : List ℕ) (inner : Fields) (r : Term)
+  pub term_closed : {levels' : ℕ} {ctx' : Context} {sc' : List ℕ} (n : Node) (end : ℕ) (x o' : List ℕ) (inner : Fields) (r : Term)
       → OpenDone levels ctx s (opens.Node n end) → 1 ≤ length o
       → levels' ≡ levels - 1 → ctx' ≡ context_below (label_of n 0) ctx → sc' ≡ enter (label_of n 0) (site_scope site)
       → FieldsDone sc' (read_fields (due_of n) (read_term levels' ctx') (take (end - (3 + fixed_of n)) (drop (3 + fixed_of n) s)))
@@ -350,7 +350,7 @@ module _ (site : Site) (levels : ℕ) (ctx : Context) (s o : List ℕ) where
       → Closed site n end inner (put_mid 1 (length o - 1) o x) o' r
       → TermDone (site_scope site) s (read_term levels ctx s) o o' r
   unfolding open_read
-  term-closed n end x o' inner r h ho hl hc hs f c =
+  term_closed n end x o' inner r h ho hl hc hs f c =
       rw h.says
       (term_headed site n s o x end _ inner o' r ho h.fits.within (rw (hl, hc, hs) at f.answer) (rw (hl, hc, hs) at f.table) c)
 

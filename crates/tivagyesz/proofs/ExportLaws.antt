@@ -44,30 +44,30 @@ module _ (words : List ℕ) (v : PlaceValue) where
   given words' long e =
       told_as (place_into words v) (got v) words words' 0 (choose_true _ _ (le-leb place_words (length words) long)) refl e
 
-  pub not-given : length words < place_words → Told (place_into words v) words words 18
-  not-given short =
+  pub not_given : length words < place_words → Told (place_into words v) words words 18
+  not_given short =
       told_as (place_into words v) (refused 18) words words 18 (choose_false _ _ (lt-leb place_words (length words) short)) refl refl
 
 module _ (words : List ℕ) (started : Started) where
-  refused-told : (a : Answer PlaceValue) (n : ℕ) → Starts a started → started.answer ≡ starts.Refused n
+  refused_told : (a : Answer PlaceValue) (n : ℕ) → Starts a started → started.answer ≡ starts.Refused n
       → Told (after a (place_into words)) words words n
   unfolding Starts
-  refused-told (refused m) n h e = record { code = let q = sym e ∙ h in cc; place = refl }
-  refused-told (got v) n h e = never (let q = sym e ∙ h.0 in cc)
+  refused_told (refused m) n h e = record { code = let q = sym e ∙ h in cc; place = refl }
+  refused_told (got v) n h e = never (let q = sym e ∙ h.0 in cc)
 
-  begun-told : (a : Answer PlaceValue) (words' : List ℕ) (r : ℕ) → Starts a started → started.answer ≡ starts.Begins
+  begun_told : (a : Answer PlaceValue) (words' : List ℕ) (r : ℕ) → Starts a started → started.answer ≡ starts.Begins
       → Told (place_into words (value_of started.place)) words words' r → Told (after a (place_into words)) words words' r
   unfolding Starts
-  begun-told (refused m) words' r h e told = never (let q = sym e ∙ h in cc)
-  begun-told (got v) words' r h e told = subst (λ (w : PlaceValue). Told (place_into words w) words words' r) h.1 told
+  begun_told (refused m) words' r h e told = never (let q = sym e ∙ h in cc)
+  begun_told (got v) words' r h e told = subst (λ (w : PlaceValue). Told (place_into words w) words words' r) h.1 told
 
-  pub start-refused : (s : Bytes) (n : ℕ) → Starts (start_call s) started → started.answer ≡ starts.Refused n
+  pub start_refused : (s : Bytes) (n : ℕ) → Starts (start_call s) started → started.answer ≡ starts.Refused n
       → StartExport s words words n
-  start-refused s n = refused-told (start_call s) n
+  start_refused s n = refused_told (start_call s) n
 
-  pub start-begins : (s : Bytes) (words' : List ℕ) (r : ℕ) → Starts (start_call s) started → started.answer ≡ starts.Begins
+  pub start_begins : (s : Bytes) (words' : List ℕ) (r : ℕ) → Starts (start_call s) started → started.answer ≡ starts.Begins
       → Told (place_into words (value_of started.place)) words words' r → StartExport s words words' r
-  start-begins s words' r = begun-told (start_call s) words' r
+  start_begins s words' r = begun_told (start_call s) words' r
 
 -- The number of a search's answer
 pub with_row_lem : (room n : ℕ) → place_words ≤ room → n ≡ choose (has_place room) n 18
@@ -93,30 +93,30 @@ end_code true v = refl
 end_code false v = refl
 
 module _ (answer : code.Answer) (room : ℕ) where
-  coded-as : (a : code.Answer) (r : ℕ) → answer ≡ a
+  coded_as : (a : code.Answer) (r : ℕ) → answer ≡ a
       → ((row : List ℕ) (v : PlaceValue) → r ≡ reply_code (with_row (has_place room) (reply_with a row v)))
       → ((n : ℕ) → a ≡ answers.Refused n → n < 256) → Coded answer room r
-  coded-as a r e c small =
+  coded_as a r e c small =
       record {
         code = λ row v. c row v
             ∙ ap (λ (x : code.Answer). reply_code (with_row (has_place room) (reply_with x row v))) (sym e);
         refusal = λ n q. small n (sym e ∙ q);
       }
 
-  pub coded-refused : (n : ℕ) → answer ≡ answers.Refused n → n < 256 → Coded answer room n
-  coded-refused n e h =
-      coded-as (answers.Refused n) n e (λ row v. refused_code (has_place room) n)
+  pub coded_refused : (n : ℕ) → answer ≡ answers.Refused n → n < 256 → Coded answer room n
+  coded_refused n e h =
+      coded_as (answers.Refused n) n e (λ row v. refused_code (has_place room) n)
       (λ m q. let same : n ≡ m = cc in omega (arith, same, h))
 
-  pub coded-found : (r : ℕ) → answer ≡ answers.Found → r ≡ choose (has_place room) 256 18 → Coded answer room r
-  coded-found r e h =
-      coded-as answers.Found r e (λ row v. h ∙ found_code (has_place room) (row_value row) v) (λ m q. never (cc))
+  pub coded_found : (r : ℕ) → answer ≡ answers.Found → r ≡ choose (has_place room) 256 18 → Coded answer room r
+  coded_found r e h =
+      coded_as answers.Found r e (λ row v. h ∙ found_code (has_place room) (row_value row) v) (λ m q. never (cc))
 
-  pub coded-paused : (r : ℕ) → answer ≡ answers.Paused → r ≡ choose (has_place room) 257 18 → Coded answer room r
-  coded-paused r e h = coded-as answers.Paused r e (λ row v. h ∙ paused_code (has_place room) v) (λ m q. never (cc))
+  pub coded_paused : (r : ℕ) → answer ≡ answers.Paused → r ≡ choose (has_place room) 257 18 → Coded answer room r
+  coded_paused r e h = coded_as answers.Paused r e (λ row v. h ∙ paused_code (has_place room) v) (λ m q. never (cc))
 
-  pub coded-end : (r : ℕ) → answer ≡ answers.End → r ≡ choose (has_place room) 258 18 → Coded answer room r
-  coded-end r e h = coded-as answers.End r e (λ row v. h ∙ end_code (has_place room) v) (λ m q. never (cc))
+  pub coded_end : (r : ℕ) → answer ≡ answers.End → r ≡ choose (has_place room) 258 18 → Coded answer room r
+  coded_end r e h = coded_as answers.End r e (λ row v. h ∙ end_code (has_place room) v) (λ m q. never (cc))
 
 -- The row of a Found
 pub row_given_lem : (n : ℕ) (v : PlaceValue) (words words' : List ℕ) → n ≡ 256 → words' ≡ placed words v → words' ≡ row_given n v words
@@ -194,9 +194,9 @@ module _ (s : Bytes) (n : ℕ) (words row : List ℕ) (from : Place) (searched :
   pub row_long : 256 ≤ code → place_words ≤ length row
   row_long big = leb-true place_words (length row) (told big).is_long
 
-  pub search-answered : 256 ≤ code → (here : Place) (words' row' : List ℕ) → AtRow searched.row here
+  pub search_answered : 256 ≤ code → (here : Place) (words' row' : List ℕ) → AtRow searched.row here
       → words' ≡ placed words (value_of searched.place) → row' ≡ row_given code (value_of here) row → SearchExport s n words row words' row' code
-  search-answered big here words' row' at e f =
+  search_answered big here words' row' at e f =
       let row_is : value_of here ≡ row_value (masks_in searched.row) =
       ap₂ (λ (m : List ℕ) (b : Bool). record { masks = m; is_past = b }) (ap masks_in at.sets) at.here in
       record {

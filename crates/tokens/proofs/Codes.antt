@@ -24,9 +24,9 @@ use Rattle.meaning.proofs.Lists.{never, choose_true, choose_false, all_append}
 use Rattle.meaning.proofs.ShiftLaws.{ltb_yes, ltb_no}
 use Rattle.tokens.specs.Token.{token_of, level_of, payload_of, tokens}
 use Rattle.tokens.specs.Key.{key_of_variable, key_of_payload, key_of, keys, level_from}
-use Rattle.tokens.proofs.same.Laws.{key-free, key-inside, key-outside}
+use Rattle.tokens.proofs.same.Laws.{key_free, key_inside, key_outside}
 use Rattle.meaning.proofs.CompareLaws.{arity, Ranked, preorder_injective, fits_arity, with_arity}
-use Rattle.tokens.proofs.TokenParts.{key-token, enter_room}
+use Rattle.tokens.proofs.TokenParts.{key_token, enter_room}
 use Rattle.tokens.proofs.Levels.{Resolved, is_free, is_bound, resolved, enter_deep}
 
 -- Codes of views
@@ -124,23 +124,23 @@ module _ (root : List ℕ) where
   abbrev pub view_from : ℕ → Terms → View ℕ
   view_from k u = relabel inner seen_label k u
 
-  variable-code : (k : ℕ) (sc : List ℕ) (x : ℕ) → length sc ≡ k + length root
+  variable_code : (k : ℕ) (sc : List ℕ) (x : ℕ) → length sc ≡ k + length root
       → key_of_variable (length root) (length sc) x (level_of sc x) ≡ code_of_seen (see (level_from root) k (resolve sc 0 x))
-  variable-code k sc x h = go (resolved sc 0 x)
+  variable_code k sc x h = go (resolved sc 0 x)
     where
       split : (j : ℕ) → j < length sc → level_of sc x + j ≡ length sc → Dec (j < k)
           → key_of_variable (length root) (length sc) x (level_of sc x) ≡ code_of_seen (see (level_from root) k (bound j))
       split j g q (yes y) =
           let z : length sc - level_of sc x ≡ j = omega arith in
-          key-inside _ _ _ _ (λ e. omega arith) (omega arith) ∙ ap (λ (i : ℕ). 4 * i + 1) z
+          key_inside _ _ _ _ (λ e. omega arith) (omega arith) ∙ ap (λ (i : ℕ). 4 * i + 1) z
           ∙ sym (ap code_of_seen (choose_true _ _ (ltb_yes j k y)))
       split j g q (no y) =
           let z : level_of sc x ≡ level_from root (j - k) = omega arith in
-          key-outside _ _ _ _ (λ e. omega arith) (omega arith) ∙ ap (λ (i : ℕ). 4 * i + 2) z
+          key_outside _ _ _ _ (λ e. omega arith) (omega arith) ∙ ap (λ (i : ℕ). 4 * i + 2) z
           ∙ sym (ap code_of_seen (choose_false _ _ (ltb_no j k (omega arith))))
 
       go : Resolved sc 0 x → key_of_variable (length root) (length sc) x (level_of sc x) ≡ code_of_seen (see (level_from root) k (resolve sc 0 x))
-      go (is_free p q) = key-free _ _ _ _ q ∙ sym (ap (λ (v : Variable). code_of_seen (see (level_from root) k v)) p)
+      go (is_free p q) = key_free _ _ _ _ q ∙ sym (ap (λ (v : Variable). code_of_seen (see (level_from root) k v)) p)
       go (is_bound j g p q) =
           let z : 0 + j ≡ j = omega arith in
           split j g q (dec_lt j k) ∙ sym (ap (λ (v : Variable). code_of_seen (see (level_from root) k v)) (p ∙ ap bound z))
@@ -150,19 +150,19 @@ module _ (root : List ℕ) where
     pub label_code : (l : Named) (c : Forest Named) → NodeFits ctx l c
         → key_of (length root) (token_of (tag_of l) (length sc) n (payload_of sc l)) ≡ code (seen_label k (nameless_label sc l))
     unfolding payload_of key_of_payload
-    label_code (own (symbol m)) c f = key-token 1 (length sc) n m (omega arith) room small (length root)
+    label_code (own (symbol m)) c f = key_token 1 (length sc) n m (omega arith) room small (length root)
     label_code (own (variable x)) c f =
         let a : (x + 65536 * level_of sc x) % 65536 ≡ x = omega (arith, f.0) in
         let b : (x + 65536 * level_of sc x) / 65536 ≡ level_of sc x = omega (arith, f.0) in
-        key-token 2 (length sc) n (x + 65536 * level_of sc x) (omega arith) room small (length root)
-        ∙ ap (λ (v : ℕ). 2 + 256 * v) (ap₂ (key_of_variable (length root) (length sc)) a b ∙ variable-code k sc x deep)
-    label_code (own (application m)) c f = key-token 3 (length sc) n m (omega arith) room small (length root)
+        key_token 2 (length sc) n (x + 65536 * level_of sc x) (omega arith) room small (length root)
+        ∙ ap (λ (v : ℕ). 2 + 256 * v) (ap₂ (key_of_variable (length root) (length sc)) a b ∙ variable_code k sc x deep)
+    label_code (own (application m)) c f = key_token 3 (length sc) n m (omega arith) room small (length root)
     label_code (own (binder b x)) c f =
         let a : (b + 65536 * x) % 65536 ≡ b = omega (arith, f.0) in
-        key-token 4 (length sc) n (b + 65536 * x) (omega arith) room small (length root) ∙ ap (λ (v : ℕ). 4 + 256 * v) a
-    label_code (slot (metavariable m)) c f = key-token 5 (length sc) n m (omega arith) room small (length root)
-    label_code (slot (function g a)) c f = key-token 6 (length sc) n g (omega arith) room small (length root)
-    label_code (slot (hole i)) c f = key-token 10 (length sc) n i (omega arith) room small (length root)
+        key_token 4 (length sc) n (b + 65536 * x) (omega arith) room small (length root) ∙ ap (λ (v : ℕ). 4 + 256 * v) a
+    label_code (slot (metavariable m)) c f = key_token 5 (length sc) n m (omega arith) room small (length root)
+    label_code (slot (function g a)) c f = key_token 6 (length sc) n g (omega arith) room small (length root)
+    label_code (slot (hole i)) c f = key_token 10 (length sc) n i (omega arith) room small (length root)
 
 -- The keys of a forest's tokens are the codes of its view
 pub keys_codes : (root : List ℕ) (k levels : ℕ) (ctx : Context) (sc : List ℕ) (u : Forest Named) → length sc ≡ k + length root

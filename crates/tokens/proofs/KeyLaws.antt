@@ -25,11 +25,11 @@ use Rattle.meaning.proofs.Lists.{T_true, true_T}
 use Rattle.meaning.proofs.ShiftLaws.{test_closed, closed_test}
 use Rattle.tokens.specs.Token.{token_of, depth_in, size_in, payload_of, tokens}
 use Rattle.tokens.specs.Key.{keys, level_from, at, part, same_across, same_at, Inside, any_reaches, uses_at, closed_at, Held, Stands}
-use Rattle.tokens.proofs.same.Laws.{alike-keys, keys-alike}
-use Rattle.tokens.proofs.TokenParts.{depth_token, size-token, tokens_length, tag_room}
+use Rattle.tokens.proofs.same.Laws.{alike_keys, keys_alike}
+use Rattle.tokens.proofs.TokenParts.{depth_token, size_token, tokens_length, tag_room}
 use Rattle.meaning.proofs.CompareLaws.{Ranked, readable_ranked, view_ranked}
 use Rattle.tokens.proofs.Codes.{codes, codes_injective, keys_codes, readable_coded}
-use Rattle.tokens.proofs.Reaching.{all_variables, closed_all, sinks, Told, tokens-reach, told_closed, told_sinks, lower_term_lem}
+use Rattle.tokens.proofs.Reaching.{all_variables, closed_all, sinks, Told, tokens_reach, told_closed, told_sinks, lower_term_lem}
 
 no_some : {A : Type 0} (o : Option A) → (not (is_some o) ≡ true) ↔ (o ≡ none)
 no_some {A} none = (λ e. refl, λ e. refl)
@@ -58,31 +58,31 @@ module _ (levels : ℕ) (ctx : Context) (table : List ℕ) (a : ℕ) (sc : List 
       sym (ap (at table) (add-zero a)) ∙ sym (get_or-drop a table 0 0) ∙ ap (λ (xs : List ℕ). get_or xs 0 0) s.split
       ∙ ap (λ (n : ℕ). token_of (tag_of t.0) (length sc) n (payload_of sc t.0)) z
 
-  root-room : length sc < 256
-  root-room = omega (arith, h.depths, some_levels levels ctx t h.readable)
+  root_room : length sc < 256
+  root_room = omega (arith, h.depths, some_levels levels ctx t h.readable)
 
-  pub stands-depth : depth_in (at table a) ≡ length sc
-  stands-depth =
+  pub stands_depth : depth_in (at table a) ≡ length sc
+  stands_depth =
       ap depth_in stands_at
-      ∙ depth_token (tag_of t.0) (length sc) (size (one t)) (payload_of sc t.0) (tag_room t.0) root-room
+      ∙ depth_token (tag_of t.0) (length sc) (size (one t)) (payload_of sc t.0) (tag_room t.0) root_room
 
   pub stands_size : size_in (at table a) ≡ size (one t)
   stands_size =
       ap size_in stands_at
-      ∙ size-token (tag_of t.0) (length sc) (size (one t)) (payload_of sc t.0) (tag_room t.0) root-room h.sizes
+      ∙ size_token (tag_of t.0) (length sc) (size (one t)) (payload_of sc t.0) (tag_room t.0) root_room h.sizes
 
-  pub stands-part : part table a ≡ tokens sc (one t)
-  stands-part = ap₂ take stands_size s.split ∙ take_at (tokens sc (one t)) s.after (size (one t)) (tokens_length sc (one t))
+  pub stands_part : part table a ≡ tokens sc (one t)
+  stands_part = ap₂ take stands_size s.split ∙ take_at (tokens sc (one t)) s.after (size (one t)) (tokens_length sc (one t))
 
-  pub stands-keys : keys (depth_in (at table a)) (part table a) ≡ keys (length sc) (tokens sc (one t))
-  stands-keys = ap₂ keys stands-depth stands-part
+  pub stands_keys : keys (depth_in (at table a)) (part table a) ≡ keys (length sc) (tokens sc (one t))
+  stands_keys = ap₂ keys stands_depth stands_part
 
-  stands-uses : (p : ℕ → Variable → Bool) (d : ℕ) → Told p d (length sc)
+  stands_uses : (p : ℕ → Variable → Bool) (d : ℕ) → Told p d (length sc)
       → uses_at table a d ≡ not (all_variables p 0 (one (nameless_term sc t)))
   unfolding uses_at
-  stands-uses p d told =
-      ap₂ (any_reaches d) stands-depth stands-part
-      ∙ tokens-reach p d (length sc) told 0 levels ctx sc (one t) (omega arith) h.readable h.depths h.sizes
+  stands_uses p d told =
+      ap₂ (any_reaches d) stands_depth stands_part
+      ∙ tokens_reach p d (length sc) told 0 levels ctx sc (one t) (omega arith) h.readable h.depths h.sizes
 
 -- Main theorems
 
@@ -105,8 +105,8 @@ keys_equal levels levels' ctx ctx' sc sc' t u h h' = (
 module _ (levels : ℕ) (ctx : Context) (table : List ℕ) (a : ℕ) (sc : List ℕ) (t : NamedTerm) (h : Held levels ctx sc t)
     (s : Stands table a sc t) where
   -- What the functions of `same` ask of a node
-  pub stands-inside : Inside table a
-  stands-inside =
+  pub stands_inside : Inside table a
+  stands_inside =
       let n : length table - a ≡ size (one t) + length s.after =
       sym (length-drop a table) ∙ ap length s.split ∙ length-append (tokens sc (one t)) s.after
       ∙ ap (λ (m : ℕ). m + length s.after) (tokens_length sc (one t)) in
@@ -114,19 +114,19 @@ module _ (levels : ℕ) (ctx : Context) (table : List ℕ) (a : ℕ) (sc : List 
       record { starts = omega arith; ends = omega arith }
 
   -- What `closed_at` says
-  pub closed-means : (closed_at table a ≡ true) ↔ ClosedTerm (nameless_term sc t)
+  pub closed_means : (closed_at table a ≡ true) ↔ ClosedTerm (nameless_term sc t)
   unfolding closed_at
-  closed-means =
+  closed_means =
       let e : closed_at table a ≡ is_closed 0 (one (nameless_term sc t)) =
-      ap not (stands-uses levels ctx table a sc t h s is_closed_variable 0 (told_closed (length sc))) ∙ not-not _
+      ap not (stands_uses levels ctx table a sc t h s is_closed_variable 0 (told_closed (length sc))) ∙ not-not _
       ∙ sym (closed_all 0 (one (nameless_term sc t))) in
       (λ q. test_closed 0 (one (nameless_term sc t)) (true_T (sym e ∙ q)), λ q. e ∙ T_true (closed_test 0 (one (nameless_term sc t)) q))
 
   -- What `uses_at` says
-  pub uses-means : (d : ℕ) → (uses_at table a d ≡ true) ↔ (lower_term (length sc - d) (nameless_term sc t) ≡ none)
-  uses-means d =
+  pub uses_means : (d : ℕ) → (uses_at table a d ≡ true) ↔ (lower_term (length sc - d) (nameless_term sc t) ≡ none)
+  uses_means d =
       let e : uses_at table a d ≡ not (is_some (lower_term (length sc - d) (nameless_term sc t))) =
-      stands-uses levels ctx table a sc t h s (sinks (length sc - d)) d (told_sinks d (length sc))
+      stands_uses levels ctx table a sc t h s (sinks (length sc - d)) d (told_sinks d (length sc))
       ∙ sym (ap not (lower_term_lem (length sc - d) (nameless_term sc t))) in
       let n = no_some (lower_term (length sc - d) (nameless_term sc t)) in
       (λ q. n.0 (sym e ∙ q), λ q. e ∙ n.1 q)
@@ -138,13 +138,13 @@ pub across_means : (levels levels' : ℕ) (ctx ctx' : Context) (table table' : L
     → (same_across table a table' b ≡ true) ↔ Equal (level_from sc) (level_from sc') (nameless_term sc t) (nameless_term sc' u)
 unfolding same_across
 across_means levels levels' ctx ctx' table table' a b sc sc' t u h h' s s' =
-    let p = stands-keys levels ctx table a sc t h s in
-    let q = stands-keys levels' ctx' table' b sc' u h' s' in
+    let p = stands_keys levels ctx table a sc t h s in
+    let q = stands_keys levels' ctx' table' b sc' u h' s' in
     let e = keys_equal levels levels' ctx ctx' sc sc' t u h h' in
     let d = depth_in (at table a) in
     let d' = depth_in (at table' b) in (
-      λ r. e.0 (sym p ∙ alike-keys d d' (part table a) (part table' b) r ∙ q),
-      λ r. keys-alike d d' (part table a) (part table' b) (p ∙ e.1 r ∙ sym q),
+      λ r. e.0 (sym p ∙ alike_keys d d' (part table a) (part table' b) r ∙ q),
+      λ r. keys_alike d d' (part table a) (part table' b) (p ∙ e.1 r ∙ sym q),
     )
 
 pub same_means : (levels levels' : ℕ) (ctx ctx' : Context) (table : List ℕ) (a b : ℕ) (sc sc' : List ℕ) (t u : NamedTerm)

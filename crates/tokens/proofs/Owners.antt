@@ -78,9 +78,9 @@ deep d (cons l c s) = deep_label d l || (deep d c || deep d s)
 
 -- One variable
 module _ (d : ℕ) (sc bs : List ℕ) (long : length sc ≡ length bs + d) (k : ℕ) where
-  deep-variable : (v : Variable) → ClosedVariable (k + length sc) v → deep_seen d (see (level_from sc) k v) ≡ of_face (see (owner_of bs) k v)
-  deep-variable (free x) c = refl
-  deep-variable (bound i) c = go (reach bs k i)
+  deep_variable : (v : Variable) → ClosedVariable (k + length sc) v → deep_seen d (see (level_from sc) k v) ≡ of_face (see (owner_of bs) k v)
+  deep_variable (free x) c = refl
+  deep_variable (bound i) c = go (reach bs k i)
     where
       go : Reach bs k i → deep_seen d (see (level_from sc) k (bound i)) ≡ of_face (see (owner_of bs) k (bound i))
       go (within h e) = ap (deep_seen d) (see_low (level_from sc) k i h) ∙ sym (ap of_face e)
@@ -89,21 +89,21 @@ module _ (d : ℕ) (sc bs : List ℕ) (long : length sc ≡ length bs + d) (k : 
       go (above h e) =
           ap (deep_seen d) (see_high (level_from sc) k i (omega arith)) ∙ le-ltb d (level_from sc (i - k)) (omega arith) ∙ sym (ap of_face e)
 
-  level-variable : (v : Variable) → of_face (see (owner_of bs) k v) ≡ false → level_of_owner d (see (owner_of bs) k v) ≡ see (level_from sc) k v
+  level_variable : (v : Variable) → of_face (see (owner_of bs) k v) ≡ false → level_of_owner d (see (owner_of bs) k v) ≡ see (level_from sc) k v
   unfolding level_of_owner
-  level-variable (free x) f = refl
-  level-variable (bound i) f = go (reach bs k i)
+  level_variable (free x) f = refl
+  level_variable (bound i) f = go (reach bs k i)
     where
       go : Reach bs k i → level_of_owner d (see (owner_of bs) k (bound i)) ≡ see (level_from sc) k (bound i)
       go (within h e) = ap (level_of_owner d) e ∙ sym (see_low (level_from sc) k i h)
       go (to_face b h g e) = absurd (true≢false (ap of_face (sym e) ∙ f))
       go (above h e) = ap (level_of_owner d) e ∙ ap outside (omega arith) ∙ sym (see_high (level_from sc) k i (omega arith))
 
-  owner-variable : (v : Variable) → ClosedVariable (k + length sc) v → of_face (see (owner_of bs) k v) ≡ false
+  owner_variable : (v : Variable) → ClosedVariable (k + length sc) v → of_face (see (owner_of bs) k v) ≡ false
       → owner_of_level d (see (level_from sc) k v) ≡ see (owner_of bs) k v
   unfolding owner_of_level
-  owner-variable (free x) c f = refl
-  owner-variable (bound i) c f = go (reach bs k i)
+  owner_variable (free x) c f = refl
+  owner_variable (bound i) c f = go (reach bs k i)
     where
       go : Reach bs k i → owner_of_level d (see (level_from sc) k (bound i)) ≡ see (owner_of bs) k (bound i)
       go (within h e) = ap (owner_of_level d) (see_low (level_from sc) k i h) ∙ sym e
@@ -120,37 +120,37 @@ inner_add (own (binder b x)) m k n e = omega arith
 inner_add (slot z) m k n e = e
 
 module _ (d : ℕ) (sc bs : List ℕ) (long : length sc ≡ length bs + d) where
-  deep-label : (m k : ℕ) → m ≡ k + length sc → (l : Nameless) → ClosedLabel m l
+  deep_label_lem : (m k : ℕ) → m ≡ k + length sc → (l : Nameless) → ClosedLabel m l
       → deep_label d (with_variable (see (level_from sc) k) l) ≡ uses_label (with_variable (see (owner_of bs) k) l)
-  deep-label m k q (own (symbol n)) c = refl
-  deep-label m k q (own (variable v)) c = deep-variable d sc bs long k v (rw q at c)
-  deep-label m k q (own (application n)) c = refl
-  deep-label m k q (own (binder b x)) c = refl
-  deep-label m k q (slot z) c = refl
+  deep_label_lem m k q (own (symbol n)) c = refl
+  deep_label_lem m k q (own (variable v)) c = deep_variable d sc bs long k v (rw q at c)
+  deep_label_lem m k q (own (application n)) c = refl
+  deep_label_lem m k q (own (binder b x)) c = refl
+  deep_label_lem m k q (slot z) c = refl
 
-  level-label : (k : ℕ) (l : Nameless) → uses_label (with_variable (see (owner_of bs) k) l) ≡ false
+  level_label : (k : ℕ) (l : Nameless) → uses_label (with_variable (see (owner_of bs) k) l) ≡ false
       → with_variable (level_of_owner d) (with_variable (see (owner_of bs) k) l) ≡ with_variable (see (level_from sc) k) l
-  level-label k (own (symbol n)) f = refl
-  level-label k (own (variable v)) f = ap (λ (w : Seen ℕ). own (variable w)) (level-variable d sc bs long k v f)
-  level-label k (own (application n)) f = refl
-  level-label k (own (binder b x)) f = refl
-  level-label k (slot z) f = refl
+  level_label k (own (symbol n)) f = refl
+  level_label k (own (variable v)) f = ap (λ (w : Seen ℕ). own (variable w)) (level_variable d sc bs long k v f)
+  level_label k (own (application n)) f = refl
+  level_label k (own (binder b x)) f = refl
+  level_label k (slot z) f = refl
 
-  owner-label : (m k : ℕ) → m ≡ k + length sc → (l : Nameless) → ClosedLabel m l → uses_label (with_variable (see (owner_of bs) k) l) ≡ false
+  owner_label : (m k : ℕ) → m ≡ k + length sc → (l : Nameless) → ClosedLabel m l → uses_label (with_variable (see (owner_of bs) k) l) ≡ false
       → with_variable (owner_of_level d) (with_variable (see (level_from sc) k) l) ≡ with_variable (see (owner_of bs) k) l
-  owner-label m k q (own (symbol n)) c f = refl
-  owner-label m k q (own (variable v)) c f = ap (λ (w : Seen Owner). own (variable w)) (owner-variable d sc bs long k v (rw q at c) f)
-  owner-label m k q (own (application n)) c f = refl
-  owner-label m k q (own (binder b x)) c f = refl
-  owner-label m k q (slot z) c f = refl
+  owner_label m k q (own (symbol n)) c f = refl
+  owner_label m k q (own (variable v)) c f = ap (λ (w : Seen Owner). own (variable w)) (owner_variable d sc bs long k v (rw q at c) f)
+  owner_label m k q (own (application n)) c f = refl
+  owner_label m k q (own (binder b x)) c f = refl
+  owner_label m k q (slot z) c f = refl
 
-  deep-forest : (m k : ℕ) → m ≡ k + length sc → (u : Terms) → Closed m u
+  deep_forest : (m k : ℕ) → m ≡ k + length sc → (u : Terms) → Closed m u
       → deep d (view_under (level_from sc) k u) ≡ uses_face (view_under (owner_of bs) k u)
   unfolding deep
-  deep-forest m k q nil c = refl
-  deep-forest m k q (cons l b s) c =
-      ap₂ ◌||◌ (deep-label m k q l c.0)
-      (ap₂ ◌||◌ (deep-forest (inner l m) (inner l k) (inner_add l m k (length sc) q) b c.1) (deep-forest m k q s c.2))
+  deep_forest m k q nil c = refl
+  deep_forest m k q (cons l b s) c =
+      ap₂ ◌||◌ (deep_label_lem m k q l c.0)
+      (ap₂ ◌||◌ (deep_forest (inner l m) (inner l k) (inner_add l m k (length sc) q) b c.1) (deep_forest m k q s c.2))
 
   -- the parts of a forest that uses no binder of the face above it
   unused : (k : ℕ) (l : Nameless) (b s : Terms) → uses_face (view_under (owner_of bs) k (cons l b s)) ≡ false
@@ -163,24 +163,24 @@ module _ (d : ℕ) (sc bs : List ℕ) (long : length sc ≡ length bs + d) where
       let (x, y) = or-false (uses_face (view_under (owner_of bs) (inner l k) b)) (uses_face (view_under (owner_of bs) k s)) r in
       (p, x, y)
 
-  level-forest : (k : ℕ) (u : Terms) → uses_face (view_under (owner_of bs) k u) ≡ false
+  level_forest : (k : ℕ) (u : Terms) → uses_face (view_under (owner_of bs) k u) ≡ false
       → reseen (level_of_owner d) (view_under (owner_of bs) k u) ≡ view_under (level_from sc) k u
   unfolding reseen
-  level-forest k nil f = refl
-  level-forest k (cons l b s) f =
+  level_forest k nil f = refl
+  level_forest k (cons l b s) f =
       let (p, x, y) = unused k l b s f in
-      rw (level-label k l p, level-forest (inner l k) b x, level-forest k s y)
+      rw (level_label k l p, level_forest (inner l k) b x, level_forest k s y)
 
-  owner-forest : (m k : ℕ) → m ≡ k + length sc → (u : Terms) → Closed m u → uses_face (view_under (owner_of bs) k u) ≡ false
+  owner_forest : (m k : ℕ) → m ≡ k + length sc → (u : Terms) → Closed m u → uses_face (view_under (owner_of bs) k u) ≡ false
       → reseen (owner_of_level d) (view_under (level_from sc) k u) ≡ view_under (owner_of bs) k u
   unfolding reseen
-  owner-forest m k q nil c f = refl
-  owner-forest m k q (cons l b s) c f =
+  owner_forest m k q nil c f = refl
+  owner_forest m k q (cons l b s) c f =
       let (p, x, y) = unused k l b s f in
       rw (
-        owner-label m k q l c.0 p,
-        owner-forest (inner l m) (inner l k) (inner_add l m k (length sc) q) b c.1 x,
-        owner-forest m k q s c.2 y,
+        owner_label m k q l c.0 p,
+        owner_forest (inner l m) (inner l k) (inner_add l m k (length sc) q) b c.1 x,
+        owner_forest m k q s c.2 y,
       )
 
 -- Main theorem. Two subexpressions of a face, the first of which uses no binder of the face above it, are equal by owners just when they
@@ -192,15 +192,15 @@ equal_levels d sc bs sc' bs' t u a b c e f = (there, back)
   where
     there : Equal (owner_of bs) (owner_of bs') t u → Equal (level_from sc) (level_from sc') t u
     there h =
-        sym (level-forest d sc bs a 0 (one t) f) ∙ ap (reseen (level_of_owner d)) h
-        ∙ level-forest d sc' bs' b 0 (one u) (ap uses_face (sym h) ∙ f)
+        sym (level_forest d sc bs a 0 (one t) f) ∙ ap (reseen (level_of_owner d)) h
+        ∙ level_forest d sc' bs' b 0 (one u) (ap uses_face (sym h) ∙ f)
 
     back : Equal (level_from sc) (level_from sc') t u → Equal (owner_of bs) (owner_of bs') t u
     back h =
         let p : length sc ≡ 0 + length sc = omega arith in
         let q : length sc' ≡ 0 + length sc' = omega arith in
         let g : uses_face (view (owner_of bs') (one u)) ≡ false =
-        sym (deep-forest d sc' bs' b (length sc') 0 q (one u) e) ∙ ap (deep d) (sym h) ∙ deep-forest d sc bs a (length sc) 0 p (one t) c
+        sym (deep_forest d sc' bs' b (length sc') 0 q (one u) e) ∙ ap (deep d) (sym h) ∙ deep_forest d sc bs a (length sc) 0 p (one t) c
         ∙ f in
-        sym (owner-forest d sc bs a (length sc) 0 p (one t) c f) ∙ ap (reseen (owner_of_level d)) h
-        ∙ owner-forest d sc' bs' b (length sc') 0 q (one u) e g
+        sym (owner_forest d sc bs a (length sc) 0 p (one t) c f) ∙ ap (reseen (owner_of_level d)) h
+        ∙ owner_forest d sc' bs' b (length sc') 0 q (one u) e g

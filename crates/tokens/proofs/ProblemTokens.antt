@@ -17,7 +17,7 @@ use Rattle.meaning.specs.Readable.{Readable, WithinLimits}
 use Rattle.meaning.proofs.Lists.{all_append}
 use Rattle.tokens.specs.Token.{Table, token_of, tag_in, size_in, payload_in, payload_of, tokens, pattern_tokens, expression_tokens}
 use Rattle.tokens.specs.Key.{at}
-use Rattle.tokens.proofs.TokenParts.{tag-token, size-token, payload-token, tag_room, enter_room}
+use Rattle.tokens.proofs.TokenParts.{tag_token, size_token, payload_token, tag_room, enter_room}
 use Rattle.tokens.proofs.TokenParts.{tokens_length}
 use Rattle.meaning.proofs.Proper.{patterns_readable, expressions_readable}
 
@@ -53,13 +53,13 @@ token_at sc l c = token_of (tag_of l) (length sc) (suc (size c)) (payload_of sc 
 
 module _ (sc : List ℕ) (l : Named) (c : Forest Named) (room : length sc < 256) (small : suc (size c) < 65536) where
   pub tag_at : tag_in (token_at sc l c) ≡ tag_of l
-  tag_at = tag-token (tag_of l) (length sc) (suc (size c)) (payload_of sc l) (tag_room l) room small
+  tag_at = tag_token (tag_of l) (length sc) (suc (size c)) (payload_of sc l) (tag_room l) room small
 
-  pub size-at : size_in (token_at sc l c) ≡ suc (size c)
-  size-at = size-token (tag_of l) (length sc) (suc (size c)) (payload_of sc l) (tag_room l) room small
+  pub size_at_lem : size_in (token_at sc l c) ≡ suc (size c)
+  size_at_lem = size_token (tag_of l) (length sc) (suc (size c)) (payload_of sc l) (tag_room l) room small
 
-  pub payload-at : payload_in (token_at sc l c) ≡ payload_of sc l
-  payload-at = payload-token (tag_of l) (length sc) (suc (size c)) (payload_of sc l) (tag_room l) room small
+  pub payload_at : payload_in (token_at sc l c) ≡ payload_of sc l
+  payload_at = payload_token (tag_of l) (length sc) (suc (size c)) (payload_of sc l) (tag_room l) room small
 
 -- A forest that the table has room for
 pub record Room (levels : ℕ) (sc : List ℕ) (u : Forest Named) : Type 0 where
@@ -67,17 +67,17 @@ pub record Room (levels : ℕ) (sc : List ℕ) (u : Forest Named) : Type 0 where
   pub sizes : size u < 65536
 
 module _ (levels : ℕ) (sc : List ℕ) (l : Named) (c s : Forest Named) (h : Room (suc levels) sc (cons l c s)) where
-  pub room-depth : length sc < 256
-  room-depth = omega (arith, h.depths)
+  pub room_depth : length sc < 256
+  room_depth = omega (arith, h.depths)
 
-  pub room-size : suc (size c) < 65536
-  room-size = omega (arith, h.sizes)
+  pub room_size : suc (size c) < 65536
+  room_size = omega (arith, h.sizes)
 
-  pub room-below : Room levels (enter l sc) c
-  room-below = record { depths = omega (arith, h.depths, enter_room sc l); sizes = omega (arith, h.sizes) }
+  pub room_below : Room levels (enter l sc) c
+  room_below = record { depths = omega (arith, h.depths, enter_room sc l); sizes = omega (arith, h.sizes) }
 
-  pub room-later : Room (suc levels) sc s
-  room-later = record { depths = h.depths; sizes = omega (arith, h.sizes) }
+  pub room_later : Room (suc levels) sc s
+  room_later = record { depths = h.depths; sizes = omega (arith, h.sizes) }
 
 -- Each token counts itself
 tokens_counted : (levels : ℕ) (ctx : Context) (sc : List ℕ) (u : Forest Named) → Readable levels ctx u → Room levels sc u
@@ -86,10 +86,10 @@ unfolding tokens
 tokens_counted levels ctx sc nil r h = tt
 tokens_counted zero ctx sc (cons l c s) r h = absurd r
 tokens_counted (suc levels) ctx sc (cons l c s) r h = (
-  omega (arith, size-at sc l c (room-depth levels sc l c s h) (room-size levels sc l c s h)),
+  omega (arith, size_at_lem sc l c (room_depth levels sc l c s h) (room_size levels sc l c s h)),
   all_append (λ x. 1 ≤ size_in x) (tokens (enter l sc) c) (tokens sc s)
-      (tokens_counted levels (context_below l ctx) (enter l sc) c r.1 (room-below levels sc l c s h))
-      (tokens_counted (suc levels) ctx sc s r.2 (room-later levels sc l c s h)),
+      (tokens_counted levels (context_below l ctx) (enter l sc) c r.1 (room_below levels sc l c s h))
+      (tokens_counted (suc levels) ctx sc s r.2 (room_later levels sc l c s h)),
 )
 
 pub all_at : (P : ℕ → Type 0) (xs : List ℕ) → All P xs → (k : ℕ) → k < length xs → P (at xs k)
@@ -105,19 +105,19 @@ tokens_table levels ctx u r h =
     }
 
 module _ (p : Problem) (w : WithinLimits p) where
-  pub patterns-room : Room max_depth [] (named_patterns p)
+  pub patterns_room : Room max_depth [] (named_patterns p)
   unfolding max_depth
-  patterns-room = record { depths = omega arith; sizes = omega (arith, nodes_few p w) }
+  patterns_room = record { depths = omega arith; sizes = omega (arith, nodes_few p w) }
 
-  pub expressions-room : Room max_depth [] (named_expressions p)
+  pub expressions_room : Room max_depth [] (named_expressions p)
   unfolding max_depth
-  expressions-room = record { depths = omega arith; sizes = omega (arith, nodes_few p w) }
+  expressions_room = record { depths = omega arith; sizes = omega (arith, nodes_few p w) }
 
   -- The tables of a problem are what the walk wants
-  pub pattern-table : Table (pattern_tokens p)
+  pub pattern_table_lem : Table (pattern_tokens p)
   unfolding pattern_tokens
-  pattern-table = tokens_table max_depth in_pattern (named_patterns p) (patterns_readable p w) patterns-room
+  pattern_table_lem = tokens_table max_depth in_pattern (named_patterns p) (patterns_readable p w) patterns_room
 
-  pub expression-table : Table (expression_tokens p)
+  pub expression_table_lem : Table (expression_tokens p)
   unfolding expression_tokens
-  expression-table = tokens_table max_depth in_expression (named_expressions p) (expressions_readable p w) expressions-room
+  expression_table_lem = tokens_table max_depth in_expression (named_expressions p) (expressions_readable p w) expressions_room

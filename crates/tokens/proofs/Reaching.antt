@@ -23,8 +23,8 @@ use Rattle.meaning.specs.Readable.{NodeFits, Readable}
 use Rattle.meaning.proofs.ShiftLaws.{ltb_yes, ltb_no}
 use Rattle.tokens.specs.Token.{token_of, level_of, payload_of, tokens}
 use Rattle.tokens.specs.Key.{reaches, any_reaches}
-use Rattle.tokens.proofs.same.Laws.{reaches-no-variable, reaches_level}
-use Rattle.tokens.proofs.TokenParts.{tag-token, payload-token, enter_room}
+use Rattle.tokens.proofs.same.Laws.{reaches_no_variable, reaches_level}
+use Rattle.tokens.proofs.TokenParts.{tag_token, payload_token, enter_room}
 use Rattle.tokens.proofs.Levels.{Resolved, is_free, is_bound, resolved, enter_deep}
 
 -- A test of all variables of a forest, each with the number of the forest's binders above it
@@ -99,80 +99,80 @@ Told p d r = (k : ℕ) (sc : List ℕ) (x : ℕ) → length sc ≡ k + r → ltb
 module _ (p : ℕ → Variable → Bool) (d r : ℕ) (told : Told p d r) where
   module _ (e n : ℕ) (room : e < 256) (small : n < 65536) where
     other_reaches : (g q : ℕ) → g < 256 → (g ≡ 2 → ⊥) → reaches d r (token_of g e n q) ≡ false
-    other_reaches g q h m = reaches-no-variable d r (token_of g e n q) (λ z. m (sym (tag-token g e n q h room small) ∙ z))
+    other_reaches g q h m = reaches_no_variable d r (token_of g e n q) (λ z. m (sym (tag_token g e n q h room small) ∙ z))
 
     variable_reaches : (x level : ℕ) → x < 65536 → reaches d r (token_of 2 e n (x + 65536 * level)) ≡ ltb d level && leb level r
     variable_reaches x level h =
         let a : (x + 65536 * level) / 65536 ≡ level = omega arith in
         let q = x + 65536 * level in
-        reaches_level d r (token_of 2 e n q) (tag-token 2 e n q (omega arith) room small) level
-        (sym (ap (λ (i : ℕ). i / 65536) (payload-token 2 e n q (omega arith) room small) ∙ a))
+        reaches_level d r (token_of 2 e n q) (tag_token 2 e n q (omega arith) room small) level
+        (sym (ap (λ (i : ℕ). i / 65536) (payload_token 2 e n q (omega arith) room small) ∙ a))
 
-  pub label-reaches : (ctx : Context) (k : ℕ) (sc : List ℕ) (n : ℕ) → length sc ≡ k + r → length sc < 256 → n < 65536
+  pub label_reaches : (ctx : Context) (k : ℕ) (sc : List ℕ) (n : ℕ) → length sc ≡ k + r → length sc < 256 → n < 65536
       → (l : Named) (c : Forest Named)
       → NodeFits ctx l c → reaches d r (token_of (tag_of l) (length sc) n (payload_of sc l)) ≡ not (test_label p k (nameless_label sc l))
   unfolding payload_of test_label
-  label-reaches ctx k sc n deep room small (own (symbol m)) c f =
+  label_reaches ctx k sc n deep room small (own (symbol m)) c f =
       other_reaches (length sc) n room small 1 m (omega arith) (λ z. omega arith)
-  label-reaches ctx k sc n deep room small (own (variable x)) c f =
+  label_reaches ctx k sc n deep room small (own (variable x)) c f =
       variable_reaches (length sc) n room small x (level_of sc x) f.0 ∙ told k sc x deep
-  label-reaches ctx k sc n deep room small (own (application m)) c f =
+  label_reaches ctx k sc n deep room small (own (application m)) c f =
       other_reaches (length sc) n room small 3 m (omega arith) (λ z. omega arith)
-  label-reaches ctx k sc n deep room small (own (binder b x)) c f =
+  label_reaches ctx k sc n deep room small (own (binder b x)) c f =
       other_reaches (length sc) n room small 4 (b + 65536 * x) (omega arith) (λ z. omega arith)
-  label-reaches ctx k sc n deep room small (slot (metavariable m)) c f =
+  label_reaches ctx k sc n deep room small (slot (metavariable m)) c f =
       other_reaches (length sc) n room small 5 m (omega arith) (λ z. omega arith)
-  label-reaches ctx k sc n deep room small (slot (function g a)) c f =
+  label_reaches ctx k sc n deep room small (slot (function g a)) c f =
       other_reaches (length sc) n room small 6 g (omega arith) (λ z. omega arith)
-  label-reaches ctx k sc n deep room small (slot (hole i)) c f =
+  label_reaches ctx k sc n deep room small (slot (hole i)) c f =
       other_reaches (length sc) n room small 10 i (omega arith) (λ z. omega arith)
 
-  pub tokens-reach : (k levels : ℕ) (ctx : Context) (sc : List ℕ) (u : Forest Named) → length sc ≡ k + r → Readable levels ctx u
+  pub tokens_reach : (k levels : ℕ) (ctx : Context) (sc : List ℕ) (u : Forest Named) → length sc ≡ k + r → Readable levels ctx u
       → length sc + levels ≤ 256
       → size u < 65536 → any_reaches d r (tokens sc u) ≡ not (all_variables p k (nameless sc u))
   unfolding tokens any_reaches all_variables
-  tokens-reach k levels ctx sc nil deep f room small = refl
-  tokens-reach k zero ctx sc (cons l c s) deep f room small = absurd f
-  tokens-reach k (suc levels) ctx sc (cons l c s) deep f room small =
-      let el = label-reaches ctx k sc (suc (size c)) deep (omega arith) (omega arith) l c f.0 in
-      let ec = tokens-reach (inner (nameless_label sc l) k) levels (context_below l ctx) (enter l sc) c (enter_deep k r sc l deep) f.1
+  tokens_reach k levels ctx sc nil deep f room small = refl
+  tokens_reach k zero ctx sc (cons l c s) deep f room small = absurd f
+  tokens_reach k (suc levels) ctx sc (cons l c s) deep f room small =
+      let el = label_reaches ctx k sc (suc (size c)) deep (omega arith) (omega arith) l c f.0 in
+      let ec = tokens_reach (inner (nameless_label sc l) k) levels (context_below l ctx) (enter l sc) c (enter_deep k r sc l deep) f.1
       (omega (arith, enter_room sc l)) (omega arith) in
-      let es = tokens-reach k (suc levels) ctx sc s deep f.2 room (omega arith) in
+      let es = tokens_reach k (suc levels) ctx sc s deep f.2 room (omega arith) in
       ap₂ ◌||◌ el (any_append d r (tokens (enter l sc) c) (tokens sc s) ∙ ap₂ ◌||◌ ec es)
       ∙ not_all (test_label p k (nameless_label sc l)) (all_variables p (inner (nameless_label sc l) k) (nameless (enter l sc) c))
       (all_variables p k (nameless sc s))
 
 -- Whether a level lies between two depths, and whether an index belongs to one of the binders between
 module _ (d r level : ℕ) where
-  pub level-above : level ≤ d → ltb d level && leb level r ≡ false
-  level-above h = ap (λ (b : Bool). b && leb level r) (le-ltb d level h)
+  pub level_above : level ≤ d → ltb d level && leb level r ≡ false
+  level_above h = ap (λ (b : Bool). b && leb level r) (le-ltb d level h)
 
-  pub level-below : r < level → ltb d level && leb level r ≡ false
-  level-below h = ap (λ (b : Bool). ltb d level && b) (lt-leb level r h) ∙ and-false (ltb d level)
+  pub level_below : r < level → ltb d level && leb level r ≡ false
+  level_below h = ap (λ (b : Bool). ltb d level && b) (lt-leb level r h) ∙ and-false (ltb d level)
 
-  level-between : d < level → level ≤ r → ltb d level && leb level r ≡ true
-  level-between h g = ap₂ ◌&&◌ (lt-ltb d level h) (le-leb level r g)
+  level_between : d < level → level ≤ r → ltb d level && leb level r ≡ true
+  level_between h g = ap₂ ◌&&◌ (lt-ltb d level h) (le-leb level r g)
 
 module _ (n k j : ℕ) where
-  sinks-low : j < k → sinks n k (bound j) ≡ true
-  sinks-low h = rw (ltb_yes j k h)
+  sinks_low : j < k → sinks n k (bound j) ≡ true
+  sinks_low h = rw (ltb_yes j k h)
 
-  sinks-between : k ≤ j → j < k + n → sinks n k (bound j) ≡ false
-  sinks-between h g = rw (ltb_no j k h, ltb_yes j (k + n) g)
+  sinks_between : k ≤ j → j < k + n → sinks n k (bound j) ≡ false
+  sinks_between h g = rw (ltb_no j k h, ltb_yes j (k + n) g)
 
-  sinks-high : k + n ≤ j → sinks n k (bound j) ≡ true
-  sinks-high h = rw (ltb_no j k (omega arith), ltb_no j (k + n) h)
+  sinks_high : k + n ≤ j → sinks n k (bound j) ≡ true
+  sinks_high h = rw (ltb_no j k (omega arith), ltb_no j (k + n) h)
 
 pub told_closed : (r : ℕ) → Told is_closed_variable 0 r
 told_closed r k sc x deep = go (resolved sc 0 x)
   where
     split : (j : ℕ) → j < length sc → level_of sc x + j ≡ length sc → Dec (j < k)
         → ltb 0 (level_of sc x) && leb (level_of sc x) r ≡ not (ltb j k)
-    split j g q (yes y) = level-below 0 r (level_of sc x) (omega arith) ∙ sym (ap not (ltb_yes j k y))
-    split j g q (no y) = level-between 0 r (level_of sc x) (omega arith) (omega arith) ∙ sym (ap not (ltb_no j k (omega arith)))
+    split j g q (yes y) = level_below 0 r (level_of sc x) (omega arith) ∙ sym (ap not (ltb_yes j k y))
+    split j g q (no y) = level_between 0 r (level_of sc x) (omega arith) (omega arith) ∙ sym (ap not (ltb_no j k (omega arith)))
 
     go : Resolved sc 0 x → ltb 0 (level_of sc x) && leb (level_of sc x) r ≡ not (is_closed_variable k (resolve sc 0 x))
-    go (is_free a q) = level-above 0 r (level_of sc x) (omega arith) ∙ sym (ap (λ (v : Variable). not (is_closed_variable k v)) a)
+    go (is_free a q) = level_above 0 r (level_of sc x) (omega arith) ∙ sym (ap (λ (v : Variable). not (is_closed_variable k v)) a)
     go (is_bound j g a q) =
         let z : 0 + j ≡ j = omega arith in
         split j g q (dec_lt j k) ∙ sym (ap (λ (v : Variable). not (is_closed_variable k v)) (a ∙ ap bound z))
@@ -182,13 +182,13 @@ told_sinks d r k sc x deep = go (resolved sc 0 x)
   where
     split : (j : ℕ) → j < length sc → level_of sc x + j ≡ length sc → Dec (j < k) → Dec (j < k + (r - d))
         → ltb d (level_of sc x) && leb (level_of sc x) r ≡ not (sinks (r - d) k (bound j))
-    split j g q (yes y) w = level-below d r (level_of sc x) (omega arith) ∙ sym (ap not (sinks-low (r - d) k j y))
+    split j g q (yes y) w = level_below d r (level_of sc x) (omega arith) ∙ sym (ap not (sinks_low (r - d) k j y))
     split j g q (no y) (yes w) =
-        level-between d r (level_of sc x) (omega arith) (omega arith) ∙ sym (ap not (sinks-between (r - d) k j (omega arith) w))
-    split j g q (no y) (no w) = level-above d r (level_of sc x) (omega arith) ∙ sym (ap not (sinks-high (r - d) k j (omega arith)))
+        level_between d r (level_of sc x) (omega arith) (omega arith) ∙ sym (ap not (sinks_between (r - d) k j (omega arith) w))
+    split j g q (no y) (no w) = level_above d r (level_of sc x) (omega arith) ∙ sym (ap not (sinks_high (r - d) k j (omega arith)))
 
     go : Resolved sc 0 x → ltb d (level_of sc x) && leb (level_of sc x) r ≡ not (sinks (r - d) k (resolve sc 0 x))
-    go (is_free a q) = level-above d r (level_of sc x) (omega arith) ∙ sym (ap (λ (v : Variable). not (sinks (r - d) k v)) a)
+    go (is_free a q) = level_above d r (level_of sc x) (omega arith) ∙ sym (ap (λ (v : Variable). not (sinks (r - d) k v)) a)
     go (is_bound j g a q) =
         let z : 0 + j ≡ j = omega arith in
         split j g q (dec_lt j k) (dec_lt j (k + (r - d))) ∙ sym (ap (λ (v : Variable). not (sinks (r - d) k v)) (a ∙ ap bound z))
@@ -204,4 +204,4 @@ pub closed_token : (r k : ℕ) (ctx : Context) (sc : List ℕ) (n : ℕ) → len
     → (l : Named) (c : Forest Named)
     → NodeFits ctx l c → reaches 0 r (token_of (tag_of l) (length sc) n (payload_of sc l)) ≡ not (is_closed_label k (nameless_label sc l))
 closed_token r k ctx sc n deep room small l c f =
-    label-reaches is_closed_variable 0 r (told_closed r) ctx k sc n deep room small l c f ∙ sym (ap not (closed_label_lem k (nameless_label sc l)))
+    label_reaches is_closed_variable 0 r (told_closed r) ctx k sc n deep room small l c f ∙ sym (ap not (closed_label_lem k (nameless_label sc l)))

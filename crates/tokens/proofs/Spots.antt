@@ -153,8 +153,8 @@ tokens_under (suc levels) ctx sc (cons l c s) r room = (
 
 module _ (levels : ℕ) (ctx : Context) (sc : List ℕ) (u : Forest Named) (r : Readable levels ctx u) (room : length sc + levels ≤ 256)
     (table : List ℕ) (n : ℕ) (rest : List ℕ) (is : drop n table ≡ tokens sc u ++ rest) where
-  pub forest-deep : (y : ℕ) → n ≤ y → y < n + size u → length sc ≤ depth_at table y
-  forest-deep y p q =
+  pub forest_deep : (y : ℕ) → n ≤ y → y < n + size u → length sc ≤ depth_at table y
+  forest_deep y p q =
       let i : n + (y - n) ≡ y = omega arith in
       let j : y - n < length (tokens sc u) = omega (arith, tokens_length sc u) in
       let e : at (tokens sc u) (y - n) ≡ at table y =
@@ -187,7 +187,7 @@ spot d (suc levels) ctx sc bs n (cons l c s) rest table a zero w h r room deep i
       term = refl;
       chain =
           longer d table n n a (suc a) bs (omega arith)
-          (λ y p q. omega (arith, deep, forest-deep (suc levels) ctx sc (cons l c s) r room table n rest is y p (omega arith))) up;
+          (λ y p q. omega (arith, deep, forest_deep (suc levels) ctx sc (cons l c s) r room table n rest is y p (omega arith))) up;
     }
 spot d (suc levels) ctx sc bs n (cons l c s) rest table a (suc i) w h r room deep is up =
     go (dec_lt i (size c))
@@ -209,7 +209,7 @@ spot d (suc levels) ctx sc bs n (cons l c s) rest table a (suc i) w h r room dee
     same = relabel_size enter nameless_label (enter l sc) c
 
     around : (y : ℕ) → n ≤ y → y < n + size (cons l c s) → length bs + d ≤ depth_at table y
-    around y p q = omega (arith, deep, forest-deep (suc levels) ctx sc (cons l c s) r room table n rest is y p q)
+    around y p q = omega (arith, deep, forest_deep (suc levels) ctx sc (cons l c s) r room table n rest is y p q)
 
     inner_is : drop (suc n) table ≡ tokens (enter l sc) c ++ (tokens sc s ++ rest)
     inner_is =

@@ -16,18 +16,18 @@ pub depth_token : (g e n p : ℕ) → g < 256 → e < 256 → depth_in (token_of
 depth_token g e n p hg he = omega arith
 
 module _ (g e n p : ℕ) (hg : g < 256) (he : e < 256) (hn : n < 65536) where
-  pub tag-token : tag_in (token_of g e n p) ≡ g
-  tag-token = omega arith
+  pub tag_token : tag_in (token_of g e n p) ≡ g
+  tag_token = omega arith
 
-  pub size-token : size_in (token_of g e n p) ≡ n
-  size-token = omega arith
+  pub size_token : size_in (token_of g e n p) ≡ n
+  size_token = omega arith
 
-  pub payload-token : payload_in (token_of g e n p) ≡ p
-  payload-token = omega arith
+  pub payload_token : payload_in (token_of g e n p) ≡ p
+  payload_token = omega arith
 
-  pub key-token : (d : ℕ) → key_of d (token_of g e n p) ≡ g + 256 * key_of_payload d g e p
+  pub key_token : (d : ℕ) → key_of d (token_of g e n p) ≡ g + 256 * key_of_payload d g e p
   unfolding key_of
-  key-token d = cc (tag-token, depth_token g e n p hg he, payload-token)
+  key_token d = cc (tag_token, depth_token g e n p hg he, payload_token)
 
 -- The tokens of a forest
 pub tokens_length : (sc : List ℕ) (u : Forest Named) → length (tokens sc u) ≡ size u

@@ -3,6 +3,8 @@
 //     KIND HEX LABEL
 // where KIND is P for a problem, and T, E, B for a pattern, an expression, a body by itself; HEX is the input's bytes, two upper-case
 // digits for each; and one space stands between the parts. Any other line is printed as a bad one.
+#![tactic(auto)]
+
 mod answer;
 mod line;
 

@@ -7,6 +7,8 @@
 //     H   the same, where it is handed over and back by value
 //     R   a list of calls, made by one function: TEXT is their allowances (see `held::list`)
 // Any other line is printed as a bad line.
+#![tactic(auto)]
+
 mod line;
 mod written;
 

@@ -7,6 +7,8 @@
 //     N   two nodes of the problem's expressions are compared: TEXT is their numbers (see `pair`)
 //     A   all nodes of the problem's expressions are numbered (see `numbered`); TEXT is empty
 // Any other line is printed as a bad line.
+#![tactic(auto)]
+
 mod line;
 mod numbered;
 mod pair;

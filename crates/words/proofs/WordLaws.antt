@@ -132,8 +132,8 @@ abbrev pub Stored : ℕ → List ℕ → List ℕ → ℕ → List ℕ → Type 
 Stored start ms before k now = PutWords start (k * word_count) (each words_of (take k ms)) before now
 
 module _ (start : ℕ) (ms before : List ℕ) (long : length ms ≡ max_functions) where
-  pub stored-none : Stored start ms before 0 before
-  stored-none = let far : start + 0 * word_count ≡ start = omega arith in rw far (nothing_put start before)
+  pub stored_none : Stored start ms before 0 before
+  stored_none = let far : start + 0 * word_count ≡ start = omega arith in rw far (nothing_put start before)
 
   pub stored_more : (k : ℕ) (mid now : List ℕ) → k < max_functions → start + row_words ≤ length before → Stored start ms before k mid
       → PutWords (start + k * word_count) word_count (words_of (get_or ms k 0)) mid now → Stored start ms before (k + 1) now
@@ -154,8 +154,8 @@ module _ (start : ℕ) (ms before : List ℕ) (long : length ms ≡ max_function
       (append_assoc (take start before) (each words_of (take k ms)) (words_of (get_or ms k 0))
       ∙ ap (λ (w : List ℕ). take start before ++ w) (sym words))
 
-  pub stored-all : (k : ℕ) (now : List ℕ) → k ≡ max_functions → Stored start ms before k now → PutRow start ms before now
-  stored-all k now e h = record {
+  pub stored_all : (k : ℕ) (now : List ℕ) → k ≡ max_functions → Stored start ms before k now → PutRow start ms before now
+  stored_all k now e h = record {
     long = length_each ms ∙ ap (λ (n : ℕ). n * word_count) long;
     put =
         h
@@ -187,28 +187,28 @@ unfolding place_of_words
 too_few words h = choose_false _ _ (lt-leb place_words (length words) h)
 
 module _ (words : List ℕ) (long : place_words ≤ length words) where
-  with-last : (last : ℕ) → get_or words row_words 0 ≡ last → place_of_words words ≡ value_with (masks_from max_functions words) last
+  with_last : (last : ℕ) → get_or words row_words 0 ≡ last → place_of_words words ≡ value_with (masks_from max_functions words) last
   unfolding place_of_words
-  with-last last e = choose_true _ _ (le-leb place_words (length words) long) ∙ ap (value_with (masks_from max_functions words)) e
+  with_last last e = choose_true _ _ (le-leb place_words (length words) long) ∙ ap (value_with (masks_from max_functions words)) e
 
   pub row_read : (masks : List ℕ) → masks ≡ masks_from max_functions words → get_or words row_words 0 ≡ 0
       → record { masks = masks; is_past = false } ≡ place_of_words words
   unfolding value_with
-  row_read masks m e = ap (λ (l : List ℕ). value_with l 0) m ∙ sym (with-last 0 e)
+  row_read masks m e = ap (λ (l : List ℕ). value_with l 0) m ∙ sym (with_last 0 e)
 
-  pub past-read : (masks : List ℕ) → masks ≡ masks_from max_functions words → get_or words row_words 0 ≡ 1
+  pub past_read : (masks : List ℕ) → masks ≡ masks_from max_functions words → get_or words row_words 0 ≡ 1
       → record { masks = masks; is_past = true } ≡ place_of_words words
   unfolding value_with
-  past-read masks m e = ap (λ (l : List ℕ). value_with l 1) m ∙ sym (with-last 1 e)
+  past_read masks m e = ap (λ (l : List ℕ). value_with l 1) m ∙ sym (with_last 1 e)
 
-  pub other-read : 1 < get_or words row_words 0 → place_of_words words ≡ nowhere
+  pub other_read : 1 < get_or words row_words 0 → place_of_words words ≡ nowhere
   unfolding value_with
-  other-read h = go (get_or words row_words 0) refl h
+  other_read h = go (get_or words row_words 0) refl h
     where
       go : (last : ℕ) → get_or words row_words 0 ≡ last → 1 < last → place_of_words words ≡ nowhere
       go zero e h = absurd (omega arith)
       go (suc zero) e h = absurd (omega arith)
-      go (suc (suc n)) e h = with-last (suc (suc n)) e
+      go (suc (suc n)) e h = with_last (suc (suc n)) e
 
 -- Too few words, or another last word, are "no such place"
 pub nowhere_named : (p : Problem) (place : Place Row) → Names p nowhere place → ⊥
@@ -264,7 +264,7 @@ placed_back words v h small =
     let sets : List ℕ = each words_of v.masks in
     let n : length sets ≡ row_words = length_each v.masks ∙ ap (λ (i : ℕ). i * word_count) h in
     let long : place_words ≤ length (sets ++ last) = omega (arith, length-append sets last, n) in
-    with-last (sets ++ last) long (last_word v.is_past) (get_or_at sets (last_word v.is_past) (drop place_words words) 0 row_words n)
+    with_last (sets ++ last) long (last_word v.is_past) (get_or_at sets (last_word v.is_past) (drop place_words words) 0 row_words n)
     ∙ ap (λ (l : List ℕ). value_with l (last_word v.is_past))
     (ap (λ (i : ℕ). masks_from i (sets ++ last)) (sym h) ∙ masks_back v.masks last small)
     ∙ back v.masks v.is_past

@@ -1,5 +1,7 @@
 // Rows and places in words. A row's are those of each function's node set; a place's are these, then 0 for a row or 1 for past the last. Any
 // words may be handed in: a place stands at their front.
+#![tactic(auto)]
+
 ghost use Rattle.std.specs.Prelude.{◌≡◌, ◌+◌, ◌≤◌, length, take, drop};
 ghost use Rattle.meaning.specs.Limits.{max_functions};
 ghost use Rattle.masks.specs.Sets.{mask, masks_in, word_count, words_of};

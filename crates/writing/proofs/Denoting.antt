@@ -25,18 +25,18 @@ use Rattle.meaning.specs.Text.{entry_of, face_node, term_at, written_body, writt
 use Rattle.meaning.specs.PlaceValue.{mask_of, masks_of}
 use Rattle.meaning.proofs.Lists.{by_test, choose_false, choose_true, is_in_mem, mem_is_in}
 use Rattle.meaning.proofs.Proper.{accepted_proper, applied_functions, plain_occurs}
-use Rattle.meaning.proofs.TextLaws.{copied, value-copied, written-value}
+use Rattle.meaning.proofs.TextLaws.{copied, value_copied, written_value_lem}
 use Rattle.masks.specs.Sets.{mask, masks_in}
 use Rattle.masks.specs.declared.NodeSet.{NodeSet}
 use Rattle.masks.proofs.Words.{masks_at}
 use Rattle.tokens.specs.Token.{expression_tokens, pattern_tokens}
 use Rattle.tokens.specs.Key.{at}
-use Rattle.tokens.proofs.KeyLaws.{stands-inside}
-use Rattle.tokens.proofs.ProblemTokens.{expression-table}
+use Rattle.tokens.proofs.KeyLaws.{stands_inside}
+use Rattle.tokens.proofs.ProblemTokens.{expression_table_lem}
 use Rattle.meaning.specs.Read.{in_expression}
 use Rattle.metavariables.specs.Survey.{Surveyed, count, has}
 use Rattle.metavariables.specs.declared.Occurring.{Occurring}
-use Rattle.metavariables.proofs.SurveyMeaning.{survey-functions, survey-plain}
+use Rattle.metavariables.proofs.SurveyMeaning.{survey_functions, survey_plain}
 use Rattle.faces.specs.First.{listed}
 use Rattle.faces.specs.declared.first.Firsts.{Firsts}
 use Rattle.sources.specs.Demand.{open_node}
@@ -44,7 +44,7 @@ use Rattle.sources.specs.declared.Sources.{Sources}
 use Rattle.sources.proofs.KeptMeaning.{node_of}
 use Rattle.numbers.specs.Tests.{Tests}
 use Rattle.fit.specs.Laid.{Laid}
-use Rattle.fit.proofs.Ranks.{first_at_lem, rank-at}
+use Rattle.fit.proofs.Ranks.{first_at_lem, rank_at_lem}
 use Rattle.fit.proofs.Functions.{function_at, laid_own}
 use Rattle.copying.specs.Copied as copying
 use Rattle.copying.specs.Copied.{TermIn}
@@ -70,11 +70,11 @@ module _ (p : Problem) (tests : Tests) (ps es ns : List ℕ) (o : Occurring) (fi
       applied_functions p (accepted_proper p l.accepted) m (is_in_mem m (applied (patterns p)) e)
 
   -- Each function has its place
-  pub plan-planned : Planned plan
-  plan-planned = record {
+  pub plan_planned : Planned plan
+  plan_planned = record {
     rank = λ m small e. (function_at p tests ns o.functions firsts own r i (count m o.functions) m
-        (rank-at p o.functions l.set m
-        (function_in_lem m (sym (survey-functions p l.accepted.within o survey m small) ∙ e)))).few;
+        (rank_at_lem p o.functions l.set m
+        (function_in_lem m (sym (survey_functions p l.accepted.within o survey m small) ∙ e)))).few;
   }
 
   -- "A function's face is that of its first application": its node is looked up at the function's rank
@@ -92,8 +92,8 @@ module _ (p : Problem) (tests : Tests) (ps es ns : List ℕ) (o : Occurring) (fi
     unfolding entry_of
     body_entry =
         let (first, small) = first_at_lem p l.found (functions p) (listed firsts) k m l.nodes
-        (rank-at p o.functions l.set m (function_in_lem m e)) in
-        let a = function_at p tests ns o.functions firsts own r i k m (rank-at p o.functions l.set m (function_in_lem m e)) in
+        (rank_at_lem p o.functions l.set m (function_in_lem m e)) in
+        let a = function_at p tests ns o.functions firsts own r i k m (rank_at_lem p o.functions l.set m (function_in_lem m e)) in
         let node : face_node (first_face m (or_none (faces p))) ≡ at firsts.nodes k =
         ap (λ (x : Option (List Face)). face_node (first_face m (or_none x))) l.agree ∙ ap face_node first.is_first ∙ sym first.node
         ∙ get_or-take firsts.count firsts.nodes k 0 a.place in
@@ -103,7 +103,7 @@ module _ (p : Problem) (tests : Tests) (ps es ns : List ℕ) (o : Occurring) (fi
     body_denotes : Denotes (expression_tokens p) (body_at plan k) (entry_of p r m)
     unfolding body_at
     body_denotes =
-        let a = function_at p tests ns o.functions firsts own r i k m (rank-at p o.functions l.set m (function_in_lem m e)) in
+        let a = function_at p tests ns o.functions firsts own r i k m (rank_at_lem p o.functions l.set m (function_in_lem m e)) in
         let c = copied p (at firsts.nodes k) (face_of p m) a.face in
         let same : mask (get_or sets k (record { w0 = 0; w1 = 0; w2 = 0; w3 = 0 })) ≡ mask_of max_face_nodes marks =
         masks_at sets k ∙ ap (λ (row : List ℕ). at row k) masks ∙ a.mask in
@@ -128,7 +128,7 @@ module _ (p : Problem) (tests : Tests) (ps es ns : List ℕ) (o : Occurring) (fi
     no_function a = true≢false (sym (mem_is_in m (applied (patterns p)) a) ∙ f)
 
     value_entry_lem : entry_of p r m ≡ written_value p (lookup m (sources p r))
-    value_entry_lem = written-value p r l.accepted solved m no_function
+    value_entry_lem = written_value_lem p r l.accepted solved m no_function
 
     value_denotes : Denotes (expression_tokens p) (value_at plan m) (entry_of p r m)
     unfolding value_at
@@ -143,27 +143,27 @@ module _ (p : Problem) (tests : Tests) (ps es ns : List ℕ) (o : Occurring) (fi
             let node : at kept.nodes m ≡ s.node = source m small ∙ ap node_of e in
             let there : TermIn (expression_tokens p) s.node (term_at p s.node) =
             expression_in p l.accepted.within s.node (term_at p s.node)
-            (value-copied p r l.accepted solved m s (plain_occurs p (accepted_proper p l.accepted) m
+            (value_copied p r l.accepted solved m s (plain_occurs p (accepted_proper p l.accepted) m
             (is_in_mem m (plain (patterns p)) q)) no_function (is_in_mem m (plain (patterns p)) q) e).1.there in
-            let inside = stands-inside there.levels in_expression (expression_tokens p) s.node there.scope (term_at p s.node)
+            let inside = stands_inside there.levels in_expression (expression_tokens p) s.node there.scope (term_at p s.node)
             there.held there.stands in
-            let few = (expression-table p l.accepted.within).small in
+            let few = (expression_table_lem p l.accepted.within).small in
             subst (λ (y : Entry). Denotes (expression_tokens p) y (entry_of p r m))
             (sym (choose_false _ _ (ne_eqb (at kept.nodes m) open_node (λ z. omega (arith, inside.starts))) ∙ ap entries.Value node))
             (term_at p s.node, there, value_entry_lem ∙ ap (written_value p) e)
 
   -- THE PLAN DENOTES THE ENTRIES OF THE TEXT
-  pub plan-denotes : DenotesAll (expression_tokens p) plan (entry_or p r)
+  pub plan_denotes : DenotesAll (expression_tokens p) plan (entry_or p r)
   unfolding entry_at
-  plan-denotes m small =
+  plan_denotes m small =
       by_test (is_function p m) (λ f. as_function f)
       (λ f. by_test (is_plain p m) (λ q. as_plain f q) (λ q. as_absent f q))
     where
       told_function : has o.functions m ≡ is_function p m
-      told_function = survey-functions p l.accepted.within o survey m small
+      told_function = survey_functions p l.accepted.within o survey m small
 
       told_plain : has o.plain m ≡ is_plain p m
-      told_plain = survey-plain p l.accepted.within o survey m small
+      told_plain = survey_plain p l.accepted.within o survey m small
 
       moved : (x : Entry) (e : meant.Entry NamedTerm) → entry_at plan m ≡ x → entry_or p r m ≡ e → Denotes (expression_tokens p) x e
           → Denotes (expression_tokens p) (entry_at plan m) (entry_or p r m)

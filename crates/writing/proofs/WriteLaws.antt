@@ -24,13 +24,13 @@ use Rattle.meaning.proofs.SecondDemand.{text_fits}
 use Rattle.meaning.proofs.Solutions.{solves_is_right}
 use Rattle.masks.specs.Sets.{masks_in}
 use Rattle.tokens.specs.Token.{Table}
-use Rattle.tokens.proofs.ProblemTokens.{expression-table}
+use Rattle.tokens.proofs.ProblemTokens.{expression_table_lem}
 use Rattle.faces.specs.declared.first.Firsts.{Firsts}
 use Rattle.accept.specs.declared.Standing.{Standing}
 use Rattle.accept.specs.declared.Verdict.TheVariants as verdicts
 use Rattle.prepare.specs.Prepared.{Prepares, Ready}
 use Rattle.prepare.specs.declared.Prepared.{Prepared}
-use Rattle.prepare.proofs.PreparedLaws.{prepared_accepted, prepared_refused, ready-numbers, ready-rows}
+use Rattle.prepare.proofs.PreparedLaws.{prepared_accepted, prepared_refused, ready_numbers, ready_rows}
 use Rattle.places.specs.Places.{AtPast, Tells, value_of}
 use Rattle.places.specs.declared.Named.{Named}
 use Rattle.places.specs.declared.Named.TheVariants as named
@@ -44,7 +44,7 @@ use Rattle.fit.specs.declared.Judged.{Judged}
 use Rattle.fit.proofs.Meaning.{Judgement, judge_means}
 use Rattle.fit.proofs.Readiness.{laid_ready}
 use Rattle.search.specs.Calling.{Callable, RowThere}
-use Rattle.search.proofs.CallLaws.{TellsThere, ready-laid}
+use Rattle.search.proofs.CallLaws.{TellsThere, ready_laid}
 use Rattle.composing.specs.Entries.{DenotesAll, fields_of}
 use Rattle.writing.specs.Writing.{NamedWritten, RowCallable, RowWritten, TextAnswer, TextWritten, Writes}
 use Rattle.composing.specs.Composing.{FieldsWritten, TextMeasured, Writable}
@@ -52,17 +52,17 @@ use Rattle.composing.specs.declared.entry.Plan.{Plan}
 use Rattle.copying.specs.declared.Written.{Written}
 use Rattle.copying.specs.declared.Written.TheVariants as answers
 use Rattle.composing.proofs.FieldLaws.{entry_or, row_fields}
-use Rattle.writing.proofs.Denoting.{plan-denotes, plan-planned}
+use Rattle.writing.proofs.Denoting.{plan_denotes, plan_planned}
 
 -- "18 buffer too short", or the text
 module _ {es : List ℕ} {plan : Plan} where
-  pub text-short : {before : Bytes} {n : ℕ} → TextMeasured es plan n → length before < n
+  pub text_short : {before : Bytes} {n : ℕ} → TextMeasured es plan n → length before < n
       → TextWritten es plan before before (answers.Refused 18)
-  text-short h l = record { answer = λ says d. (refl, omega (arith, h.measured says d), refl) }
+  text_short h l = record { answer = λ says d. (refl, omega (arith, h.measured says d), refl) }
 
-  pub text-written : {before after : Bytes} {n r : ℕ} → TextMeasured es plan n → n ≤ length before → FieldsWritten es plan 0 before after r
+  pub text_written : {before after : Bytes} {n r : ℕ} → TextMeasured es plan n → n ≤ length before → FieldsWritten es plan 0 before after r
       → TextWritten es plan before after (answers.Wrote n)
-  text-written {before} h l f = record {
+  text_written {before} h l f = record {
     answer = λ says d.
         let e = h.measured says d in
         let (c, b) = f.wrote says d in
@@ -88,20 +88,20 @@ module _ (s : Bytes) (ps es ns fs : List ℕ) (a : Standing) (firsts : Firsts) (
   fs' = take a.faces fs
 
   laid : Laid p (told ns') ps' es' fs' a.occurring.functions firsts
-  laid = ready-laid s ps es ns fs a firsts ready h.some_rows
+  laid = ready_laid s ps es ns fs a firsts ready h.some_rows
 
   is_named : (r : Row) × (r ∈ rows p) × (masks_in row.sets ≡ masks_of r) × Names p (value_of row) (at r)
   is_named =
-      row_named p es' ns' firsts a.rows ready.laid.has_rows (ready-rows (accept s) ps es ns fs a firsts ready) row h
+      row_named p es' ns' firsts a.rows ready.laid.has_rows (ready_rows (accept s) ps es ns fs a firsts ready) row h
 
   abbrev row_of : RowOf p (masks_in row.sets)
   row_of = record { choices = is_named.0; is_row = is_named.1; masks = is_named.2 }
 
   -- What `judge` requires
-  pub row-ready : (scratch : List ℕ) → length ps ≤ length scratch
+  pub row_ready : (scratch : List ℕ) → length ps ≤ length scratch
       → fit.Ready ps' es' ns' fs' a.occurring.functions firsts (masks_in row.sets) scratch
-  row-ready scratch room =
-      laid_ready p ps' es' ns' fs' a.occurring.functions firsts laid (ready-numbers (accept s) ps es ns fs a firsts ready)
+  row_ready scratch room =
+      laid_ready p ps' es' ns' fs' a.occurring.functions firsts laid (ready_numbers (accept s) ps es ns fs a firsts ready)
       (masks_in row.sets) row_of scratch
       (omega (arith, length-take-le a.patterns ps ready.laid.patterns_inside, ready.laid.patterns_inside))
 
@@ -129,16 +129,16 @@ module _ (s : Bytes) (ps es ns fs : List ℕ) (a : Standing) (firsts : Firsts) (
       denotes : DenotesAll es' plan_of (entry_or p is_named.0)
       denotes =
           subst (λ (t : List ℕ). DenotesAll t plan_of (entry_or p is_named.0)) (sym ready.laid.expressions)
-          (plan-denotes p (told ns') ps' es' fs' a.occurring firsts laid ready.laid.survey is_named.0 is_named.1 solved
+          (plan_denotes p (told ns') ps' es' fs' a.occurring firsts laid ready.laid.survey is_named.0 is_named.1 solved
           row.sets is_named.2 judged.sources (judgement.source e))
 
       -- What `write_text` requires
       pub row_writable : Writable es' plan_of
       unfolding largest_text
       row_writable = record {
-        table = subst Table (sym ready.laid.expressions) (expression-table p ready.laid.accepted.within);
+        table = subst Table (sym ready.laid.expressions) (expression_table_lem p ready.laid.accepted.within);
         planned =
-            plan-planned p (told ns') ps' es' fs' a.occurring firsts laid ready.laid.survey is_named.0 is_named.1 solved
+            plan_planned p (told ns') ps' es' fs' a.occurring firsts laid ready.laid.survey is_named.0 is_named.1 solved
             row.sets is_named.2 judged.sources (judgement.source e);
         says = entry_or p is_named.0;
         denotes = denotes;
@@ -172,11 +172,11 @@ abbrev pub plan_with : Standing → Firsts → Place → Judged → Plan
 plan_with a firsts row judged = record { occurring = a.occurring; nodes = firsts.nodes; row = row.sets; sources = judged.sources }
 
 module _ {ps es ns fs : List ℕ} {a : Standing} {firsts : Firsts} {row : Place} where
-  pub row-judgeable : {scratch : List ℕ} → RowCallable ps es ns fs a firsts row scratch
+  pub row_judgeable : {scratch : List ℕ} → RowCallable ps es ns fs a firsts row scratch
       → fit.Ready (take a.patterns ps) (take a.expressions es) (take a.expressions ns) (take a.faces fs) a.occurring.functions
       firsts (masks_in row.sets) scratch
-  row-judgeable {scratch} h =
-      row-ready h.callable.bytes ps es ns fs a firsts h.callable.ready row h.is_row scratch h.callable.room
+  row_judgeable {scratch} h =
+      row_ready h.callable.bytes ps es ns fs a firsts h.callable.ready row h.is_row scratch h.callable.room
 
   module _ (judged : Judged)
       (j : Judges
@@ -210,7 +210,7 @@ module _ {ps es ns fs : List ℕ} {a : Standing} {firsts : Firsts} {row : Place}
   no_row_lem s ready before f =
       on_accepted ready.problem ready.answer
       (no_such_row (λ r n. f (named_row ready.problem (take a.expressions es) (take a.expressions ns) firsts a.rows
-      ready.laid.has_rows (ready-rows (accept s) ps es ns fs a firsts ready) row r n)))
+      ready.laid.has_rows (ready_rows (accept s) ps es ns fs a firsts ready) row r n)))
 
   module _ (found : Named) (t : TellsThere es ns a firsts row found) where
     pub named_nothing : {before : Bytes} → found ≡ named.Nothing → NamedWritten ps es ns fs a firsts row before before (answers.Refused 16)
@@ -239,10 +239,10 @@ module _ {ps es ns fs : List ℕ} {a : Standing} {firsts : Firsts} {row : Place}
 
 -- The returns of `write`
 module _ (s ps es ns fs : List ℕ) (p : Prepared) (h : Prepares (accept s) ps es ns fs p) (row : Place) {before : Bytes} where
-  pub write-refused : {n : ℕ} → p.verdict ≡ verdicts.Refused n → Writes s row before before (answers.Refused n)
-  write-refused {n} e = not_accepted n (prepared_refused (accept s) ps es ns fs p n h e)
+  pub write_refused : {n : ℕ} → p.verdict ≡ verdicts.Refused n → Writes s row before before (answers.Refused n)
+  write_refused {n} e = not_accepted n (prepared_refused (accept s) ps es ns fs p n h e)
 
-  pub write-accepted : {after : Bytes} {a : Standing} {r : Written} → p.verdict ≡ verdicts.Accepted a
+  pub write_accepted : {after : Bytes} {a : Standing} {r : Written} → p.verdict ≡ verdicts.Accepted a
       → NamedWritten ps es ns fs a p.firsts row before after r
       → Writes s row before after r
-  write-accepted {a} e w = w.answer s (prepared_accepted (accept s) ps es ns fs p a h e)
+  write_accepted {a} e w = w.answer s (prepared_accepted (accept s) ps es ns fs p a h e)

@@ -1,2 +1,4 @@
 // Writing the text of a solution row.
+#![tactic(auto)]
+
 pub mod write;

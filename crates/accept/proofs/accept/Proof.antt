@@ -10,8 +10,8 @@ use Rattle.table.specs.Whole.{ProblemDone}
 use Rattle.table.specs.declared.answer.Read.{Read}
 use Rattle.table.specs.declared.answer.Read.TheVariants as answers
 use borrow.Author.Rules.{rules}
-use Rattle.accept.proofs.AcceptanceLaws.{AreBytes, are_bytes_lem, pattern-ready, expression-ready, few-tokens, patterns-inside}
-use Rattle.accept.proofs.AcceptanceLaws.{expressions-inside, accepts_refused, accepts-checked}
+use Rattle.accept.proofs.AcceptanceLaws.{AreBytes, are_bytes_lem, pattern_ready, expression_ready, few_tokens, patterns_inside_lem}
+use Rattle.accept.proofs.AcceptanceLaws.{expressions_inside_lem, accepts_refused, accepts_checked}
 use Rattle.accept.proofs.accept.Statement.{statement}
 use Rattle.accept.proofs.accept.Tie as tie
 
@@ -59,10 +59,10 @@ module _ (c : tie.After-p) where
   done = subst (λ (a : Read). ProblemDone (read_problem s) o p x y a) c.p.given.1 after.read.ensures
 
   pattern-inside : m ≤ length p
-  pattern-inside = patterns-inside s o p x y bytes m n k done
+  pattern-inside = patterns_inside_lem s o p x y bytes m n k done
 
-  expression-inside : n ≤ length y
-  expression-inside = expressions-inside s o p x y bytes m n k done
+  expression_inside : n ≤ length y
+  expression_inside = expressions_inside_lem s o p x y bytes m n k done
 
 read-requires : tie.Need-read-requires
 read-requires c κs = search rules
@@ -82,20 +82,20 @@ slice-aggregate-checked c =
     sym (length-take-le (m r) (p r) (pattern-inside r))
 
 slice-reshare-prefix-checked-2 : tie.Need-slice-reshare-prefix-checked-2
-slice-reshare-prefix-checked-2 c = expression-inside c.before.before
+slice-reshare-prefix-checked-2 c = expression_inside c.before.before
 
 slice-aggregate-checked-2 : tie.Need-slice-aggregate-checked-2
 slice-aggregate-checked-2 c =
     let r = c.before.before.before in
-    sym (length-take-le (n r) (y r) (expression-inside r))
+    sym (length-take-le (n r) (y r) (expression_inside r))
 
 checked-requires : tie.Need-checked-requires
 checked-requires c κs =
     let r = c.before.before.before.before in (
-      pattern-ready (s r) (o r) (p r) (x r) (y r) (bytes r) (m r) (n r) (k r) (done r),
+      pattern_ready (s r) (o r) (p r) (x r) (y r) (bytes r) (m r) (n r) (k r) (done r),
       (
-        expression-ready (s r) (o r) (p r) (x r) (y r) (bytes r) (m r) (n r) (k r) (done r),
-        omega (arith, few-tokens (s r) (o r) (p r) (x r) (y r) (bytes r) (m r) (n r) (k r) (done r), (start r).requires.faces),
+        expression_ready (s r) (o r) (p r) (x r) (y r) (bytes r) (m r) (n r) (k r) (done r),
+        omega (arith, few_tokens (s r) (o r) (p r) (x r) (y r) (bytes r) (m r) (n r) (k r) (done r), (start r).requires.faces),
       ),
     )
 
@@ -126,7 +126,7 @@ returns-2 : tie.Need-returns-2
 returns-2 c =
     let checked = c.before.before.checked in
     let r = c.before.before.before.before.before.before.before in
-    accepts-checked (s r) (o r) (p r) (x r) (y r) (bytes r) (m r) (n r) (k r) (done r) (start r).args.faces.now checked.new.1.1.0
+    accepts_checked (s r) (o r) (p r) (x r) (y r) (bytes r) (m r) (n r) (k r) (done r) (start r).args.faces.now checked.new.1.1.0
     checked.result checked.ensures
 
 pub accept-spec : {M : Type 1} → statement M

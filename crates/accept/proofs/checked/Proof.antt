@@ -1,6 +1,6 @@
 -- `checked` meets its contract: what `check` answers, with the survey and the counts beside it.
 use borrow.Author.Rules.{rules}
-use Rattle.accept.proofs.AcceptanceLaws.{checks-refused, checks_none, checks_faces}
+use Rattle.accept.proofs.AcceptanceLaws.{checks_refused, checks_none, checks_faces}
 use Rattle.accept.proofs.checked.Statement.{statement}
 use Rattle.accept.proofs.checked.Tie as tie
 
@@ -26,7 +26,7 @@ returns : tie.Need-returns
 returns c =
     let s = c.before.before.before.before.before.before.before.before.before.before.before.args in
     let found = c.before.before.before.before.before.before.check in
-    checks-refused s.ps.now s.es.now s.faces.now found.new.1.1.0 found.result found.ensures
+    checks_refused s.ps.now s.es.now s.faces.now found.new.1.1.0 found.result found.ensures
     c.before.found.given.0.0 c.before.found.given.1
 
 same-length-2 : tie.Need-same-length-2

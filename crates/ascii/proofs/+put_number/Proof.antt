@@ -2,8 +2,8 @@
 use borrow.Author.Rules.{rules}
 use native.Mathlib.Omega.{arith}
 use mathlib.Core.Path.{refl, sym}
-use Rattle.ascii.proofs.PutLaws.{put_none, put_one, put-till}
-use Rattle.ascii.proofs.DecimalLaws.{decimal-last, decimal-more, last-length, more-length}
+use Rattle.ascii.proofs.PutLaws.{put_none, put_one, put_till}
+use Rattle.ascii.proofs.DecimalLaws.{decimal_last, decimal_more, last_length, more_length}
 use Prim.Native.Nat.{ℕ, ◌+◌, ◌%◌, ◌<◌}
 use borrow.Fn.Kinds.{In}
 use borrow.Fn.PlainCycle.{Measures, is, falls, and}
@@ -42,7 +42,7 @@ put-number-slice-write-out : (t : ℕ) → put-number-lts.Need-slice-write-out (
   put-number-below t,
   put-number.Post,
 ) (put-number-at t) put-number.Post
-put-number-slice-write-out t c = let s = c.before.before in omega (arith, s.requires.1, last-length s.args.n c.if1.true)
+put-number-slice-write-out t c = let s = c.before.before in omega (arith, s.requires.1, last_length s.args.n c.if1.true)
 
 put-number-add-result : (t : ℕ) → put-number-lts.Need-overflow-add-result (
   put-number-below t,
@@ -64,8 +64,8 @@ put-number-returns :
     put-number.Post
 put-number-returns t c =
     let s = c.before.before in
-    put-till (put_one (put_none s.args.at s.args.out.now) (48 + s.args.n % 10) (put-number-slice-write-out t c))
-    (sym (decimal-last s.args.n c.if1.true))
+    put_till (put_one (put_none s.args.at s.args.out.now) (48 + s.args.n % 10) (put-number-slice-write-out t c))
+    (sym (decimal_last s.args.n c.if1.true))
     refl
 
 put-number-put-number-requires : (t : ℕ) → put-number-lts.Need-put-number-requires (
@@ -75,7 +75,7 @@ put-number-put-number-requires : (t : ℕ) → put-number-lts.Need-put-number-re
 put-number-put-number-requires t c κs =
     let other = c.before in
     let s = other.before.before in
-    (omega (arith, s.requires.0), omega (arith, s.requires.1, more-length s.args.n other.if1.false))
+    (omega (arith, s.requires.0), omega (arith, s.requires.1, more_length s.args.n other.if1.false))
 
 put-number-slice-write-out-2 : (t : ℕ) → put-number-lts.Need-slice-write-out-2 (
   put-number-below t,
@@ -85,7 +85,7 @@ put-number-slice-write-out-2 t c =
     let called = c.before.before in
     let other = called.before.before in
     let s = other.before.before in
-    omega (arith, s.requires.1, called.put-number.ensures.end, more-length s.args.n other.if1.false, called.put-number.auto)
+    omega (arith, s.requires.1, called.put-number.ensures.end, more_length s.args.n other.if1.false, called.put-number.auto)
 
 put-number-add-result-2 : (t : ℕ) → put-number-lts.Need-overflow-add-result-2 (
   put-number-below t,
@@ -105,8 +105,8 @@ put-number-returns-2 : (t : ℕ) → put-number-lts.Need-returns-2 (
 ) (put-number-at t) put-number.Post
 put-number-returns-2 t c =
     let s = c.before.before.before.before.before.before in
-    put-till (put_one c.before.before.put-number.ensures (48 + s.args.n % 10) (put-number-slice-write-out-2 t c))
-    (sym (decimal-more s.args.n c.before.before.before.before.if1.false))
+    put_till (put_one c.before.before.put-number.ensures (48 + s.args.n % 10) (put-number-slice-write-out-2 t c))
+    (sym (decimal_more s.args.n c.before.before.before.before.if1.false))
     refl
 
 pub +put-number-spec : {M : Type 1} → statement M

@@ -7,7 +7,7 @@ use mathlib.Core.List.{[], ◌∷◌}
 use lib.ListN.{length, get_or, take}
 use Rattle.meaning.specs.Program.{hexadecimal}
 use Rattle.ascii.specs.Put.{Put}
-use Rattle.ascii.proofs.PutLaws.{put_none, put-till, bytes_more, hexadecimal_none, hexadecimal_length}
+use Rattle.ascii.proofs.PutLaws.{put_none, put_till, bytes_more, hexadecimal_none, hexadecimal_length}
 use Rattle.ascii.proofs.put_bytes.Statement.{statement}
 use Rattle.ascii.proofs.put_bytes.Tie as tie
 
@@ -19,7 +19,7 @@ abbrev decreases-loop : tie.decreases-loop
 decreases-loop bytes n at out₀ end₀ i₀ out end i = n - i
 
 loop-holds : tie.Need-loop-init invariant-loop decreases-loop
-loop-holds c = (omega arith, refl, omega arith, put-till (put_none _ _) hexadecimal_none refl)
+loop-holds c = (omega arith, refl, omega arith, put_till (put_none _ _) hexadecimal_none refl)
 
 shared-slice-read-put-byte : tie.Need-shared-slice-read-put-byte invariant-loop decreases-loop
 shared-slice-read-put-byte c = search rules
@@ -51,7 +51,7 @@ returns : tie.Need-returns invariant-loop decreases-loop
 returns c =
     let loop = c.before.loop in
     let e : loop.i ≡ c.before.before.before.before.args.n = omega arith in
-    put-till loop.invariant.3 (ap (λ (n : ℕ). hexadecimal (take n c.before.before.before.before.args.bytes.now)) e) refl
+    put_till loop.invariant.3 (ap (λ (n : ℕ). hexadecimal (take n c.before.before.before.before.args.bytes.now)) e) refl
 
 pub put-bytes-spec : {M : Type 1} → statement M
 put-bytes-spec =

@@ -6,7 +6,7 @@ use mathlib.Core.Path.{◌≡◌, refl, ap, ◌∙◌}
 use lib.ListN.{length, get_or, take, length-set}
 use lib.Seq.{take-length}
 use Rattle.ascii.specs.Put.{Put}
-use Rattle.ascii.proofs.PutLaws.{put_none, put-till, word_more}
+use Rattle.ascii.proofs.PutLaws.{put_none, put_till, word_more}
 use Rattle.ascii.proofs.put_word.Statement.{statement}
 use Rattle.ascii.proofs.put_word.Tie as tie
 
@@ -17,7 +17,7 @@ abbrev decreases-loop : tie.decreases-loop
 decreases-loop word at out₀ i₀ out i = length word - i
 
 loop-holds : tie.Need-loop-init invariant-loop decreases-loop
-loop-holds c = (omega arith, refl, put-till (put_none _ _) refl (omega arith))
+loop-holds c = (omega arith, refl, put_till (put_none _ _) refl (omega arith))
 
 shared-slice-read-out : tie.Need-shared-slice-read-out invariant-loop decreases-loop
 shared-slice-read-out c = search rules
@@ -54,7 +54,7 @@ returns c =
     let loop = c.before.loop in
     let word = c.before.before.args.word.now in
     let e : loop.i ≡ length word = omega arith in
-    put-till loop.invariant.2 (ap (λ (n : ℕ). take n word) e ∙ take-length word) refl
+    put_till loop.invariant.2 (ap (λ (n : ℕ). take n word) e ∙ take-length word) refl
 
 pub put-word-spec : {M : Type 1} → statement M
 put-word-spec =

@@ -3,7 +3,7 @@ use mathlib.Core.Path.{sym, ◌∙◌}
 use Prim.Native.Nat.{◌-◌}
 use native.Mathlib.Omega.{arith}
 use Rattle.masks.specs.Sets.{mask}
-use Rattle.bodies.proofs.ClosedLaws.{Testing, size_counted, closed-begins, closed-ends, closed_passes, closed_goes_on, closed_stops}
+use Rattle.bodies.proofs.ClosedLaws.{Testing, size_counted, closed_begins, closed_ends, closed_passes, closed_goes_on, closed_stops}
 use borrow.Author.Rules.{rules}
 use Rattle.bodies.proofs.body_closed.Statement.{statement}
 use Rattle.bodies.proofs.body_closed.Tie as tie
@@ -29,7 +29,7 @@ depth-requires c κs = search rules
 loop-holds : tie.Need-loop-init invariant-loop decreases-loop
 loop-holds c =
     let s = c.before.before.before.before in
-    closed-begins (mask s.args.set) s.requires.0 s.requires.1 c.before.size.ensures c.depth.ensures
+    closed_begins (mask s.args.set) s.requires.0 s.requires.1 c.before.size.ensures c.depth.ensures
 
 add-x : tie.Need-overflow-add-x invariant-loop decreases-loop
 add-x c = search rules
@@ -85,7 +85,7 @@ loop-again-2 c =
     (sym c.before.reaches.ensures ∙ c.if2.false)
 
 returns-2 : tie.Need-returns-2 invariant-loop decreases-loop
-returns-2 c = closed-ends c.before.loop.invariant c.loop-test.false
+returns-2 c = closed_ends c.before.loop.invariant c.loop-test.false
 
 pub body-closed-spec : {M : Type 1} → statement M
 body-closed-spec =

@@ -1,7 +1,7 @@
 -- `bodies::hole_fits` meets its contract.
 use mathlib.Core.Path.{sym, ◌∙◌}
 use Rattle.numbers.specs.Tests.{told}
-use Rattle.bodies.proofs.SuitsLaws.{hole-uses, hole-same}
+use Rattle.bodies.proofs.SuitsLaws.{hole_uses, hole_same}
 use borrow.Author.Rules.{rules}
 use Rattle.bodies.proofs.hole_fits.Statement.{statement}
 use Rattle.bodies.proofs.hole_fits.Tie as tie
@@ -12,7 +12,7 @@ uses-requires c κs = search rules
 returns : tie.Need-returns
 returns c =
     let s = c.before.before.before.args in
-    hole-uses (told s.ns.now) s.e s.lowest s.node (sym c.before.uses.ensures ∙ c.if1.true)
+    hole_uses (told s.ns.now) s.e s.lowest s.node (sym c.before.uses.ensures ∙ c.if1.true)
 
 same-requires : tie.Need-same-requires
 same-requires c κs = search rules
@@ -20,7 +20,7 @@ same-requires c κs = search rules
 returns-2 : tie.Need-returns-2
 returns-2 c =
     let s = c.before.before.before.before.args in
-    c.same.ensures ∙ hole-same (told s.ns.now) s.e s.lowest s.node
+    c.same.ensures ∙ hole_same (told s.ns.now) s.e s.lowest s.node
     (sym c.before.before.uses.ensures ∙ c.before.if1.false)
 
 pub hole-fits-spec : {M : Type 1} → statement M

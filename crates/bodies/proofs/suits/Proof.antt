@@ -5,7 +5,7 @@ use native.Mathlib.Omega.{arith}
 use borrow.Author.Tests.{not-true, not-false}
 use Rattle.numbers.specs.Tests.{told}
 use Rattle.masks.specs.Sets.{mask}
-use Rattle.bodies.proofs.SuitsLaws.{lowest_room, Walking, suits-begins, suits-ends, suits_out, node_counted, lowest_inside}
+use Rattle.bodies.proofs.SuitsLaws.{lowest_room, Walking, suits_begins, suits_ends, suits_out, node_counted, lowest_inside}
 use Rattle.bodies.proofs.SuitsLaws.{hole_stops, hole_goes_on, node_stops, node_goes_on}
 use borrow.Author.Rules.{rules}
 use Rattle.bodies.proofs.suits.Statement.{statement}
@@ -49,7 +49,7 @@ add_low c =
 loop-holds : tie.Need-loop-init invariant-loop decreases-loop
 loop-holds c =
     let s = c.before.before.before.before.before.before.before.before in
-    suits-begins s.args.faced (mask s.args.set) s.requires.0 (s.requires.1.0 s.args.face s.requires.1.1.0)
+    suits_begins s.args.faced (mask s.args.set) s.requires.0 (s.requires.1.0 s.args.face s.requires.1.1.0)
     c.before.before.before.before.size.ensures
     c.before.before.before.depth.ensures c.before.depth2.ensures c.lowest.ensures
 
@@ -149,7 +149,7 @@ loop-again-2 c =
     (sym c.before.same-node.ensures ∙ not-false _ c.if4.false)
 
 returns-4 : tie.Need-returns-4 invariant-loop decreases-loop
-returns-4 c = suits-ends c.before.loop.invariant c.loop-test.false
+returns-4 c = suits_ends c.before.loop.invariant c.loop-test.false
 
 pub suits-spec : {M : Type 1} → statement M
 suits-spec =

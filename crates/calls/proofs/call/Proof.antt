@@ -2,7 +2,7 @@
 use mathlib.Core.Path.{refl}
 use borrow.Author.Rules.{rules}
 use Rattle.meaning.specs.Limits.{max_functions}
-use Rattle.calls.proofs.RunLaws.{call-found, call-end, call-paused, call-refused}
+use Rattle.calls.proofs.RunLaws.{call_found, call_end, call_paused, call_refused}
 use Rattle.calls.proofs.call.Statement.{statement}
 use Rattle.calls.proofs.call.Tie as tie
 
@@ -42,18 +42,18 @@ returns c =
     let told = c.before.before.before.before in
     let searched = told.before.before.before.before in
     let at = searched.before.before.before.before.args.at in
-    call-found _ at _ _ _ searched.search.ensures _ refl _ told.enum_told.given.1
+    call_found _ at _ _ _ searched.search.ensures _ refl _ told.enum_told.given.1
     c.before.before.put-row.ensures refl refl
 
 returns-2 : tie.Need-returns-2
-returns-2 c = call-end _ _ _ _ _ c.before.before.before.before.search.ensures _ refl c.enum-told2.given.1 refl refl
+returns-2 c = call_end _ _ _ _ _ c.before.before.before.before.search.ensures _ refl c.enum-told2.given.1 refl refl
 
 returns-3 : tie.Need-returns-3
-returns-3 c = call-paused _ _ _ _ _ c.before.before.before.before.search.ensures _ refl c.enum-told3.given.1 refl refl
+returns-3 c = call_paused _ _ _ _ _ c.before.before.before.before.search.ensures _ refl c.enum-told3.given.1 refl refl
 
 returns-4 : tie.Need-returns-4
 returns-4 c =
-    call-refused _ _ _ _ _ c.before.before.before.before.before.search.ensures _ refl _ c.before.answer.given.1 refl refl
+    call_refused _ _ _ _ _ c.before.before.before.before.before.search.ensures _ refl _ c.before.answer.given.1 refl refl
 
 pub call-spec : {M : Type 1} → statement M
 call-spec =

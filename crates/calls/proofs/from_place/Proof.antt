@@ -7,7 +7,7 @@ use lib.Seq.{length-take-le}
 use borrow.Author.Rules.{rules}
 use Rattle.meaning.specs.Limits.{max_functions}
 use Rattle.calls.specs.Running.{FromPlace}
-use Rattle.calls.proofs.RunLaws.{no_calls, few-found, next-call, all-calls}
+use Rattle.calls.proofs.RunLaws.{no_calls, few_found, next_call, all_calls}
 use Rattle.calls.proofs.from_place.Statement.{statement}
 use Rattle.calls.proofs.from_place.Tie as tie
 
@@ -35,7 +35,7 @@ call-requires c κs =
     omega (
       arith,
       start.requires,
-      few-found _ _ _ _ _ _ loop.invariant.2,
+      few_found _ _ _ _ _ _ loop.invariant.2,
       length-take-le loop.i start.args.allowances.now loop.invariant.0,
       loop.invariant.1,
       c.before.before.loop-test.true,
@@ -55,14 +55,14 @@ loop-again c =
     let long : length call.new.1.1.1.0 ≡ length loop.rows = search rules in (
       omega (arith, inside.loop-test.true),
       long ∙ loop.invariant.1,
-      next-call _ _ _ _ _ _ _ loop.invariant.2 _ _ inside.loop-test.true call.ensures,
+      next_call _ _ _ _ _ _ _ loop.invariant.2 _ _ inside.loop-test.true call.ensures,
     )
 
 same_length : tie.Need-same-length invariant-loop decreases-loop
 same_length c = search rules
 
 returns : tie.Need-returns invariant-loop decreases-loop
-returns c = all-calls _ _ _ _ _ c.before.loop.i _ c.before.loop.invariant.2 (omega (arith, c.loop-test.false))
+returns c = all_calls _ _ _ _ _ c.before.loop.i _ c.before.loop.invariant.2 (omega (arith, c.loop-test.false))
 
 pub from-place-spec : {M : Type 1} → statement M
 from-place-spec =

@@ -3,7 +3,7 @@ use mathlib.Core.Path.{refl}
 use native.Mathlib.Omega.{arith}
 use borrow.Author.Rules.{rules}
 use Rattle.accept.proofs.AcceptanceLaws.{are_bytes_lem}
-use Rattle.calls.proofs.RunLaws.{run-refused, run_begins}
+use Rattle.calls.proofs.RunLaws.{run_refused, run_begins}
 use Rattle.calls.proofs.run.Statement.{statement}
 use Rattle.calls.proofs.run.Tie as tie
 
@@ -21,7 +21,7 @@ from-place-requires c κs = c.before.before.before.before.before.before.before.b
 
 returns : tie.Need-returns
 returns c =
-    run-refused _ _ _ _ _ _ c.before.before.before.before.start.ensures c.before.answer.given.1 refl
+    run_refused _ _ _ _ _ _ c.before.before.before.before.start.ensures c.before.answer.given.1 refl
 
 same_length : tie.Need-same-length
 same_length c = search rules

@@ -3,7 +3,7 @@ use mathlib.Core.List.{[]}
 use native.Mathlib.Omega.{arith}
 use Rattle.accept.proofs.AcceptanceLaws.{are_bytes_lem}
 use Rattle.prepare.proofs.PreparedLaws.{fresh_rooms}
-use Rattle.checking.proofs.CheckLaws.{check_accepted, check_ground, check-refused}
+use Rattle.checking.proofs.CheckLaws.{check_accepted, check_ground, check_refused}
 use borrow.Author.Rules.{rules}
 use Rattle.checking.proofs.check.Statement.{statement}
 use Rattle.checking.proofs.check.Tie as tie
@@ -51,7 +51,7 @@ check-text-requires c κs =
 returns : tie.Need-returns
 returns c =
     let accept = c.before.before.before.before.before.before in
-    check-refused _ _ _ _ _ _ _ _ accept.accept.ensures _ c.before.verdict.given.1
+    check_refused _ _ _ _ _ _ _ _ accept.accept.ensures _ c.before.verdict.given.1
 
 returns-2 : tie.Need-returns-2
 returns-2 c =

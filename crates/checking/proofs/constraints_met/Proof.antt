@@ -1,13 +1,13 @@
 -- `constraints_met` meets its contract.
 use mathlib.Core.Path.{sym}
 use lib.Seq.{length-take-le}
-use Rattle.checking.proofs.CheckLaws.{met_filled, met_grounded, met-never}
+use Rattle.checking.proofs.CheckLaws.{met_filled, met_grounded, met_never}
 use borrow.Author.Rules.{rules}
 use Rattle.checking.proofs.constraints_met.Statement.{statement}
 use Rattle.checking.proofs.constraints_met.Tie as tie
 
 returns : tie.Need-returns
-returns c = met-never _ _ _ _ _ _ c.if1.true
+returns c = met_never _ _ _ _ _ _ c.if1.true
 
 slice-aggregate-filled : tie.Need-slice-aggregate-filled
 slice-aggregate-filled c =

@@ -1,5 +1,5 @@
 -- `fields_right` meets its contract: a law for each part of the decision.
-use Rattle.checking.proofs.CheckLaws.{fields-foreign, fields_kinds, fields_open}
+use Rattle.checking.proofs.CheckLaws.{fields_foreign, fields_kinds, fields_open}
 use borrow.Author.Rules.{rules}
 use Rattle.checking.proofs.fields_right.Statement.{statement}
 use Rattle.checking.proofs.fields_right.Tie as tie
@@ -8,7 +8,7 @@ known-requires : tie.Need-known-requires
 known-requires c κs = search rules
 
 returns : tie.Need-returns
-returns c = fields-foreign _ _ _ _ _ c.before.known.ensures c.if1.true
+returns c = fields_foreign _ _ _ _ _ c.before.known.ensures c.if1.true
 
 kinds-requires : tie.Need-kinds-requires
 kinds-requires c κs = search rules

@@ -1,7 +1,7 @@
 -- `passes` meets its contract: the fields, and then the constraints.
 use mathlib.Core.Path.{sym}
 use lib.Seq.{length-take-le}
-use Rattle.checking.proofs.CheckLaws.{decidable-told, passed_met, passed_never}
+use Rattle.checking.proofs.CheckLaws.{decidable_told, passed_met, passed_never}
 use borrow.Author.Rules.{rules}
 use Rattle.checking.proofs.passes.Statement.{statement}
 use Rattle.checking.proofs.passes.Tie as tie
@@ -14,7 +14,7 @@ slice-aggregate-fields-right c =
 fields-right-requires : tie.Need-fields-right-requires
 fields-right-requires c κs =
     let d = c.before.before.before.before.before.before.before.before.requires in
-    (d.problem, d.items, decidable-told _ _ _ _ _ _ _ _ d)
+    (d.problem, d.items, decidable_told _ _ _ _ _ _ _ _ d)
 
 returns : tie.Need-returns
 returns c = passed_never _ _ _ _ _ _ _ c.before.fields-right.ensures c.if1.true

@@ -4,7 +4,7 @@ use mathlib.Core.Path.{◌≡◌, sym, ◌∙◌, subst}
 use native.Mathlib.Omega.{arith}
 use Prim.Native.Nat.{suc, ◌+◌, ◌-◌, ◌≤◌, ◌<◌}
 use Rattle.choosing.specs.FaceNodes.{size_from}
-use Rattle.choosing.proofs.FillLaws.{Filling, filling-begun, filling_opened, filling_passed, filling-done}
+use Rattle.choosing.proofs.FillLaws.{Filling, filling_begun, filling_opened, filling_passed, filling_done}
 use Rattle.choosing.proofs.fill.Statement.{statement}
 use Rattle.choosing.proofs.fill.Tie as tie
 
@@ -29,7 +29,7 @@ loop-holds c =
     let ns = s.args.ns.now in
     let es = s.args.es.now in
     let root = s.args.root in
-    (omega arith, omega (arith, c.size.ensures, s.requires.2), filling-begun ns es root _ _ _)
+    (omega arith, omega (arith, c.size.ensures, s.requires.2), filling_begun ns es root _ _ _)
 
 opens-requires : tie.Need-opens-requires invariant-loop decreases-loop
 opens-requires c κs =
@@ -98,7 +98,7 @@ returns c =
     let es = s.args.es.now in
     let root = s.args.root in
     let at = c.before.loop in
-    filling-done ns es root s.args.set s.args.walk s.args.from s.requires.0.fits
+    filling_done ns es root s.args.set s.args.walk s.args.from s.requires.0.fits
     at.filled at.at at.i (omega (arith, c.before.before.size.ensures)) at.invariant.2
 
 pub fill_spec : {M : Type 1} → statement M

@@ -7,7 +7,7 @@ use borrow.Author.Tests.{not-true, not-false}
 use Prim.Native.Nat.{suc, ◌+◌, ◌-◌, ◌≤◌}
 use Rattle.meaning.specs.Limits.{max_face_nodes}
 use Rattle.choosing.specs.FaceNodes.{size_from}
-use Rattle.choosing.proofs.TestLaws.{Tested, tested-begun, tested-done, tested_hole, tested_none, tested_refused}
+use Rattle.choosing.proofs.TestLaws.{Tested, tested_begun, tested_done, tested_hole, tested_none, tested_refused}
 use Rattle.choosing.proofs.is_choice.Statement.{statement}
 use Rattle.choosing.proofs.is_choice.Tie as tie
 
@@ -36,7 +36,7 @@ loop-holds c =
     let ns = s.args.ns.now in
     let es = s.args.es.now in
     let root = s.args.root in
-    (omega arith, omega arith, λ fits. tested-begun ns es root fits s.args.set _ c.begun.ensures)
+    (omega arith, omega arith, λ fits. tested_begun ns es root fits s.args.set _ c.begun.ensures)
 
 has-requires : tie.Need-has-requires invariant-loop decreases-loop
 has-requires c κs = search rules
@@ -125,7 +125,7 @@ returns-2 c =
     let root = s.args.root in
     let at = c.before.before.loop in
     let fits = s.requires.0.fits in
-    tested-done ns es root fits s.args.set at.walk at.met at.i _ (omega (arith, c.before.before.before.before.size.ensures)) (at.invariant.2 fits)
+    tested_done ns es root fits s.args.set at.walk at.met at.i _ (omega (arith, c.before.before.before.before.size.ensures)) (at.invariant.2 fits)
     c.holes.ensures
 
 pub is-choice-spec : {M : Type 1} → statement M

@@ -2,14 +2,14 @@
 use borrow.Author.Rules.{rules}
 use mathlib.Core.Path.{sym, ◌∙◌}
 use Prim.Native.Nat.{◌+◌}
-use Rattle.choosing.proofs.WalkLaws.{used, opens-below, opens_bound, opens_equal, opens_first}
+use Rattle.choosing.proofs.WalkLaws.{used, opens_below, opens_bound, opens_equal, opens_first}
 use Rattle.choosing.proofs.opens.Statement.{statement}
 use Rattle.choosing.proofs.opens.Tie as tie
 
 returns : tie.Need-returns
 returns c =
     let s = c.before.before.before.before.args in
-    opens-below s.ns.now s.es.now s.root s.i s.walk c.if1.true
+    opens_below s.ns.now s.es.now s.root s.i s.walk c.if1.true
 
 add-uses : tie.Need-overflow-add-uses
 add-uses c = search rules

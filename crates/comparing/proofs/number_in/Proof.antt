@@ -4,7 +4,7 @@ use mathlib.Core.List.{List}
 use native.Mathlib.Omega.{arith}
 use Rattle.meaning.specs.Basics.{All}
 use Rattle.accept.proofs.AcceptanceLaws.{are_bytes_lem}
-use Rattle.comparing.proofs.Answering.{numbers-refused, table_inside, table_numbers, table_short, answers_numbered}
+use Rattle.comparing.proofs.Answering.{numbers_refused, table_inside, table_numbers, table_short, answers_numbered}
 use borrow.Author.Rules.{rules}
 use Rattle.comparing.proofs.number_in.Statement.{statement}
 use Rattle.comparing.proofs.number_in.Tie as tie
@@ -55,7 +55,7 @@ returns : tie.Need-returns
 returns c =
     let v = c.before in
     let a = v.before.before.before.before.before in
-    numbers-refused (s a) _ _ _ _ _ (bytes a) _ a.accept.ensures _ _ v.r.given.1
+    numbers_refused (s a) _ _ _ _ _ (bytes a) _ a.accept.ensures _ _ v.r.given.1
 
 same_length : tie.Need-same-length
 same_length c = search rules

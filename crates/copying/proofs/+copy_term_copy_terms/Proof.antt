@@ -16,8 +16,8 @@ use Rattle.tokens.specs.Key.{at}
 use Rattle.masks.specs.Sets.{mask}
 use Rattle.bodies.specs.Marked.{marked}
 use Rattle.copying.specs.Copied.{TermCopyable}
-use Rattle.copying.proofs.SpanLaws.{term-inside}
-use Rattle.copying.proofs.CopyLaws.{Copying, copying_begins, copying-ends, copying_goes, hole-room, inner_copies, inner_less}
+use Rattle.copying.proofs.SpanLaws.{term_inside}
+use Rattle.copying.proofs.CopyLaws.{Copying, copying_begins, copying_ends, copying_goes, hole_room, inner_copies, inner_less}
 use Rattle.copying.proofs.CopyLaws.{inner_room, next_copies, next_less, next_nodes, next_short, node_room, term_copied, term_hole}
 use Rattle.copying.proofs.CopyLaws.{written_inside}
 use Rattle.copying.proofs.copy_term.Reads as copy-term
@@ -111,7 +111,7 @@ module _ (t : ℕ) where
   copy-term-write-hole-requires : Term copy-term-lts.Need-write-hole-requires
   copy-term-write-hole-requires c κs =
       let met = c.before.before in
-      hole-room met.before.before.before.requires.1 (sym met.has.ensures ∙ c.before.if1.true)
+      hole_room met.before.before.before.requires.1 (sym met.has.ensures ∙ c.before.if1.true)
 
   copy-term-same-length : Term copy-term-lts.Need-same-length
   copy-term-same-length c = search rules
@@ -124,11 +124,11 @@ module _ (t : ℕ) where
   copy-term-mul-x : Term copy-term-lts.Need-overflow-mul-x
   copy-term-mul-x c =
       let s = c.before.before.before.before in
-      let inside = (term-inside s.requires.1.there).starts in
+      let inside = (term_inside s.requires.1.there).starts in
       search rules
 
   copy-term-shared-slice-read-x : Term copy-term-lts.Need-shared-slice-read-x
-  copy-term-shared-slice-read-x c = (term-inside c.before.before.before.before.before.requires.1.there).starts
+  copy-term-shared-slice-read-x c = (term_inside c.before.before.before.before.before.requires.1.there).starts
 
   copy-term-fixed-length-requires : Term copy-term-lts.Need-fixed-length-requires
   copy-term-fixed-length-requires c κs = search rules
@@ -142,12 +142,12 @@ module _ (t : ℕ) where
   copy-term-add-end : Term copy-term-lts.Need-overflow-add-end
   copy-term-add-end c =
       let s = c.before.before.before.before.before.before.before in
-      omega (arith, c.size.ensures, (term-inside s.requires.1.there).ends)
+      omega (arith, c.size.ensures, (term_inside s.requires.1.there).ends)
 
   copy-term-add-copy-terms : Term copy-term-lts.Need-overflow-add-copy-terms
   copy-term-add-copy-terms c =
       let s = c.before.before.before.before.before.before.before in
-      omega (arith, (term-inside s.requires.1.there).starts)
+      omega (arith, (term_inside s.requires.1.there).starts)
 
   copy-term-sub-copy-terms : Term copy-term-lts.Need-overflow-sub-copy-terms
   copy-term-sub-copy-terms c = has_room c.before
@@ -242,10 +242,10 @@ module _ (t : ℕ) where
       )
 
   copy-terms-mul-size : Terms copy-terms-lts.Need-overflow-mul-size
-  copy-terms-mul-size c = let inside = (term-inside (copies c.before.before.before.before).there).starts in search rules
+  copy-terms-mul-size c = let inside = (term_inside (copies c.before.before.before.before).there).starts in search rules
 
   copy-terms-shared-slice-read-size : Terms copy-terms-lts.Need-shared-slice-read-size
-  copy-terms-shared-slice-read-size c = (term-inside (copies c.before.before.before.before.before).there).starts
+  copy-terms-shared-slice-read-size c = (term_inside (copies c.before.before.before.before.before).there).starts
 
   copy-terms-size-requires : Terms copy-terms-lts.Need-size-requires
   copy-terms-size-requires c κs = search rules
@@ -271,7 +271,7 @@ module _ (t : ℕ) where
   copy-terms-same-length c = c.before.loop.invariant.same
 
   copy-terms-returns : Terms copy-terms-lts.Need-returns
-  copy-terms-returns c = copying-ends c.before.loop.invariant c.loop-test.false
+  copy-terms-returns c = copying_ends c.before.loop.invariant c.loop-test.false
 
 pub +copy-term-copy-terms-spec : {M : Type 1} → statement M
 +copy-term-copy-terms-spec = close μ-copy-term μ-copy-terms (λ t. copy-term-lts.spec (copy-term-callees t)

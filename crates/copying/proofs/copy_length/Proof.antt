@@ -2,8 +2,8 @@
 use mathlib.Core.Path.{sym, ◌∙◌}
 use native.Mathlib.Omega.{arith}
 use borrow.Author.Tests.{eqb-true, eqb-false}
-use Rattle.copying.proofs.SpanLaws.{term-inside}
-use Rattle.copying.proofs.BodyLaws.{body_measured, body_saved, empty-measured, hole_head, hole_measurable}
+use Rattle.copying.proofs.SpanLaws.{term_inside}
+use Rattle.copying.proofs.BodyLaws.{body_measured, body_saved, empty_measured, hole_head, hole_measurable}
 use borrow.Author.Rules.{rules}
 use Rattle.copying.proofs.copy_length.Statement.{statement}
 use Rattle.copying.proofs.copy_length.Tie as tie
@@ -15,7 +15,7 @@ is-empty-requires : tie.Need-is-empty-requires
 is-empty-requires c κs = search rules
 
 returns : tie.Need-returns
-returns c = empty-measured c.before.before.term-length.ensures (eqb-true _ 0 (sym c.before.is_empty.ensures ∙ c.if1.true))
+returns c = empty_measured c.before.before.term-length.ensures (eqb-true _ 0 (sym c.before.is_empty.ensures ∙ c.if1.true))
 
 lowest-requires : tie.Need-lowest-requires
 lowest-requires c κs = search rules
@@ -24,7 +24,7 @@ add-term-length : tie.Need-overflow-add-term-length
 add-term-length c =
     let start = c.before.before.before.before.before in
     let holed = eqb-false _ 0 (sym c.before.before.is_empty.ensures ∙ c.before.if1.false) in
-    omega (arith, (term-inside (hole_measurable start.requires holed c.lowest.ensures).there).starts)
+    omega (arith, (term_inside (hole_measurable start.requires holed c.lowest.ensures).there).starts)
 
 term-length-requires-2 : tie.Need-term-length-requires-2
 term-length-requires-2 c κs =

@@ -1,6 +1,6 @@
 -- `copying::fixed_length` meets its contract: one return for each tag.
 use mathlib.Core.Path.{◌∙◌}
-use Rattle.copying.proofs.FixedLaws.{fixed_symbol, fixed-variable, fixed-binder, fixed-none, symbol_long, number_long, numbers_long}
+use Rattle.copying.proofs.FixedLaws.{fixed_symbol, fixed_variable, fixed_binder, fixed_none, symbol_long, number_long, numbers_long}
 use Rattle.copying.proofs.FixedLaws.{none_long}
 use borrow.Author.Rules.{rules}
 use Rattle.copying.proofs.fixed_length.Statement.{statement}
@@ -21,13 +21,13 @@ returns c =
     c.width.ensures ∙ symbol_long _ _ (fixed_symbol _ _ met.before.tag.ensures met.match.keys1) c.before.symbol.ensures
 
 returns-2 : tie.Need-returns-2
-returns-2 c = number_long _ (fixed-variable _ _ c.before.tag.ensures c.match.keys2)
+returns-2 c = number_long _ (fixed_variable _ _ c.before.tag.ensures c.match.keys2)
 
 returns-3 : tie.Need-returns-3
-returns-3 c = numbers_long _ (fixed-binder _ _ c.before.tag.ensures c.match.keys3)
+returns-3 c = numbers_long _ (fixed_binder _ _ c.before.tag.ensures c.match.keys3)
 
 returns-4 : tie.Need-returns-4
-returns-4 c = let r = c.match.rest in none_long _ (fixed-none _ _ c.before.tag.ensures r.0.0.1 r.0.1 r.1)
+returns-4 c = let r = c.match.rest in none_long _ (fixed_none _ _ c.before.tag.ensures r.0.0.1 r.0.1 r.1)
 
 pub fixed-length-spec : {M : Type 1} → statement M
 fixed-length-spec =

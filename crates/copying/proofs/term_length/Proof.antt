@@ -3,8 +3,8 @@ use Prim.Native.Nat.{◌+◌, ◌-◌}
 use native.Mathlib.Omega.{arith}
 use Rattle.tokens.specs.Key.{at}
 use Rattle.copying.proofs.FixedLaws.{fixed_short}
-use Rattle.copying.proofs.SpanLaws.{term-inside}
-use Rattle.copying.proofs.MeasureLaws.{Measuring, measure_begins, measure-ends, measure-goes-on}
+use Rattle.copying.proofs.SpanLaws.{term_inside}
+use Rattle.copying.proofs.MeasureLaws.{Measuring, measure_begins, measure_ends, measure_goes_on}
 use borrow.Author.Rules.{rules}
 use Rattle.copying.proofs.term_length.Statement.{statement}
 use Rattle.copying.proofs.term_length.Tie as tie
@@ -16,10 +16,10 @@ abbrev decreases-loop : tie.decreases-loop
 decreases-loop es node n total₀ i₀ total i = n - i
 
 mul-size : tie.Need-overflow-mul-size invariant-loop decreases-loop
-mul-size c = let inside = term-inside c.before.requires.there in search rules
+mul-size c = let inside = term_inside c.before.requires.there in search rules
 
 shared-slice-read-size : tie.Need-shared-slice-read-size invariant-loop decreases-loop
-shared-slice-read-size c = (term-inside c.before.before.requires.there).starts
+shared-slice-read-size c = (term_inside c.before.before.requires.there).starts
 
 size-requires : tie.Need-size-requires invariant-loop decreases-loop
 size-requires c κs = search rules
@@ -60,10 +60,10 @@ loop-less c = search rules
 loop-again : tie.Need-loop-preserved invariant-loop decreases-loop
 loop-again c =
     let l = c.before.before in
-    measure-goes-on l.before.loop.invariant l.loop-test.true c.fixed-length.ensures
+    measure_goes_on l.before.loop.invariant l.loop-test.true c.fixed-length.ensures
 
 returns : tie.Need-returns invariant-loop decreases-loop
-returns c = measure-ends c.before.loop.invariant c.loop-test.false
+returns c = measure_ends c.before.loop.invariant c.loop-test.false
 
 pub term-length-spec : {M : Type 1} → statement M
 term-length-spec =

@@ -1,8 +1,8 @@
 -- `copying::write_fixed` meets its contract: one return for each tag.
 use mathlib.Core.Path.{refl}
 use native.Mathlib.Omega.{arith}
-use Rattle.copying.proofs.FixedLaws.{fixed_symbol, fixed-variable, fixed-binder, fixed-none, symbol_long, number_long, numbers_long}
-use Rattle.copying.proofs.WriteLaws.{symbol-wrote, number-wrote, numbers-wrote, none-wrote}
+use Rattle.copying.proofs.FixedLaws.{fixed_symbol, fixed_variable, fixed_binder, fixed_none, symbol_long, number_long, numbers_long}
+use Rattle.copying.proofs.WriteLaws.{symbol_wrote, number_wrote, numbers_wrote, none_wrote}
 use borrow.Author.Rules.{rules}
 use Rattle.copying.proofs.write_fixed.Statement.{statement}
 use Rattle.copying.proofs.write_fixed.Tie as tie
@@ -26,7 +26,7 @@ write-word-requires : tie.Need-write-word-requires
 write-word-requires c κs =
     let met = c.before.before in (
       search rules,
-      omega (arith, number_long _ (fixed-variable _ _ met.before.tag.ensures met.match.keys2), met.before.before.before.requires),
+      omega (arith, number_long _ (fixed_variable _ _ met.before.tag.ensures met.match.keys2), met.before.before.before.requires),
     )
 
 payload-requires-2 : tie.Need-payload-requires-2
@@ -37,7 +37,7 @@ write-words-requires c κs =
     let met = c.before.before in (
       search rules,
       search rules,
-      omega (arith, numbers_long _ (fixed-binder _ _ met.before.tag.ensures met.match.keys3), met.before.before.before.requires),
+      omega (arith, numbers_long _ (fixed_binder _ _ met.before.tag.ensures met.match.keys3), met.before.before.before.requires),
     )
 
 same_length : tie.Need-same-length
@@ -47,7 +47,7 @@ returns : tie.Need-returns
 returns c =
     let met = c.before.before.before.before.before in
     let s = met.before.before.before in
-    symbol-wrote s.args.x s.args.out.now _ _ (fixed_symbol _ _ met.before.tag.ensures met.match.keys1)
+    symbol_wrote s.args.x s.args.out.now _ _ (fixed_symbol _ _ met.before.tag.ensures met.match.keys1)
     c.before.before.before.before.symbol.ensures c.before.before.write_symbol.ensures
 
 same-length-2 : tie.Need-same-length-2
@@ -57,7 +57,7 @@ returns-2 : tie.Need-returns-2
 returns-2 c =
     let met = c.before.before.before.before.before in
     let s = met.before.before.before in
-    number-wrote s.args.x s.args.out.now _ _ (fixed-variable _ _ met.before.tag.ensures met.match.keys2)
+    number_wrote s.args.x s.args.out.now _ _ (fixed_variable _ _ met.before.tag.ensures met.match.keys2)
     c.before.before.before.before.payload.ensures c.before.before.write_word.ensures
 
 same-length-3 : tie.Need-same-length-3
@@ -67,14 +67,14 @@ returns-3 : tie.Need-returns-3
 returns-3 c =
     let met = c.before.before.before.before.before in
     let s = met.before.before.before in
-    numbers-wrote s.args.x s.args.out.now _ _ (fixed-binder _ _ met.before.tag.ensures met.match.keys3)
+    numbers_wrote s.args.x s.args.out.now _ _ (fixed_binder _ _ met.before.tag.ensures met.match.keys3)
     c.before.before.before.before.payload2.ensures c.before.before.write-words.ensures
 
 returns-4 : tie.Need-returns-4
 returns-4 c =
     let s = c.before.before.before in
     let r = c.match.rest in
-    none-wrote s.args.x s.args.out.now _ (fixed-none _ _ c.before.tag.ensures r.0.0.1 r.0.1 r.1) refl
+    none_wrote s.args.x s.args.out.now _ (fixed_none _ _ c.before.tag.ensures r.0.0.1 r.0.1 r.1) refl
 
 pub write-fixed-spec : {M : Type 1} → statement M
 write-fixed-spec =

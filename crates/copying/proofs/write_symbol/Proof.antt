@@ -2,7 +2,7 @@
 use native.Mathlib.Omega.{arith}
 use Rattle.meaning.specs.Limits.{first_wide}
 use Rattle.meaning.proofs.ByteLaws.{narrow_two, wide_four}
-use Rattle.copying.proofs.WriteLaws.{narrow-wrote, wide-wrote}
+use Rattle.copying.proofs.WriteLaws.{narrow_wrote, wide_wrote}
 use borrow.Author.Rules.{rules}
 use Rattle.copying.proofs.write_symbol.Statement.{statement}
 use Rattle.copying.proofs.write_symbol.Tie as tie
@@ -29,14 +29,14 @@ same_length c = search rules
 
 returns : tie.Need-returns
 unfolding first_wide
-returns c = narrow-wrote _ _ _ c.before.before.before.before.if1.true c.before.before.write_word.ensures
+returns c = narrow_wrote _ _ _ c.before.before.before.before.if1.true c.before.before.write_word.ensures
 
 same-length-2 : tie.Need-same-length-2
 same-length-2 c = search rules
 
 returns-2 : tie.Need-returns-2
 unfolding first_wide
-returns-2 c = wide-wrote _ _ _ c.before.before.before.before.if1.false c.before.before.write-words.ensures
+returns-2 c = wide_wrote _ _ _ c.before.before.before.before.if1.false c.before.before.write-words.ensures
 
 pub write-symbol-spec : {M : Type 1} → statement M
 write-symbol-spec =

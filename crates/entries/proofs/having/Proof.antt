@@ -4,7 +4,7 @@ use mathlib.Core.Path.{refl}
 use Prim.Native.Nat.{◌-◌}
 use lib.Dec.{eqb}
 use Rattle.tokens.specs.Key.{at}
-use Rattle.entries.proofs.SetLaws.{Gathered, gathered_none, gathered-more, gathered-all}
+use Rattle.entries.proofs.SetLaws.{Gathered, gathered_none, gathered_more, gathered_all}
 use borrow.Author.Rules.{rules}
 use Rattle.entries.proofs.having.Statement.{statement}
 use Rattle.entries.proofs.having.Tie as tie
@@ -37,10 +37,10 @@ loop-less : tie.Need-loop-smaller invariant-loop decreases-loop
 loop-less c = search rules
 
 loop-again : tie.Need-loop-preserved invariant-loop decreases-loop
-loop-again c = gathered-more _ _ _ _ _ c.before.before.loop.invariant refl c.joined.ensures
+loop-again c = gathered_more _ _ _ _ _ c.before.before.loop.invariant refl c.joined.ensures
 
 returns : tie.Need-returns invariant-loop decreases-loop
-returns c = gathered-all _ _ _ c.loop-test.false c.before.loop.invariant
+returns c = gathered_all _ _ _ c.loop-test.false c.before.loop.invariant
 
 pub having-spec : {M : Type 1} → statement M
 having-spec =

@@ -2,7 +2,7 @@
 -- number of metavariables left.
 use Prim.Native.Nat.{◌-◌}
 use Rattle.entries.specs.Holes.{holed_at}
-use Rattle.entries.proofs.SetLaws.{Gathered, gathered_none, gathered-more, gathered-all}
+use Rattle.entries.proofs.SetLaws.{Gathered, gathered_none, gathered_more, gathered_all}
 use borrow.Author.Rules.{rules}
 use Rattle.entries.proofs.holed.Statement.{statement}
 use Rattle.entries.proofs.holed.Tie as tie
@@ -32,10 +32,10 @@ loop-less : tie.Need-loop-smaller invariant-loop decreases-loop
 loop-less c = search rules
 
 loop-again : tie.Need-loop-preserved invariant-loop decreases-loop
-loop-again c = gathered-more _ _ _ _ _ c.before.before.before.loop.invariant c.before.body-holed.ensures c.joined.ensures
+loop-again c = gathered_more _ _ _ _ _ c.before.before.before.loop.invariant c.before.body-holed.ensures c.joined.ensures
 
 returns : tie.Need-returns invariant-loop decreases-loop
-returns c = gathered-all _ _ _ c.loop-test.false c.before.loop.invariant
+returns c = gathered_all _ _ _ c.loop-test.false c.before.loop.invariant
 
 pub holed-spec : {M : Type 1} → statement M
 holed-spec =

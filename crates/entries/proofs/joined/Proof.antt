@@ -1,11 +1,11 @@
 -- `joined` meets its contract: a 1 shifted to bit m is joined by `|`; a number past the last metavariable adds nothing.
-use Rattle.entries.proofs.SetLaws.{joined-no, joined_in, joined_out}
+use Rattle.entries.proofs.SetLaws.{joined_no, joined_in, joined_out}
 use borrow.Author.Rules.{rules}
 use Rattle.entries.proofs.joined.Statement.{statement}
 use Rattle.entries.proofs.joined.Tie as tie
 
 returns : tie.Need-returns
-returns c = let a = c.before.args in joined-no a.set a.m a.test c.if1.true
+returns c = let a = c.before.args in joined_no a.set a.m a.test c.if1.true
 
 cast-if2 : tie.Need-overflow-cast-if2
 cast-if2 c = search rules

@@ -2,7 +2,7 @@
 use native.Mathlib.Omega.{arith}
 use borrow.Author.Rules.{rules}
 use Rattle.meaning.specs.Limits.{metavariable_count}
-use Rattle.filled.proofs.CodeLaws.{application-number, application-without, application_bodied, application_given}
+use Rattle.filled.proofs.CodeLaws.{application_number, application_without, application_bodied, application_given}
 use Rattle.filled.proofs.application_is.Statement.{statement}
 use Rattle.filled.proofs.application_is.Tie as tie
 
@@ -23,14 +23,14 @@ element-copy-out-if1 c =
     let v = c.payload in
     omega (
       arith,
-      application-number a.ps.now a.es.now a.ts.now a.t4 a.face v.result v.ensures s.requires.2,
+      application_number a.ps.now a.es.now a.ts.now a.t4 a.face v.result v.ensures s.requires.2,
     )
 
 returns : tie.Need-returns
 returns c =
     let v = c.before.before in
     let a = v.before.before.before.before.before.before.before.args in
-    application-without a.ps.now a.es.now a.ts.now a.t4 a.face v.payload.result v.payload.ensures c.if1.true
+    application_without a.ps.now a.es.now a.ts.now a.t4 a.face v.payload.result v.payload.ensures c.if1.true
 
 mul-b : tie.Need-overflow-mul-b
 unfolding metavariable_count
@@ -40,7 +40,7 @@ mul-b c =
     let a = s.args in
     omega (
       arith,
-      application-number a.ps.now a.es.now a.ts.now a.t4 a.face v.payload.result v.payload.ensures s.requires.2,
+      application_number a.ps.now a.es.now a.ts.now a.t4 a.face v.payload.result v.payload.ensures s.requires.2,
     )
 
 element-copy-out-b : tie.Need-element-copy-out-b
@@ -51,7 +51,7 @@ element-copy-out-b c =
     let a = s.args in
     omega (
       arith,
-      application-number a.ps.now a.es.now a.ts.now a.t4 a.face v.payload.result v.payload.ensures s.requires.2,
+      application_number a.ps.now a.es.now a.ts.now a.t4 a.face v.payload.result v.payload.ensures s.requires.2,
     )
 
 add-body-is : tie.Need-overflow-add-body-is

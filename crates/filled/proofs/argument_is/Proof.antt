@@ -8,7 +8,7 @@ use borrow.Author.Rules.{rules}
 use Rattle.lockstep.specs.declared.Shapes.TheVariants as shapes
 use Rattle.lockstep.proofs.Answers.{Found, found, disagreed}
 use Rattle.filled.specs.Filled.{walk_across}
-use Rattle.filled.proofs.CodeLaws.{argument-fails, argument_faces, argument_found}
+use Rattle.filled.proofs.CodeLaws.{argument_fails, argument_faces, argument_found}
 use Rattle.filled.proofs.values_are.Reads as values-are-reads
 use Rattle.filled.proofs.walk_across.Reads as walk-across-reads
 use Rattle.filled.proofs.argument_is.Statement.{statement}
@@ -71,7 +71,7 @@ returns : tie.Need-returns
 returns c =
     let w = c.before.before.before.before in
     let a = (start w).args in
-    argument-fails a.ps.now a.es.now a.ts.now a.said a.i a.node (failed w c.enum_told.given.1)
+    argument_fails a.ps.now a.es.now a.ts.now a.said a.i a.node (failed w c.enum_told.given.1)
 
 same-length-2 : tie.Need-same-length-2
 same-length-2 c = search rules

@@ -6,7 +6,7 @@ use lib.ListN.{length}
 use borrow.Author.Rules.{rules}
 use Rattle.filled.specs.Filled.{hole_at}
 use Rattle.filled.specs.Ready.{ArguedAt}
-use Rattle.filled.proofs.CodeLaws.{Testing, testing_ready, testing_fails, testing_goes, testing-ends, problem_again}
+use Rattle.filled.proofs.CodeLaws.{Testing, testing_ready, testing_fails, testing_goes, testing_ends, problem_again}
 use Rattle.filled.proofs.arguments_are.Statement.{statement}
 use Rattle.filled.proofs.arguments_are.Tie as tie
 
@@ -65,7 +65,7 @@ same-length-2 : tie.Need-same-length-2 invariant-loop decreases-loop
 same-length-2 c = c.before.loop.invariant.0
 
 returns-2 : tie.Need-returns-2 invariant-loop decreases-loop
-returns-2 c = testing-ends c.before.loop.invariant.1 c.loop-test.false
+returns-2 c = testing_ends c.before.loop.invariant.1 c.loop-test.false
 
 pub arguments-are-spec : {M : Type 1} → statement M
 arguments-are-spec =

@@ -8,7 +8,7 @@ use borrow.Author.Rules.{rules}
 use Rattle.lockstep.specs.declared.Shapes.TheVariants as shapes
 use Rattle.lockstep.proofs.Answers.{Found, found, disagreed}
 use Rattle.filled.specs.Filled.{walk_across}
-use Rattle.filled.proofs.CodeLaws.{body-fails, body_holes, body_found}
+use Rattle.filled.proofs.CodeLaws.{body_fails, body_holes, body_found}
 use Rattle.filled.proofs.arguments_are.Reads as arguments-are-reads
 use Rattle.filled.proofs.walk_across.Reads as walk-across-reads
 use Rattle.filled.proofs.body_is.Statement.{statement}
@@ -74,7 +74,7 @@ returns : tie.Need-returns
 returns c =
     let w = c.before.before.before.before in
     let a = (start w).args in
-    body-fails a.ps.now a.es.now a.ts.now a.said a.b a.i a.node (failed w c.enum_told.given.1)
+    body_fails a.ps.now a.es.now a.ts.now a.said a.b a.i a.node (failed w c.enum_told.given.1)
 
 same-length-2 : tie.Need-same-length-2
 same-length-2 c = search rules
@@ -89,7 +89,7 @@ returns-2 c =
     let n = v.before.before.before.before.n.given in
     let a = (start w).args in
     body_found a.ps.now a.es.now a.ts.now a.said a.b a.i a.node (new w) n.0.0 (recorded w n.0.0 n.1)
-    v.arguments-are.result v.arguments-are.ensures
+    v.arguments_are.result v.arguments_are.ensures
 
 pub body-is-spec : {M : Type 1} → statement M
 body-is-spec =

@@ -1,7 +1,7 @@
 -- `face_is` meets its contract: by the tag of the slot.
 use mathlib.Core.Path.{sym, ◌∙◌}
 use borrow.Author.Rules.{rules}
-use Rattle.filled.proofs.CodeLaws.{face-plain, face-applies}
+use Rattle.filled.proofs.CodeLaws.{face_plain, face_applies}
 use Rattle.filled.proofs.face_is.Statement.{statement}
 use Rattle.filled.proofs.face_is.Tie as tie
 
@@ -21,7 +21,7 @@ returns : tie.Need-returns
 returns c =
     let g = c.before.before in
     let a = g.before.before.before.before.before.before.before.args in
-    face-plain a.ps.now a.es.now a.ts.now a.said a.face g.tag.result g.tag.ensures c.before.if1.true
+    face_plain a.ps.now a.es.now a.ts.now a.said a.face g.tag.result g.tag.ensures c.before.if1.true
     c.faced-value-is.result c.faced-value-is.ensures
 
 application-is-requires : tie.Need-application-is-requires
@@ -43,7 +43,7 @@ returns-2 c =
     let t = r.before.before.before in
     let g = t.before in
     let a = g.before.before.before.before.before.before.before.args in
-    face-applies a.ps.now a.es.now a.ts.now a.said a.face g.tag.result g.tag.ensures t.if1.false
+    face_applies a.ps.now a.es.now a.ts.now a.said a.face g.tag.result g.tag.ensures t.if1.false
     r.application_is.result r.application_is.ensures
 
 pub face-is-spec : {M : Type 1} → statement M

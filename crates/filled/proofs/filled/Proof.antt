@@ -6,8 +6,8 @@ use lib.ListN.{length}
 use borrow.Author.Rules.{rules}
 use Rattle.filled.specs.Filled.{face_at, filled_at}
 use Rattle.filled.specs.Ready.{Slotted}
-use Rattle.filled.proofs.CodeLaws.{Testing, testing_ready, testing_fails, testing_goes, testing-ends, problem_again, text_again}
-use Rattle.filled.proofs.Meaning.{grounded-tables, grounded-text, grounded-slots}
+use Rattle.filled.proofs.CodeLaws.{Testing, testing_ready, testing_fails, testing_goes, testing_ends, problem_again, text_again}
+use Rattle.filled.proofs.Meaning.{grounded_tables, grounded_text, grounded_slots}
 use Rattle.filled.proofs.filled.Statement.{statement}
 use Rattle.filled.proofs.filled.Tie as tie
 
@@ -25,7 +25,7 @@ loop-holds c =
       refl,
       refl,
       record {
-        left = grounded-slots a.ps.now a.es.now a.faces.now a.ts.now a.said a.holes.now a.scratch.now s.requires;
+        left = grounded_slots a.ps.now a.es.now a.faces.now a.ts.now a.said a.holes.now a.scratch.now s.requires;
         leads = refl;
       },
     )
@@ -43,10 +43,10 @@ face-is-requires c κs =
     let s = l.before.before.before.before.before.before.before in
     let a = s.args in (
       problem_again a.ps.now a.es.now a.scratch.now l.loop.scratch
-          (grounded-tables a.ps.now a.es.now a.faces.now a.ts.now a.said a.holes.now a.scratch.now s.requires)
+          (grounded_tables a.ps.now a.es.now a.faces.now a.ts.now a.said a.holes.now a.scratch.now s.requires)
           l.loop.invariant.1,
       text_again a.ts.now a.holes.now l.loop.holes
-          (grounded-text a.ps.now a.es.now a.faces.now a.ts.now a.said a.holes.now a.scratch.now s.requires)
+          (grounded_text a.ps.now a.es.now a.faces.now a.ts.now a.said a.holes.now a.scratch.now s.requires)
           l.loop.invariant.0,
       testing_ready l.loop.invariant.2 t.loop-test.true,
     )
@@ -54,19 +54,19 @@ face-is-requires c κs =
 same_length : tie.Need-same-length invariant-loop decreases-loop
 same_length c =
     let v = c.before.before.before.before.before in
-    v.face-is.kept.1.1.1.1.1.0 ∙ v.before.before.before.before.before.loop.invariant.0
+    v.face_is.kept.1.1.1.1.1.0 ∙ v.before.before.before.before.before.loop.invariant.0
 
 same-length-2 : tie.Need-same-length-2 invariant-loop decreases-loop
 same-length-2 c =
     let v = c.before.before.before.before.before in
-    v.face-is.kept.1.1.1.1.1.1.0 ∙ v.before.before.before.before.before.loop.invariant.1
+    v.face_is.kept.1.1.1.1.1.1.0 ∙ v.before.before.before.before.before.loop.invariant.1
 
 returns : tie.Need-returns invariant-loop decreases-loop
 unfolding filled_at
 returns c =
     let v = c.before.before.before.before.before in
     let t = v.before.before.before.before in
-    testing_fails t.before.loop.invariant.2 t.loop-test.true v.face-is.result v.face-is.ensures c.if1.true
+    testing_fails t.before.loop.invariant.2 t.loop-test.true v.face_is.result v.face_is.ensures c.if1.true
 
 add-k : tie.Need-overflow-add-k invariant-loop decreases-loop
 add-k c = search rules
@@ -79,9 +79,9 @@ loop-again c =
     let v = c.before.before.before.before.before in
     let t = v.before.before.before.before in
     let l = t.before.loop in (
-      v.face-is.kept.1.1.1.1.1.0 ∙ l.invariant.0,
-      v.face-is.kept.1.1.1.1.1.1.0 ∙ l.invariant.1,
-      testing_goes l.invariant.2 t.loop-test.true v.face-is.result v.face-is.ensures c.if1.false,
+      v.face_is.kept.1.1.1.1.1.0 ∙ l.invariant.0,
+      v.face_is.kept.1.1.1.1.1.1.0 ∙ l.invariant.1,
+      testing_goes l.invariant.2 t.loop-test.true v.face_is.result v.face_is.ensures c.if1.false,
     )
 
 same-length-3 : tie.Need-same-length-3 invariant-loop decreases-loop
@@ -92,7 +92,7 @@ same-length-4 c = c.before.loop.invariant.1
 
 returns-2 : tie.Need-returns-2 invariant-loop decreases-loop
 unfolding filled_at
-returns-2 c = testing-ends c.before.loop.invariant.2 c.loop-test.false
+returns-2 c = testing_ends c.before.loop.invariant.2 c.loop-test.false
 
 pub filled-spec : {M : Type 1} → statement M
 filled-spec =

@@ -2,7 +2,7 @@
 use mathlib.Core.Path.{sym, ◌∙◌}
 use borrow.Author.Rules.{rules}
 use Rattle.meaning.specs.Limits.{metavariable_count}
-use Rattle.filled.proofs.Cases.{without-value, with_value}
+use Rattle.filled.proofs.Cases.{without_value, with_value}
 use Rattle.filled.proofs.value_is.Statement.{statement}
 use Rattle.filled.proofs.value_is.Tie as tie
 
@@ -13,7 +13,7 @@ element-copy-out-if1 c = search rules
 returns : tie.Need-returns
 returns c =
     let a = c.before.before.before.before.args in
-    sym (without-value a.ts.now a.t2 a.es.now a.m a.node c.if1.true)
+    sym (without_value a.ts.now a.t2 a.es.now a.m a.node c.if1.true)
 
 mul_at : tie.Need-overflow-mul-at
 unfolding metavariable_count

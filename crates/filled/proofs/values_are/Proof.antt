@@ -5,7 +5,7 @@ use lib.ListN.{length}
 use borrow.Author.Rules.{rules}
 use Rattle.filled.specs.Filled.{faced_value_at}
 use Rattle.filled.specs.Ready.{Faced}
-use Rattle.filled.proofs.CodeLaws.{Testing, testing_ready, testing_fails, testing_goes, testing-ends}
+use Rattle.filled.proofs.CodeLaws.{Testing, testing_ready, testing_fails, testing_goes, testing_ends}
 use Rattle.filled.proofs.values_are.Statement.{statement}
 use Rattle.filled.proofs.values_are.Tie as tie
 
@@ -46,7 +46,7 @@ loop-again c =
     testing_goes t.before.loop.invariant t.loop-test.true v.result v.ensures c.if1.false
 
 returns-2 : tie.Need-returns-2 invariant-loop decreases-loop
-returns-2 c = testing-ends c.before.loop.invariant c.loop-test.false
+returns-2 c = testing_ends c.before.loop.invariant c.loop-test.false
 
 pub values-are-spec : {M : Type 1} → statement M
 values-are-spec =

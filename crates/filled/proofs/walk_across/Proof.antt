@@ -1,6 +1,6 @@
 -- `walk_across` meets its contract: the span is made of the parts of the two tokens.
 use borrow.Author.Rules.{rules}
-use Rattle.filled.proofs.CodeLaws.{across-lent, across-walked}
+use Rattle.filled.proofs.CodeLaws.{across_lent, across_walked}
 use Rattle.filled.proofs.walk_across.Statement.{statement}
 use Rattle.filled.proofs.walk_across.Tie as tie
 
@@ -35,7 +35,7 @@ walk-at-requires c κs =
     let long = deep.before in
     let s = long.before.before.before.before.before.before in
     let a = s.args in
-    across-lent a.t.now a.u.now a.i a.j long.size.result deep.depth.result across.depth2.result
+    across_lent a.t.now a.u.now a.i a.j long.size.result deep.depth.result across.depth2.result
     long.size.ensures a.out.now s.requires
 
 same_length : tie.Need-same-length
@@ -48,7 +48,7 @@ returns c =
     let deep = across.before in
     let long = deep.before in
     let a = long.before.before.before.before.before.before.args in
-    across-walked a.t.now a.u.now a.i a.j long.size.result deep.depth.result across.depth2.result
+    across_walked a.t.now a.u.now a.i a.j long.size.result deep.depth.result across.depth2.result
     long.size.ensures deep.depth.ensures across.depth2.ensures a.out.now _ walked.walk_at.result
     walked.walk_at.ensures
 

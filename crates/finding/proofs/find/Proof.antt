@@ -2,7 +2,7 @@
 use borrow.Author.Rules.{rules}
 use native.Mathlib.Omega.{arith}
 use Rattle.accept.proofs.AcceptanceLaws.{are_bytes_lem}
-use Rattle.finding.proofs.FindingLaws.{nothing-found, text_found, never_refused, other_answer}
+use Rattle.finding.proofs.FindingLaws.{nothing_found, text_found, never_refused, other_answer}
 use Rattle.finding.proofs.find.Statement.{statement}
 use Rattle.finding.proofs.find.Tie as tie
 
@@ -13,7 +13,7 @@ enum_told : tie.Need-enum-told
 enum_told c = search rules
 
 returns : tie.Need-returns
-returns c = nothing-found c.before.search.ensures (other_answer c.match.keys2)
+returns c = nothing_found c.before.search.ensures (other_answer c.match.keys2)
 
 at-requires : tie.Need-at-requires
 at-requires c κs = search rules

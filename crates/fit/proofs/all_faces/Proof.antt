@@ -1,7 +1,7 @@
 -- `all_faces` meets its contract: the plain faces, and then the applications.
 use borrow.Author.Rules.{rules}
 use Rattle.masks.specs.Sets.{masks_in}
-use Rattle.fit.proofs.CodeLaws.{none_kept_lem, plain-fails, plain_stays, then_applied}
+use Rattle.fit.proofs.CodeLaws.{none_kept_lem, plain_fails, plain_stays, then_applied}
 use Rattle.fit.proofs.all_faces.Statement.{statement}
 use Rattle.fit.proofs.all_faces.Tie as tie
 
@@ -14,7 +14,7 @@ returns : tie.Need-returns
 returns c =
     let a = c.before.before.before.before.before.before.before.before.args in
     let n = c.before.before.all-demanded in
-    plain-fails a.ps.now a.es.now a.ns.now a.faces.now a.functions a.firsts (masks_in a.row) n.result n.ensures
+    plain_fails a.ps.now a.es.now a.ns.now a.faces.now a.functions a.firsts (masks_in a.row) n.result n.ensures
     c.if1.true
 
 faces-demanded-requires : tie.Need-faces-demanded-requires

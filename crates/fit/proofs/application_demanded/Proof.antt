@@ -3,7 +3,7 @@ use mathlib.Core.Path.{sym, ◌∙◌}
 use borrow.Author.Rules.{rules}
 use borrow.Author.Tests.{eqb-true, eqb-false}
 use Rattle.masks.specs.Sets.{mask}
-use Rattle.fit.proofs.CodeLaws.{application-unsuited, application_suited, application_open, application_filled}
+use Rattle.fit.proofs.CodeLaws.{application_unsuited, application_suited, application_open, application_filled}
 use Rattle.fit.proofs.application_demanded.Statement.{statement}
 use Rattle.fit.proofs.application_demanded.Tie as tie
 
@@ -13,7 +13,7 @@ suits-requires c κs = search rules
 returns : tie.Need-returns
 returns c =
     let a = c.before.before.before.before.before.before.args in
-    application-unsuited a.ps.now a.es.now a.ns.now a.face a.node (mask a.set) a.kept.nodes
+    application_unsuited a.ps.now a.es.now a.ns.now a.face a.node (mask a.set) a.kept.nodes
     c.before.suits.result c.before.suits.ensures c.if1.true
 
 is-empty-requires : tie.Need-is-empty-requires

@@ -17,7 +17,7 @@ use Rattle.sources.proofs.all_demanded.Reads as all-demanded-reads
 use Rattle.tokens.proofs.token.depth.Reads as depth-reads
 use Rattle.tokens.proofs.token.size.Reads as size-reads
 use Rattle.fit.specs.Judging.{argument_span}
-use Rattle.fit.proofs.CodeLaws.{span_is, argument_lent, argument_reads, argument-disagrees, argument-demands}
+use Rattle.fit.proofs.CodeLaws.{span_is, argument_lent, argument_reads, argument_disagrees, argument_demands}
 use Rattle.fit.proofs.argument_demanded.Statement.{statement}
 use Rattle.fit.proofs.argument_demanded.Tie as tie
 use Rattle.fit.proofs.argument_demanded.Reads as reads
@@ -150,7 +150,7 @@ returns : tie.Need-returns
 returns c =
     let w = c.before.before.before.before in
     let a = (start w).args in
-    argument-disagrees (ps w) (es w) (ns w) a.face (mask a.set) a.kept.nodes (failed w c.enum_told.given.1)
+    argument_disagrees (ps w) (es w) (ns w) a.face (mask a.set) a.kept.nodes (failed w c.enum_told.given.1)
 
 same-length-2 : tie.Need-same-length-2
 same-length-2 c = search rules
@@ -160,7 +160,7 @@ returns-2 c =
     let w = c.before.before.before.before.before.before.before in
     let n = c.before.before.before.n.given in
     let a = (start w).args in
-    argument-demands (ps w) (es w) (ns w) a.face (mask a.set) a.kept.nodes (new w) n.0.0 (recorded w n.0.0 n.1)
+    argument_demands (ps w) (es w) (ns w) a.face (mask a.set) a.kept.nodes (new w) n.0.0 (recorded w n.0.0 n.1)
     c.all-demanded.result c.all-demanded.ensures
 
 pub argument-demanded-spec : {M : Type 1} → statement M

@@ -9,7 +9,7 @@ use borrow.Author.Rules.{rules}
 use Rattle.meaning.specs.Limits.{max_functions}
 use Rattle.masks.specs.Sets.{masks_in}
 use Rattle.fit.specs.Judging.{bodies_closed}
-use Rattle.fit.proofs.CodeLaws.{read_mask, closed-ends, closed_fails, closed_next}
+use Rattle.fit.proofs.CodeLaws.{read_mask, closed_ends, closed_fails, closed_next}
 use Rattle.fit.proofs.bodies_closed.Statement.{statement}
 use Rattle.fit.proofs.bodies_closed.Tie as tie
 
@@ -72,7 +72,7 @@ unfolding max_functions
 returns-2 c =
     let a = c.before in
     let s = a.before.before.before in
-    closed-ends s.args.es.now s.args.firsts.nodes (masks_in s.args.t3) s.args.firsts.count a.loop.k
+    closed_ends s.args.es.now s.args.firsts.nodes (masks_in s.args.t3) s.args.firsts.count a.loop.k
     (omega (arith, s.requires.fits.array, s.requires.fits.count))
     (omega (arith, s.requires.masks, s.requires.fits.count)) c.loop-test.false ∙ a.loop.invariant
 

@@ -9,7 +9,7 @@ use Rattle.meaning.specs.Limits.{metavariable_count, max_functions}
 use Rattle.tokens.specs.Key.{at}
 use Rattle.metavariables.specs.Survey.{count}
 use Rattle.fit.specs.Ready.{Applicable}
-use Rattle.fit.proofs.CodeLaws.{face-plain, face-applies}
+use Rattle.fit.proofs.CodeLaws.{face_plain, face_applies}
 use Rattle.fit.proofs.face_demanded.Statement.{statement}
 use Rattle.fit.proofs.face_demanded.Tie as tie
 
@@ -25,7 +25,7 @@ tag-requires c κs = search rules
 returns : tie.Need-returns
 returns c =
     let a = c.before.before.before.before.before.before.before.args in
-    face-plain a.ps.now a.es.now a.ns.now a.functions a.t6 (masks_in a.t7) a.face a.kept.nodes c.before.tag.result
+    face_plain a.ps.now a.es.now a.ns.now a.functions a.t6 (masks_in a.t7) a.face a.kept.nodes c.before.tag.result
     c.before.tag.ensures c.if1.true
 
 payload-requires : tie.Need-payload-requires
@@ -98,7 +98,7 @@ returns-2 c =
     let a = c.before.before.before.before.before.before.before.before.before.before.before.before.before.before.args in
     let r = c.before.before.application-demanded in
     let k : ℕ = c.before.before.before.before.before.rank.result in
-    face-applies a.ps.now a.es.now a.ns.now a.functions a.t6 (masks_in a.t7) a.face a.kept.nodes
+    face_applies a.ps.now a.es.now a.ns.now a.functions a.t6 (masks_in a.t7) a.face a.kept.nodes
     c.before.before.before.before.before.before.before.before.tag.result
     c.before.before.before.before.before.before.before.before.tag.ensures
     c.before.before.before.before.before.before.before.if1.false

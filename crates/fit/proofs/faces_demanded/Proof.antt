@@ -8,7 +8,7 @@ use borrow.Author.Rules.{rules}
 use Rattle.masks.specs.Sets.{masks_in}
 use Rattle.numbers.specs.Tests.{told}
 use Rattle.fit.specs.Judging.{faces_kept}
-use Rattle.fit.proofs.CodeLaws.{tables_again, Going, going_slots, going_on, going_fails, going-ends}
+use Rattle.fit.proofs.CodeLaws.{tables_again, Going, going_slots, going_on, going_fails, going_ends}
 use Rattle.fit.proofs.faces_demanded.Statement.{statement}
 use Rattle.fit.proofs.faces_demanded.Tie as tie
 
@@ -84,7 +84,7 @@ returns-2 c =
     let s = c.before.before.before.before.before.before.before in
     let a = s.args in
     let l = c.before.loop in
-    going-ends a.ps.now a.es.now a.ns.now a.functions a.nodes (masks_in a.row) a.faces.now _ l.k l.auto.nodes
+    going_ends a.ps.now a.es.now a.ns.now a.functions a.nodes (masks_in a.row) a.faces.now _ l.k l.auto.nodes
     l.invariant.1 c.loop-test.false
 
 pub faces-demanded-spec : {M : Type 1} → statement M

@@ -3,7 +3,7 @@ use mathlib.Core.Path.{ap, sym, ◌∙◌}
 use mathlib.Core.Bool.{not}
 use borrow.Author.Rules.{rules}
 use Rattle.masks.specs.Sets.{masks_in}
-use Rattle.fit.proofs.CodeLaws.{judges-open, closed_all, judges-closed}
+use Rattle.fit.proofs.CodeLaws.{judges_open, closed_all, judges_closed}
 use Rattle.fit.proofs.judge.Statement.{statement}
 use Rattle.fit.proofs.judge.Tie as tie
 
@@ -13,8 +13,8 @@ bodies-closed-requires c κs = search rules
 returns : tie.Need-returns
 returns c =
     let a = c.before.before.before.before.before.before.before.args in
-    judges-open a.ps.now a.es.now a.ns.now a.faces.now a.functions a.firsts (masks_in a.row)
-    (ap not (sym c.before.bodies_closed_lem.ensures) ∙ c.if1.true) _
+    judges_open a.ps.now a.es.now a.ns.now a.faces.now a.functions a.firsts (masks_in a.row)
+    (ap not (sym c.before.bodies_closed.ensures) ∙ c.if1.true) _
 
 all-faces-requires : tie.Need-all-faces-requires
 all-faces-requires c κs =
@@ -22,7 +22,7 @@ all-faces-requires c κs =
     let a = s.args in (
       s.requires,
       closed_all a.ps.now a.es.now a.ns.now a.faces.now a.functions a.firsts (masks_in a.row)
-          (ap not (sym c.before.before.bodies_closed_lem.ensures) ∙ c.before.if1.false),
+          (ap not (sym c.before.before.bodies_closed.ensures) ∙ c.before.if1.false),
     )
 
 same_length : tie.Need-same-length
@@ -32,9 +32,9 @@ returns-2 : tie.Need-returns-2
 returns-2 c =
     let a = c.before.before.before.before.before.before.before.before.before.before.before.before.args in
     let r = c.before.before.before.all-faces in
-    judges-closed a.ps.now a.es.now a.ns.now a.faces.now a.functions a.firsts (masks_in a.row)
+    judges_closed a.ps.now a.es.now a.ns.now a.faces.now a.functions a.firsts (masks_in a.row)
     (closed_all a.ps.now a.es.now a.ns.now a.faces.now a.functions a.firsts (masks_in a.row)
-    (ap not (sym c.before.before.before.before.before.before.bodies_closed_lem.ensures)
+    (ap not (sym c.before.before.before.before.before.before.bodies_closed.ensures)
     ∙ c.before.before.before.before.before.if1.false)) r.result r.ensures
 
 pub judge-spec : {M : Type 1} → statement M

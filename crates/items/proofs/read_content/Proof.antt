@@ -7,7 +7,7 @@ use lib.ListN.{get_or}
 use borrow.Author.Rules.{rules}
 use Rattle.items.specs.Fields.{FieldInside, RuleOf}
 use Rattle.items.specs.declared.Rule.{Rule}
-use Rattle.items.proofs.ContentLaws.{content-none, content_over, content_value, content_body, content-open, content-other}
+use Rattle.items.proofs.ContentLaws.{content_none, content_over, content_value, content_body, content_open, content_other}
 use Rattle.items.proofs.read_content.Statement.{statement}
 use Rattle.items.proofs.read_content.Tie as tie
 
@@ -43,7 +43,7 @@ module _ (c : tie.After-rule-of) where
 returns : tie.Need-returns
 returns c =
     let s = c.before.before.before in
-    content-none s.args.s.now s.args.tag s.args.end s.requires.0 s.args.table.now c.if1.true
+    content_none s.args.s.now s.args.tag s.args.end s.requires.0 s.args.table.now c.if1.true
 
 shared-slice-read-number : tie.Need-shared-slice-read-number
 shared-slice-read-number c = search rules
@@ -131,14 +131,14 @@ returns-4 c =
 returns-5 : tie.Need-returns-5
 returns-5 c =
     let r = c.before.before.before in
-    content-open (s r) (tag r) (end r) (inside r) (some r) (number r) (o r) c.ended3.result
+    content_open (s r) (tag r) (end r) (inside r) (some r) (number r) (o r) c.ended3.result
     (rule r _ c.before.enum-told3.given.1) c.ended3.ensures
 
 returns-6 : tie.Need-returns-6
 returns-6 c =
     let r = c.before.before in
     let other = rule r _ c.enum-told4.given.1 in
-    content-other (s r) (tag r) (end r) (inside r) (o r) other.0 other.1 other.2
+    content_other (s r) (tag r) (end r) (inside r) (o r) other.0 other.1 other.2
 
 pub read-content-spec : {M : Type 1} → statement M
 read-content-spec =

@@ -10,7 +10,7 @@ use Rattle.items.proofs.read_field.Tie as tie
 -- The head, once it is read
 head : (c : tie.After-tag)
     → PartsDone c.before.before.before.before.before.args.s.now (parts.Field c.tag.given.0.0 c.tag.given.0.1.0)
-head c = rw c.tag.given.1 at c.before.before.parts_of_lem.ensures
+head c = rw c.tag.given.1 at c.before.before.parts_of.ensures
 
 parts-of-requires : tie.Need-parts-of-requires
 parts-of-requires c κs = search rules
@@ -32,7 +32,7 @@ read-content-requires c κs =
 returns : tie.Need-returns
 returns c =
     let s = c.before.before.before.before.before in
-    field_cut s.args.s.now s.args.table.now (rw c.enum_told.given.1 at c.before.before.parts_of_lem.ensures)
+    field_cut s.args.s.now s.args.table.now (rw c.enum_told.given.1 at c.before.before.parts_of.ensures)
 
 same_length : tie.Need-same-length
 same_length c = search rules
@@ -42,8 +42,8 @@ returns-2 c =
     let read = c.before.before in
     let met = read.before.before.before in
     let s = met.before.before.before.before.before in
-    field_content s.args.s.now s.args.table.now read.read_content_lem.new.1.1.1.0 read.read_content_lem.result (head met)
-    read.read_content_lem.ensures
+    field_content s.args.s.now s.args.table.now read.read_content.new.1.1.1.0 read.read_content.result (head met)
+    read.read_content.ensures
 
 pub read-field-spec : {M : Type 1} → statement M
 read-field-spec =

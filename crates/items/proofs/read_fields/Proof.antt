@@ -13,8 +13,8 @@ use Rattle.items.specs.Fields.{FieldDone, read_field}
 use Rattle.items.specs.declared.Field.{Field}
 use Rattle.items.specs.declared.Field.TheVariants as fields
 use Rattle.items.proofs.ItemLaws.{all_read}
-use Rattle.items.proofs.FieldsLaws.{Reading, reading_begins, reading_counts, reading-ends, reading_goes, reading_noted}
-use Rattle.items.proofs.FieldsLaws.{reading_refused, reading_space, used-inside}
+use Rattle.items.proofs.FieldsLaws.{Reading, reading_begins, reading_counts, reading_ends, reading_goes, reading_noted}
+use Rattle.items.proofs.FieldsLaws.{reading_refused, reading_space, used_inside}
 use Rattle.items.proofs.read_fields.Statement.{statement}
 use Rattle.items.proofs.read_fields.Tie as tie
 
@@ -26,7 +26,7 @@ decreases-loop text table₀ said₀ order₀ used₀ at₀ table said order use
 
 -- The terms read are in the table
 inside : (c : tie.At-loop invariant-loop decreases-loop) → c.loop.used ≤ length c.loop.table
-inside c = used-inside _ c.loop.table c.loop.used c.loop.at c.loop.said c.loop.order c.loop.invariant.1
+inside c = used_inside _ c.loop.table c.loop.used c.loop.at c.loop.said c.loop.order c.loop.invariant.1
 
 -- A field is read: x is the table after those terms, with the field's own at its front
 module _ (c : tie.After-read-field invariant-loop decreases-loop) where
@@ -183,7 +183,7 @@ returns-2 : tie.Need-returns-2 invariant-loop decreases-loop
 returns-2 c =
     let l = c.before.loop in
     let s = c.before.before.before.before.before in
-    reading-ends s.args.text.now l.table l.used l.at l.said l.order l.invariant.1 c.loop-test.false
+    reading_ends s.args.text.now l.table l.used l.at l.said l.order l.invariant.1 c.loop-test.false
 
 pub read-fields-spec : {M : Type 1} → statement M
 read-fields-spec =

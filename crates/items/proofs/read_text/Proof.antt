@@ -4,7 +4,7 @@ use Prim.Native.Nat.{◌≤◌}
 use lib.ListN.{length}
 use borrow.Author.Rules.{rules}
 use Rattle.meaning.specs.Limits.{largest_text}
-use Rattle.items.proofs.TextLaws.{text_falls, text-got, text-over, text_malformed}
+use Rattle.items.proofs.TextLaws.{text_falls, text_got, text_over, text_malformed}
 use Rattle.items.proofs.read_text.Statement.{statement}
 use Rattle.items.proofs.read_text.Tie as tie
 
@@ -16,7 +16,7 @@ refused-requires : tie.Need-refused-requires
 refused-requires c κs = search rules
 
 returns : tie.Need-returns
-returns c = text-over _ _ _ c.before.if1.true c.refused.ensures
+returns c = text_over _ _ _ c.before.if1.true c.refused.ensures
 
 read-fields-requires : tie.Need-read-fields-requires
 unfolding largest_text
@@ -52,7 +52,7 @@ returns-4 : tie.Need-returns-4
 returns-4 c =
     let formed = c.before.before.before in
     let read = formed.before.before.before.before in
-    text-got _ _ (short read) _ read.read-fields.ensures formed.if2.false _ c.before.if3.false refl
+    text_got _ _ (short read) _ read.read-fields.ensures formed.if2.false _ c.before.if3.false refl
 
 pub read-text-spec : {M : Type 1} → statement M
 read-text-spec =

@@ -1,7 +1,7 @@
 -- `found_line`.
 use borrow.Author.Rules.{rules}
 use mathlib.Core.Path.{refl}
-use Rattle.listing.proofs.LineLaws.{more-line, next-line}
+use Rattle.listing.proofs.LineLaws.{more_line, next_line}
 use Rattle.listing.proofs.found_line.Statement.{statement}
 use Rattle.listing.proofs.found_line.Tie as tie
 
@@ -15,7 +15,7 @@ same_length : tie.Need-same-length
 same_length c = search rules
 
 returns : tie.Need-returns
-returns c = let last = c.before.before in more-line last.before.before.before.if1.true last.last_Line.ensures
+returns c = let last = c.before.before in more_line last.before.before.before.if1.true last.last_Line.ensures
 
 add-solution-line : tie.Need-overflow-add-solution-line
 add-solution-line c = search rules
@@ -32,7 +32,7 @@ same-length-2 c = search rules
 returns-2 : tie.Need-returns-2
 returns-2 c =
     let line = c.before.before in
-    next-line line.before.before.if1.false line.solution-line.ensures refl refl refl
+    next_line line.before.before.if1.false line.solution-line.ensures refl refl refl
 
 pub found-line-spec : {M : Type 1} → statement M
 found-line-spec =

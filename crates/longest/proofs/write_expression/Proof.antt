@@ -2,12 +2,12 @@
 use borrow.Author.Rules.{rules}
 use native.Mathlib.Omega.{arith}
 use Rattle.longest.proofs.WriteLaws.{application_counted, application_head, application_long, application_wrote}
-use Rattle.longest.proofs.WriteLaws.{symbol-room-one, symbol-wrote, symbols_fit}
+use Rattle.longest.proofs.WriteLaws.{symbol_room_one, symbol_wrote, symbols_fit}
 use Rattle.longest.proofs.write_expression.Statement.{statement}
 use Rattle.longest.proofs.write_expression.Tie as tie
 
 write-symbols-requires : tie.Need-write-symbols-requires
-write-symbols-requires c κs = let met = c.before in symbol-room-one met.before.before.requires met.if1.true
+write-symbols-requires c κs = let met = c.before in symbol_room_one met.before.before.requires met.if1.true
 
 same_length : tie.Need-same-length
 same_length c = search rules
@@ -16,7 +16,7 @@ returns : tie.Need-returns
 returns c =
     let w = c.before.before in
     let met = w.before.before in
-    symbol-wrote met.before.before.requires met.if1.true w.write-symbols.ensures
+    symbol_wrote met.before.before.requires met.if1.true w.write-symbols.ensures
 
 sub-write-symbols : tie.Need-overflow-sub-write-symbols
 sub-write-symbols c = search rules

@@ -1,6 +1,6 @@
 -- `write_longest` meets its contract: 28, 29, or the problem.
 use borrow.Author.Rules.{rules}
-use Rattle.longest.proofs.WriteLaws.{longest_written, outside-refused, problem_room, short_refused}
+use Rattle.longest.proofs.WriteLaws.{longest_written, outside_refused, problem_room, short_refused}
 use Rattle.longest.proofs.write_longest.Statement.{statement}
 use Rattle.longest.proofs.write_longest.Tie as tie
 
@@ -14,7 +14,7 @@ returns : tie.Need-returns
 returns c =
     let test = c.before in
     let args = test.before.before.before.args in
-    outside-refused args.n args.out.now test.is-outside.ensures c.if1.true
+    outside_refused args.n args.out.now test.is-outside.ensures c.if1.true
 
 returns-2 : tie.Need-returns-2
 returns-2 c =

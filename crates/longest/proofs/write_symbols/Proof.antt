@@ -2,7 +2,7 @@
 use borrow.Author.Rules.{rules}
 use native.Mathlib.Omega.{arith}
 use Prim.Native.Nat.{◌-◌}
-use Rattle.longest.proofs.WriteLaws.{Symbols, symbol_fits, symbol_room, symbol_start, symbols_begin, symbols-end, symbols_go}
+use Rattle.longest.proofs.WriteLaws.{Symbols, symbol_fits, symbol_room, symbol_start, symbols_begin, symbols_end, symbols_go}
 use Rattle.longest.proofs.write_symbols.Statement.{statement}
 use Rattle.longest.proofs.write_symbols.Tie as tie
 
@@ -55,7 +55,7 @@ same_length : tie.Need-same-length invariant-loop decreases-loop
 same_length c = c.before.loop.invariant.same
 
 returns : tie.Need-returns invariant-loop decreases-loop
-returns c = symbols-end c.before.loop.invariant (omega arith)
+returns c = symbols_end c.before.loop.invariant (omega arith)
 
 pub write-symbols-spec : {M : Type 1} → statement M
 write-symbols-spec =

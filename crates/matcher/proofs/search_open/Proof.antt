@@ -160,8 +160,8 @@ module _ {M : Type 1} {𝓤 : Ura M} (𝓛 : Logic 𝓤) (at_mem : Memory → SP
   search_is : (r : Moved) (u : Val) → Is moved.the_row r (u ∷ []) → IsSearch r.search
   search_is r u is = (struct.owed moved.the_type moved_laws.the_laws r _ is).0
 
-  reply-is : (r : Moved) (u : Val) → Is moved.the_row r (u ∷ []) → IsReply r.reply
-  reply-is r u is = (struct.owed moved.the_type moved_laws.the_laws r _ is).1.0
+  reply_is : (r : Moved) (u : Val) → Is moved.the_row r (u ∷ []) → IsReply r.reply
+  reply_is r u is = (struct.owed moved.the_type moved_laws.the_laws r _ is).1.0
 
   -- what is left at the return: the borrow closed at the open search that was handed back
   abbrev closed : Moved → List (Item 𝓤)
@@ -223,7 +223,7 @@ module _ {M : Type 1} {𝓤 : Ura M} (𝓛 : Logic 𝓤) (at_mem : Memory → SP
         assigns ! (of_opd ! (load ! (from ! (fld ! refl (stop !))) (look_in ! 7 (sub ! 0 refl (whole !)))))
         (from ! (hop ! (look ! 15 refl) (stop !))) (store_in ! 2 (whole !) (search-typed r.search (search_is r u is))) $
         assigns ! (of_opd ! (load ! (from ! (fld ! refl (stop !))) (look_in ! 7 (sub ! 1 refl (whole !))))) (from ! (stop !))
-        (init ! 17 refl (reply-typed r.reply (reply-is r u is))) $
+        (init ! 17 refl (reply-typed r.reply (reply_is r u is))) $
         -- the borrow is closed at it
         owned ! search.the_row (Is search.the_row) (struct.makes search.the_type search-laws.the_plain 𝓛) r.search _
         (search_is r u is) $ move ! (3 ∷ []) $
@@ -235,7 +235,7 @@ module _ {M : Type 1} {𝓤 : Ura M} (𝓛 : Logic 𝓤) (at_mem : Memory → SP
         forget ! 6 refl $ forget ! 8 refl $ forget ! 10 refl $ forget ! 12 refl $ forget ! 14 refl $ forget ! 16 refl $
         move ! (16 ∷ 17 ∷ []) $ free1 ! $ move ! (14 ∷ 15 ∷ []) $ free1 ! $ move ! (12 ∷ 13 ∷ []) $ free1 ! $
         move ! (10 ∷ 11 ∷ []) $ free1 ! $ move ! (8 ∷ 9 ∷ []) $ free1 ! $ move ! (6 ∷ 7 ∷ []) $ free1 ! $ free0 ! $
-        keep ! (0 ∷ 1 ∷ 2 ∷ 3 ∷ 4 ∷ []) $ by ! (exits r e (reply-is r u is))))))))))))))
+        keep ! (0 ∷ 1 ∷ 2 ∷ 3 ∷ 4 ∷ []) $ by ! (exits r e (reply_is r u is))))))))))))))
 
 module _ {M : Type 1} {𝓤 : Ura M} (𝓛 : Logic 𝓤) (mem : Memory → SProp 𝓤) (run : Routine → Fun 𝓤) where
   open 𝓛 use {H}

@@ -1,5 +1,5 @@
 -- `survey::added` meets its contract: a 1 shifted to bit m is joined by `|`; a number past the last metavariable adds nothing.
-use Rattle.metavariables.proofs.SurveyLaws.{added-in, added_out}
+use Rattle.metavariables.proofs.SurveyLaws.{added_in, added_out}
 use borrow.Author.Rules.{rules}
 use Rattle.metavariables.proofs.added.Statement.{statement}
 use Rattle.metavariables.proofs.added.Tie as tie
@@ -14,7 +14,7 @@ shl-result : tie.Need-overflow-shl-result
 shl-result c = search rules
 
 returns : tie.Need-returns
-returns c = added-in c.before.args.set c.before.args.m c.if1.true
+returns c = added_in c.before.args.set c.before.args.m c.if1.true
 
 returns-2 : tie.Need-returns-2
 returns-2 c = added_out c.before.args.set c.before.args.m c.if1.false

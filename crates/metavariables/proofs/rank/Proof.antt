@@ -2,7 +2,7 @@
 use native.Mathlib.Omega.{arith}
 use lib.Pow.{pow_pos}
 use borrow.Author.Rules.{rules}
-use Rattle.metavariables.proofs.SurveyLaws.{one_shifted, rank_small, rank-code}
+use Rattle.metavariables.proofs.SurveyLaws.{one_shifted, rank_small, rank_code}
 use Rattle.metavariables.proofs.rank.Statement.{statement}
 use Rattle.metavariables.proofs.rank.Tie as tie
 
@@ -16,7 +16,7 @@ cast-result : tie.Need-overflow-cast-result
 cast-result c = omega (arith, rank_small c.args.set c.args.m c.requires)
 
 returns : tie.Need-returns
-returns c = rank-code c.args.set c.args.m c.requires
+returns c = rank_code c.args.set c.args.m c.requires
 
 pub rank-spec : {M : Type 1} → statement M
 rank-spec = tie.close (tie.spec shl-result rem-result cast-result returns)

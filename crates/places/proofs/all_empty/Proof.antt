@@ -9,7 +9,7 @@ use mathlib.Core.Bool.{false≢true}
 use lib.ListN.{length, get_or, length-map}
 use Rattle.meaning.specs.Limits.{max_functions}
 use Rattle.masks.specs.Sets.{mask, masks_in}
-use Rattle.places.proofs.PlaceLaws.{zeros, empty-at, filled_at}
+use Rattle.places.proofs.PlaceLaws.{zeros, empty_at, filled_at}
 use Rattle.places.proofs.all_empty.Statement.{statement}
 use Rattle.places.proofs.all_empty.Tie as tie
 
@@ -52,7 +52,7 @@ unfolding max_functions
 loop-again c =
     let sets = c.before.before.before.before.before.args.t1 in
     let at = c.before.before.before.before.loop in
-    (omega arith, below_more _ _ at.invariant.1 (empty-at sets at.k _ c.before.is_empty.ensures (not-false _ c.if1.false)))
+    (omega arith, below_more _ _ at.invariant.1 (empty_at sets at.k _ c.before.is_empty.ensures (not-false _ c.if1.false)))
 
 returns-2 : tie.Need-returns-2 invariant-loop decreases-loop
 unfolding max_functions

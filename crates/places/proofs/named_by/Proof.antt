@@ -3,7 +3,7 @@ use mathlib.Core.Path.{sym, ◌∙◌}
 use mathlib.Core.Bool.{true≢false}
 use borrow.Author.Rules.{rules}
 use borrow.Author.Tests.{not-true, not-false}
-use Rattle.places.proofs.PlaceLaws.{tells-past, tells_row, tells-no-past, tells-no-rows, tells-no-row}
+use Rattle.places.proofs.PlaceLaws.{tells_past, tells_row, tells_no_past, tells_no_rows, tells_no_row}
 use Rattle.places.proofs.named_by.Statement.{statement}
 use Rattle.places.proofs.named_by.Tie as tie
 
@@ -11,15 +11,15 @@ all-empty-requires : tie.Need-all-empty-requires
 all-empty-requires c κs = search rules
 
 returns : tie.Need-returns
-returns c = tells-past _ _ _ _ _ c.before.before.if1.true (c.before.all-empty.ensures.0 c.if2.true)
+returns c = tells_past _ _ _ _ _ c.before.before.if1.true (c.before.all-empty.ensures.0 c.if2.true)
 
 returns-2 : tie.Need-returns-2
 returns-2 c =
-    tells-no-past _ _ _ _ _ c.before.before.if1.true
+    tells_no_past _ _ _ _ _ c.before.before.if1.true
     (λ e. true≢false (sym (c.before.all-empty.ensures.1 e) ∙ c.if2.false))
 
 returns-3 : tie.Need-returns-3
-returns-3 c = tells-no-rows _ _ _ _ _ c.before.if1.false (not-true _ c.if3.true)
+returns-3 c = tells_no_rows _ _ _ _ _ c.before.if1.false (not-true _ c.if3.true)
 
 is-row-requires : tie.Need-is-row-requires
 is-row-requires c κs = c.before.before.before.before.before.requires (not-false _ c.if3.false)
@@ -31,7 +31,7 @@ returns-4 c =
 
 returns-5 : tie.Need-returns-5
 returns-5 c =
-    tells-no-row _ _ _ _ _ c.before.before.before.if1.false (λ m. true≢false (sym (c.before.is_row.ensures.1 m) ∙ c.if4.false))
+    tells_no_row _ _ _ _ _ c.before.before.before.if1.false (λ m. true≢false (sym (c.before.is_row.ensures.1 m) ∙ c.if4.false))
 
 pub named-by-spec : {M : Type 1} → statement M
 named-by-spec =

@@ -21,7 +21,7 @@ no-faces-requires c κs = search rules
 
 -- src/lib.rt:35:1
 returns-2 : tie.Need-returns-2
-returns-2 c = no_nodes_lem _ _ _ _ _ c.before.if1.false c.no_faces_lem.ensures
+returns-2 c = no_nodes_lem _ _ _ _ _ c.before.if1.false c.no_faces.ensures
 
 pub nodes-of-spec : {M : Type 1} → statement M
 nodes-of-spec = tie.close (tie.spec first-faces-requires returns no-faces-requires returns-2)

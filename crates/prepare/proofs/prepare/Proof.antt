@@ -10,7 +10,7 @@ use Rattle.accept.specs.Acceptance.{Accepts}
 use Rattle.accept.specs.declared.Verdict.{Verdict}
 use Rattle.accept.specs.declared.Verdict.TheVariants as verdicts
 use Rattle.accept.proofs.AcceptanceLaws.{are_bytes_lem}
-use Rattle.prepare.proofs.PreparedLaws.{accepts-ground, prepares-refused, prepares-accepted}
+use Rattle.prepare.proofs.PreparedLaws.{accepts_ground, prepares_refused, prepares_accepted}
 use Rattle.prepare.proofs.prepare.Statement.{statement}
 use Rattle.prepare.proofs.prepare.Tie as tie
 
@@ -52,7 +52,7 @@ unfolding Accepted
 with-numbers-requires c κs =
     let v = c.before.before.before.before.before in
     let a = v.before.before.before.before.before.before.before.before in (
-      accepts-ground (s a) _ _ _ _ _ (bytes a) v.verdict2.given.0.0 (subst (Accepted a) v.verdict2.given.1 (accepted a)),
+      accepts_ground (s a) _ _ _ _ _ (bytes a) v.verdict2.given.0.0 (subst (Accepted a) v.verdict2.given.1 (accepted a)),
       (start a).requires.1,
     )
 
@@ -70,7 +70,7 @@ unfolding Accepted
 returns c =
     let v = c.before.before in
     let a = v.before.before.before.before.before.before.before.before in
-    prepares-refused (s a) _ _ _ _ _ (bytes a) _ v.verdict.given.0.0 _ (subst (Accepted a) v.verdict.given.1 (accepted a)) refl
+    prepares_refused (s a) _ _ _ _ _ (bytes a) _ v.verdict.given.0.0 _ (subst (Accepted a) v.verdict.given.1 (accepted a)) refl
 
 same-length-4 : tie.Need-same-length-4
 same-length-4 c = search rules
@@ -89,7 +89,7 @@ unfolding Accepted
 returns-2 c =
     let v = c.before.before.before.before.before.before.before.before in
     let a = v.before.before.before.before.before.before.before.before in
-    prepares-accepted (s a) _ _ _ _ _ (bytes a) _ v.verdict2.given.0.0 _ (subst (Accepted a) v.verdict2.given.1 (accepted a))
+    prepares_accepted (s a) _ _ _ _ _ (bytes a) _ v.verdict2.given.0.0 _ (subst (Accepted a) v.verdict2.given.1 (accepted a))
     c.before.before.with-numbers.ensures
 
 pub prepare-spec : {M : Type 1} → statement M

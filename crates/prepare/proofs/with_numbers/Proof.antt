@@ -8,7 +8,7 @@ use Rattle.table.specs.Whole.{table_room}
 use borrow.Author.Rules.{rules}
 use Rattle.numbers.proofs.AlikeLaws.{numbers_front}
 use Rattle.prepare.specs.Prepared.{Laid}
-use Rattle.prepare.proofs.PreparedLaws.{functions-few, table_numbers, table-few}
+use Rattle.prepare.proofs.PreparedLaws.{functions_few, table_numbers, table_few}
 use Rattle.prepare.proofs.with_numbers.Statement.{statement}
 use Rattle.prepare.proofs.with_numbers.Tie as tie
 
@@ -21,7 +21,7 @@ module _ (s : tie.Start) where
   expressions-long = length-take-le s.args.a.expressions s.args.es.now laid.expressions_inside
 
   few : s.args.a.expressions < table_room
-  few = table-few _ _ _ _ _ laid
+  few = table_few _ _ _ _ _ laid
 
 slice-aggregate-nodes-of : tie.Need-slice-aggregate-nodes-of
 slice-aggregate-nodes-of c = sym (length-take-le _ _ (laid c.before.before.before.before.before).patterns_inside)
@@ -30,7 +30,7 @@ slice-aggregate-nodes-of-2 : tie.Need-slice-aggregate-nodes-of-2
 slice-aggregate-nodes-of-2 c = sym (length-take-le _ _ (laid c.before.before.before.before.before.before).faces_inside)
 
 nodes-of-requires : tie.Need-nodes-of-requires
-nodes-of-requires c κs = functions-few _ _ _ _ _ (laid c.before.before.before.before.before.before)
+nodes-of-requires c κs = functions_few _ _ _ _ _ (laid c.before.before.before.before.before.before)
 
 slice-aggregate-number-nodes : tie.Need-slice-aggregate-number-nodes
 slice-aggregate-number-nodes c = sym (expressions-long c.before.before.before.before.before.before.before.before)

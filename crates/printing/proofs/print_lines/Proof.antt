@@ -27,7 +27,7 @@ next-line-requires : tie.Need-next-line-requires invariant-loop decreases-loop
 next-line-requires c κs = search rules
 
 slice-reshare-prefix-print : tie.Need-slice-reshare-prefix-print invariant-loop decreases-loop
-slice-reshare-prefix-print c = stands_fits c.before.before.next-line.ensures.stands
+slice-reshare-prefix-print c = stands_fits c.before.before.next_line.ensures.stands
 
 slice-aggregate-print : tie.Need-slice-aggregate-print invariant-loop decreases-loop
 slice-aggregate-print c = sym (length-take-le _ _ (slice-reshare-prefix-print c.before))
@@ -46,13 +46,13 @@ module _ (c : tie.After-then invariant-loop decreases-loop) where
   abbrev made : tie.After-next-line invariant-loop decreases-loop
   made = c.before.before.before.before.before.before
 
-  ends : (left made.next-line.result.then < left made.before.before.before.before.loop.at)
-      × (made.next-line.result.then.over ≡ false → made.next-line.result.then.count ≤ 1000)
+  ends : (left made.next_line.result.then < left made.before.before.before.before.loop.at)
+      × (made.next_line.result.then.over ≡ false → made.next_line.result.then.count ≤ 1000)
   ends =
       let before = made.before.before in
       let loop = before.before.before.loop in
       let goes_on = not-true loop.at.over before.if1.taken in
-      lines_end {now = loop.at} made.next-line.ensures goes_on (loop.inv.1 goes_on)
+      lines_end {now = loop.at} made.next_line.ensures goes_on (loop.inv.1 goes_on)
 
 loop-less : tie.Need-loop-smaller invariant-loop decreases-loop
 loop-less c = (ends c).0

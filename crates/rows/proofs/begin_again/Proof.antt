@@ -7,7 +7,7 @@ use Rattle.meaning.specs.Limits.{max_functions}
 use Rattle.masks.specs.Sets.{masks_in}
 use Rattle.masks.proofs.Words.{masks_at}
 use Rattle.rows.specs.Rows.{begun}
-use Rattle.rows.proofs.RowLaws.{again-none, again-more}
+use Rattle.rows.proofs.RowLaws.{again_none, again_more}
 use Rattle.rows.proofs.begin_again.Statement.{statement}
 use Rattle.rows.proofs.begin_again.Tie as tie
 
@@ -19,7 +19,7 @@ decreases-loop k first next₀ j₀ next j = j
 
 loop-holds : tie.Need-loop-init invariant-loop decreases-loop
 loop-holds c =
-    (c.requires.0, omega arith, again-none c.args.firsts.count c.args.t2 c.args.row c.args.firsts.count (omega arith))
+    (c.requires.0, omega arith, again_none c.args.firsts.count c.args.t2 c.args.row c.args.firsts.count (omega arith))
 
 sub-j : tie.Need-overflow-sub-j invariant-loop decreases-loop
 sub-j c = search rules
@@ -53,7 +53,7 @@ loop-again c =
     subst (λ (i : ℕ). masks_in at.next ≡ begun s.args.firsts.count (masks_in s.args.t2) i (masks_in s.args.row)) e at.invariant.2 in (
       omega arith,
       omega arith,
-      again-more s.args.firsts.count s.args.t2 s.args.row j at.next _ (omega arith) done (masks_at s.args.t2 j),
+      again_more s.args.firsts.count s.args.t2 s.args.row j at.next _ (omega arith) done (masks_at s.args.t2 j),
     )
 
 returns : tie.Need-returns invariant-loop decreases-loop

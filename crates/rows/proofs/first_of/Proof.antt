@@ -2,7 +2,7 @@
 use borrow.Author.Rules.{rules}
 use native.Mathlib.Omega.{arith}
 use Rattle.meaning.specs.Limits.{max_functions}
-use Rattle.rows.proofs.RowLaws.{first_here, first-none}
+use Rattle.rows.proofs.RowLaws.{first_here, first_none}
 use Rattle.rows.proofs.first_of.Statement.{statement}
 use Rattle.rows.proofs.first_of.Tie as tie
 
@@ -36,7 +36,7 @@ returns-2 c =
     let es = s.args.es.now in
     let ns = s.args.ns.now in
     let firsts = s.args.firsts in
-    first-none es ns firsts s.args.k _ c.before.if1.false c.none.ensures
+    first_none es ns firsts s.args.k _ c.before.if1.false c.none.ensures
 
 pub first-of-spec : {M : Type 1} → statement M
 first-of-spec =

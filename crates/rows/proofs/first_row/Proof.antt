@@ -5,7 +5,7 @@ use Prim.Native.Nat.{ℕ, suc, ◌-◌, ◌≤◌}
 use mathlib.Core.Path.{◌≡◌, refl, subst}
 use lib.ListN.{replicate}
 use Rattle.meaning.specs.Limits.{max_functions}
-use Rattle.rows.proofs.RowLaws.{Freshly, freshly-none, freshly-more, first_of_rows}
+use Rattle.rows.proofs.RowLaws.{Freshly, freshly_none, freshly_more, first_of_rows}
 use Rattle.rows.proofs.first_row.Statement.{statement}
 use Rattle.rows.proofs.first_row.Tie as tie
 
@@ -25,7 +25,7 @@ loop-holds c =
     let es = s.args.es.now in
     let ns = s.args.ns.now in
     let firsts = s.args.firsts in
-    (omega arith, freshly-none es ns firsts (replicate max_functions c.none.result) refl)
+    (omega arith, freshly_none es ns firsts (replicate max_functions c.none.result) refl)
 
 sub-k : tie.Need-overflow-sub-k invariant-loop decreases-loop
 sub-k c = search rules
@@ -56,7 +56,7 @@ loop-again c =
     let j : ℕ = at.k - 1 in
     let e : at.k ≡ suc j = omega arith in
     let w : Freshly es ns firsts at.row (suc j) = subst (Freshly es ns firsts at.row) e at.invariant.1 in
-    (omega arith, freshly-more es ns firsts at.row j _ (omega arith) w c.first_of.ensures)
+    (omega arith, freshly_more es ns firsts at.row j _ (omega arith) w c.first_of.ensures)
 
 returns : tie.Need-returns invariant-loop decreases-loop
 returns c =

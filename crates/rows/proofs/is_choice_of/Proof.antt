@@ -4,7 +4,7 @@ use native.Mathlib.Omega.{arith}
 use mathlib.Core.Path.{sym, ◌∙◌}
 use Rattle.meaning.specs.Limits.{max_functions}
 use Rattle.masks.specs.Sets.{mask}
-use Rattle.rows.proofs.RowLaws.{there-choice, absent-choice}
+use Rattle.rows.proofs.RowLaws.{there_choice, absent_choice}
 use Rattle.rows.proofs.is_choice_of.Statement.{statement}
 use Rattle.rows.proofs.is_choice_of.Tie as tie
 
@@ -27,7 +27,7 @@ returns c =
     let es = s.args.es.now in
     let ns = s.args.ns.now in
     let firsts = s.args.firsts in
-    let here = there-choice es ns firsts s.args.k (mask s.args.set) c.before.before.if1.true in
+    let here = there_choice es ns firsts s.args.k (mask s.args.set) c.before.before.if1.true in
     let is = c.is-choice.ensures in
     (λ e. here.0 (is.0 e), λ m. is.1 (here.1 m))
 
@@ -40,7 +40,7 @@ returns-2 c =
     let es = s.args.es.now in
     let ns = s.args.ns.now in
     let firsts = s.args.firsts in
-    let here = absent-choice es ns firsts s.args.k (mask s.args.set) c.before.if1.false in
+    let here = absent_choice es ns firsts s.args.k (mask s.args.set) c.before.if1.false in
     let is = c.is_empty.ensures in
     (λ e. here.0 (sym is ∙ e), λ m. is ∙ here.1 m)
 

@@ -12,7 +12,7 @@ use Rattle.meaning.specs.Basics.{◌∈◌}
 use Rattle.masks.specs.Sets.{masks_in}
 use Rattle.masks.proofs.Words.{masks_at}
 use Rattle.rows.specs.Rows.{choices_of}
-use Rattle.rows.proofs.RowLaws.{choice-row, row-choice}
+use Rattle.rows.proofs.RowLaws.{choice_row, row_choice}
 use Rattle.rows.proofs.is_row.Statement.{statement}
 use Rattle.rows.proofs.is_row.Tie as tie
 
@@ -50,7 +50,7 @@ returns c =
           (sym
           (c.before.is-choice-of.ensures.1
           (subst (λ (x : ℕ). x ∈ choices_of es ns firsts at.k) (sym (masks_at s.args.t4 at.k))
-          (row-choice es ns firsts s.args.t4 m at.k (omega arith))))
+          (row_choice es ns firsts s.args.t4 m at.k (omega arith))))
           ∙ not-true _ c.if1.true)),
     )
 
@@ -83,7 +83,7 @@ returns-2 c =
     let ns = s.args.ns.now in
     let firsts = s.args.firsts in
     let n : length s.args.t4 ≡ max_functions = search rules in
-    (λ e. choice-row es ns firsts s.args.t4 n (λ k h. c.before.loop.invariant.1 k (omega arith)), λ m. refl)
+    (λ e. choice_row es ns firsts s.args.t4 n (λ k h. c.before.loop.invariant.1 k (omega arith)), λ m. refl)
 
 pub is-row-spec : {M : Type 1} → statement M
 is-row-spec =

@@ -2,7 +2,7 @@
 use native.Mathlib.Omega.{arith}
 use Rattle.meaning.specs.Limits.{max_functions}
 use Rattle.masks.specs.Sets.{mask}
-use Rattle.rows.proofs.RowLaws.{there, there-choice, next_here}
+use Rattle.rows.proofs.RowLaws.{there, there_choice, next_here}
 use Rattle.rows.proofs.next_of.Statement.{statement}
 use Rattle.rows.proofs.next_of.Tie as tie
 
@@ -22,7 +22,7 @@ next-choice-requires c κs =
     let firsts = s.args.firsts in
     let here = there es ns firsts s.args.k (mask s.args.set) s.requires.1.1.0 s.requires.1.1.1 in (
       (s.requires.0.faces.whole s.args.k here, s.requires.0.numbers),
-      ((there-choice es ns firsts s.args.k (mask s.args.set) here).1 s.requires.1.1.0, s.requires.1.1.1),
+      ((there_choice es ns firsts s.args.k (mask s.args.set) here).1 s.requires.1.1.0, s.requires.1.1.1),
     )
 
 returns : tie.Need-returns

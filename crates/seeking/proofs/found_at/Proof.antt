@@ -1,7 +1,7 @@
 -- `found_at` meets its contract.
 use mathlib.Core.Path.{refl}
 use borrow.Author.Rules.{rules}
-use Rattle.seeking.proofs.SeekLaws.{passed_more, passed-last}
+use Rattle.seeking.proofs.SeekLaws.{passed_more, passed_last}
 use Rattle.seeking.proofs.found_at.Statement.{statement}
 use Rattle.seeking.proofs.found_at.Tie as tie
 
@@ -24,7 +24,7 @@ returns-2 : tie.Need-returns-2
 returns-2 c =
     let step = c.before.before.before.next_row in
     let fixed = c.before.before.before.before.before.before.before.before.args.fixed in
-    passed-last _ _ fixed _ _ step.result.row step.ensures _ refl refl c.before.if1.false c.past-last.ensures
+    passed_last _ _ fixed _ _ step.result.row step.ensures _ refl refl c.before.if1.false c.past-last.ensures
 
 pub found-at-spec : {M : Type 1} → statement M
 found-at-spec = tie.close (tie.spec next-row-requires at-requires past-last-requires returns returns-2)

@@ -14,7 +14,7 @@ use Rattle.rows.proofs.RowLaws.{Moving, above_zero, last_moves, moved, moving_ch
 use Rattle.seeking.specs.Seeking.{Seekable, Seeks}
 use Rattle.seeking.specs.declared.Fixed.{Fixed}
 use Rattle.seeking.specs.declared.Searched.{Searched}
-use Rattle.seeking.proofs.SeekLaws.{seeks-found, seeks_ended, seeks-paused, seeks_on, seekable_next, seekable-ready, seekable-steppable}
+use Rattle.seeking.proofs.SeekLaws.{seeks_found, seeks_ended, seeks_paused, seeks_on, seekable_next, seekable_ready, seekable_steppable}
 use Rattle.seeking.proofs.seek.Statement.{statement}
 use Rattle.seeking.proofs.seek.Tie as tie
 
@@ -62,10 +62,10 @@ loop-holds : tie.Need-loop-init invariant-loop decreases-loop
 loop-holds c = (c.before.before.before.before.before.before.before.before.requires, refl, λ r h. h)
 
 judge-requires : tie.Need-judge-requires invariant-loop decreases-loop
-judge-requires c κs = seekable-ready _ _ _ _ _ _ _ c.before.before.loop.invariant.0
+judge-requires c κs = seekable_ready _ _ _ _ _ _ _ c.before.before.loop.invariant.0
 
 found-at-requires : tie.Need-found-at-requires invariant-loop decreases-loop
-found-at-requires c κs = seekable-steppable _ _ _ _ _ _ _ c.before.before.before.before.before.before.loop.invariant.0
+found-at-requires c κs = seekable_steppable _ _ _ _ _ _ _ c.before.before.before.before.before.before.loop.invariant.0
 
 same_length : tie.Need-same-length invariant-loop decreases-loop
 same_length c = search rules
@@ -74,7 +74,7 @@ returns : tie.Need-returns invariant-loop decreases-loop
 returns c =
     let solves = sym c.before.before.before.before.judge.ensures.solves ∙ c.before.if1.true in
     let loop = c.before.before.before.before.before.before.before.loop in
-    loop.invariant.2 _ (seeks-found _ _ _ _ _ _ _ _ (omega arith) solves c.found_at.ensures)
+    loop.invariant.2 _ (seeks_found _ _ _ _ _ _ _ _ (omega arith) solves c.found_at.ensures)
 
 mul-is-empty : tie.Need-overflow-mul-is-empty invariant-loop decreases-loop
 unfolding max_functions
@@ -181,7 +181,7 @@ same-length-3 c = search rules
 returns-3 : tie.Need-returns-3 invariant-loop decreases-loop
 returns-3 c =
     let loop = c.before.before.loop in
-    loop.invariant.2 _ (seeks-paused _ _ _ _ _ _ _ _ _ (omega arith) refl c.pause-at.ensures)
+    loop.invariant.2 _ (seeks_paused _ _ _ _ _ _ _ _ _ (omega arith) refl c.pause-at.ensures)
 
 pub seek-spec : {M : Type 1} → statement M
 seek-spec =

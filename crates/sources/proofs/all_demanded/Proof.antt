@@ -6,7 +6,7 @@ use lib.ListN.{length}
 use borrow.Author.Rules.{rules}
 use Rattle.numbers.specs.Tests.{told}
 use Rattle.sources.specs.Demand.{demands_in, kept_after}
-use Rattle.sources.proofs.KeptLaws.{Going, going_reads, going_on, going_fails, going-ends}
+use Rattle.sources.proofs.KeptLaws.{Going, going_reads, going_on, going_fails, going_ends}
 use Rattle.sources.proofs.all_demanded.Statement.{statement}
 use Rattle.sources.proofs.all_demanded.Tie as tie
 
@@ -62,7 +62,7 @@ returns-2 : tie.Need-returns-2 invariant-loop decreases-loop
 returns-2 c =
     let a = c.before in
     let s = a.before.before.before.before in
-    going-ends s.args.ps.now s.args.ns.now s.args.faces.now _ a.loop.k a.loop.auto.nodes a.loop.invariant
+    going_ends s.args.ps.now s.args.ns.now s.args.faces.now _ a.loop.k a.loop.auto.nodes a.loop.invariant
     c.loop-test.false
 
 pub all-demanded-spec : {M : Type 1} → statement M

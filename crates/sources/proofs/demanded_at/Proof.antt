@@ -1,6 +1,6 @@
 -- `demanded_at` meets its contract: only the face of a metavariable alone makes a demand.
 use borrow.Author.Rules.{rules}
-use Rattle.sources.proofs.KeptLaws.{face-none, face_asks, face_one}
+use Rattle.sources.proofs.KeptLaws.{face_none, face_asks, face_one}
 use Rattle.sources.proofs.demanded_at.Statement.{statement}
 use Rattle.sources.proofs.demanded_at.Tie as tie
 
@@ -16,7 +16,7 @@ tag-requires c κs = search rules
 returns : tie.Need-returns
 returns c =
     let a = c.before.before.before.before.before.args in
-    face-none a.ps.now a.ns.now a.sources.nodes a.face c.before.tag.result c.before.tag.ensures c.if1.true
+    face_none a.ps.now a.ns.now a.sources.nodes a.face c.before.tag.result c.before.tag.ensures c.if1.true
 
 payload-requires : tie.Need-payload-requires
 payload-requires c κs = search rules

@@ -1,13 +1,13 @@
 -- `give_start` meets its contract.
 use Rattle.meaning.specs.Limits.{max_functions}
-use Rattle.tivagyesz.proofs.ExportLaws.{given, not-given}
+use Rattle.tivagyesz.proofs.ExportLaws.{given, not_given}
 use borrow.Author.Rules.{rules}
 use Rattle.tivagyesz.proofs.give_start.Statement.{statement}
 use Rattle.tivagyesz.proofs.give_start.Tie as tie
 
 returns : tie.Need-returns
 unfolding max_functions
-returns c = not-given _ _ c.if1.true
+returns c = not_given _ _ c.if1.true
 
 put-place-requires : tie.Need-put-place-requires
 unfolding max_functions

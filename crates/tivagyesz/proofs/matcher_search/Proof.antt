@@ -1,6 +1,6 @@
 -- `matcher_search` meets its contract: a refusal changes nothing, and any other answer moves the place.
 use native.Mathlib.Omega.{arith}
-use Rattle.tivagyesz.proofs.ExportLaws.{search_refused, place_long, row_long, search-answered}
+use Rattle.tivagyesz.proofs.ExportLaws.{search_refused, place_long, row_long, search_answered}
 use borrow.Author.Rules.{rules}
 use Rattle.tivagyesz.proofs.matcher_search.Statement.{statement}
 use Rattle.tivagyesz.proofs.matcher_search.Tie as tie
@@ -55,7 +55,7 @@ returns-2 c =
     let search = code.before.before.before.before in
     let give = c.before.before in
     let put = give.before.before.before.before in
-    search-answered _ _ _ _ _ _ _ search.before.place_of.ensures search.search.ensures code.search-code.ensures
+    search_answered _ _ _ _ _ _ _ search.before.place_of.ensures search.search.ensures code.search-code.ensures
     (omega (arith, put.before.before.if1.false)) _ _ _ code.before.at.ensures put.put-place.ensures give.give-row.ensures
 
 pub matcher-search-spec : {M : Type 1} → statement M

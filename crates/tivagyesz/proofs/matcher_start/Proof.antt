@@ -1,5 +1,5 @@
 -- `matcher_start` meets its contract: the start is refused, or given.
-use Rattle.tivagyesz.proofs.ExportLaws.{start-refused, start-begins}
+use Rattle.tivagyesz.proofs.ExportLaws.{start_refused, start_begins}
 use borrow.Author.Rules.{rules}
 use Rattle.tivagyesz.proofs.matcher_start.Statement.{statement}
 use Rattle.tivagyesz.proofs.matcher_start.Tie as tie
@@ -22,7 +22,7 @@ give-start-requires c κs = search rules
 returns : tie.Need-returns
 returns c =
     let answer = c.before in
-    start-refused _ _ _ _ answer.before.before.before.start.ensures answer.answer.given.1
+    start_refused _ _ _ _ answer.before.before.before.start.ensures answer.answer.given.1
 
 same_length : tie.Need-same-length
 same_length c = search rules
@@ -31,7 +31,7 @@ returns-2 : tie.Need-returns-2
 returns-2 c =
     let give = c.before.before in
     let told = give.before.before in
-    start-begins _ _ _ _ _ told.before.before.before.start.ensures told.enum_told.given.1 give.give-start.ensures
+    start_begins _ _ _ _ _ told.before.before.before.start.ensures told.enum_told.given.1 give.give-start.ensures
 
 pub matcher-start-spec : {M : Type 1} → statement M
 matcher-start-spec =

@@ -21,36 +21,36 @@ use Rattle.tokens.specs.declared.same.Compared.{Compared}
 
 -- The three keys of a variable, and the keys of a payload
 module _ (d depth name level : ℕ) where
-  pub key-free : level ≡ 0 → key_of_variable d depth name level ≡ 4 * name
+  pub key_free : level ≡ 0 → key_of_variable d depth name level ≡ 4 * name
   unfolding key_of_variable
-  key-free z = choose_true _ _ (eq-eqb level 0 z)
+  key_free z = choose_true _ _ (eq-eqb level 0 z)
 
-  pub key-inside : (level ≡ 0 → ⊥) → d < level → key_of_variable d depth name level ≡ 4 * (depth - level) + 1
+  pub key_inside : (level ≡ 0 → ⊥) → d < level → key_of_variable d depth name level ≡ 4 * (depth - level) + 1
   unfolding key_of_variable
-  key-inside n h = choose_false _ _ (ne_eqb level 0 n) ∙ choose_true _ _ (lt-ltb d level h)
+  key_inside n h = choose_false _ _ (ne_eqb level 0 n) ∙ choose_true _ _ (lt-ltb d level h)
 
-  pub key-outside : (level ≡ 0 → ⊥) → level ≤ d → key_of_variable d depth name level ≡ 4 * level + 2
+  pub key_outside : (level ≡ 0 → ⊥) → level ≤ d → key_of_variable d depth name level ≡ 4 * level + 2
   unfolding key_of_variable
-  key-outside n h = choose_false _ _ (ne_eqb level 0 n) ∙ choose_false _ _ (le-ltb d level h)
+  key_outside n h = choose_false _ _ (ne_eqb level 0 n) ∙ choose_false _ _ (le-ltb d level h)
 
 module _ (d tag depth p : ℕ) where
-  pub key-variable : tag ≡ 2 → key_of_payload d tag depth p ≡ key_of_variable d depth (lower_half p) (upper_half p)
+  pub key_variable : tag ≡ 2 → key_of_payload d tag depth p ≡ key_of_variable d depth (lower_half p) (upper_half p)
   unfolding key_of_payload
-  key-variable z = choose_true _ _ (eq-eqb tag 2 z)
+  key_variable z = choose_true _ _ (eq-eqb tag 2 z)
 
-  pub key-binder : tag ≡ 4 → key_of_payload d tag depth p ≡ lower_half p
+  pub key_binder : tag ≡ 4 → key_of_payload d tag depth p ≡ lower_half p
   unfolding key_of_payload
-  key-binder z = choose_false _ _ (ne_eqb tag 2 (λ e. omega arith)) ∙ choose_true _ _ (eq-eqb tag 4 z)
+  key_binder z = choose_false _ _ (ne_eqb tag 2 (λ e. omega arith)) ∙ choose_true _ _ (eq-eqb tag 4 z)
 
-  pub key-other : (tag ≡ 2 → ⊥) → (tag ≡ 4 → ⊥) → key_of_payload d tag depth p ≡ p
+  pub key_other : (tag ≡ 2 → ⊥) → (tag ≡ 4 → ⊥) → key_of_payload d tag depth p ≡ p
   unfolding key_of_payload
-  key-other m n = choose_false _ _ (ne_eqb tag 2 m) ∙ choose_false _ _ (ne_eqb tag 4 n)
+  key_other m n = choose_false _ _ (ne_eqb tag 2 m) ∙ choose_false _ _ (ne_eqb tag 4 n)
 
 -- When a token reaches out
 module _ (d r x : ℕ) where
-  pub reaches-no-variable : (tag_in x ≡ 2 → ⊥) → reaches d r x ≡ false
+  pub reaches_no_variable : (tag_in x ≡ 2 → ⊥) → reaches d r x ≡ false
   unfolding reaches
-  reaches-no-variable n = rw (ne_eqb (tag_in x) 2 n)
+  reaches_no_variable n = rw (ne_eqb (tag_in x) 2 n)
 
   module _ (e : tag_in x ≡ 2) (level : ℕ) (is : level ≡ upper_half (payload_in x)) where
     pub reaches_level : reaches d r x ≡ ltb d level && leb level r
@@ -65,35 +65,35 @@ module _ (d r x : ℕ) where
 
 -- Lists of nodes that are alike by their keys
 module _ (d e : ℕ) where
-  pub alike-keys : (xs ys : List ℕ) → all_alike (same_keys d e) xs ys ≡ true → keys d xs ≡ keys e ys
-  alike-keys [] [] q = refl
-  alike-keys [] (y ∷ ys) q = cc
-  alike-keys (x ∷ xs) [] q = cc
-  alike-keys (x ∷ xs) (y ∷ ys) q =
+  pub alike_keys : (xs ys : List ℕ) → all_alike (same_keys d e) xs ys ≡ true → keys d xs ≡ keys e ys
+  alike_keys [] [] q = refl
+  alike_keys [] (y ∷ ys) q = cc
+  alike_keys (x ∷ xs) [] q = cc
+  alike_keys (x ∷ xs) (y ∷ ys) q =
       let h = and_T (same_keys d e x y) (all_alike (same_keys d e) xs ys) (true_T q) in
-      ap₂ ◌∷◌ (eqb-true (key_of d x) (key_of e y) (T_true h.0)) (alike-keys xs ys (T_true h.1))
+      ap₂ ◌∷◌ (eqb-true (key_of d x) (key_of e y) (T_true h.0)) (alike_keys xs ys (T_true h.1))
 
-  pub keys-alike : (xs ys : List ℕ) → keys d xs ≡ keys e ys → all_alike (same_keys d e) xs ys ≡ true
-  keys-alike [] [] q = refl
-  keys-alike [] (y ∷ ys) q = cc
-  keys-alike (x ∷ xs) [] q = cc
-  keys-alike (x ∷ xs) (y ∷ ys) q =
+  pub keys_alike : (xs ys : List ℕ) → keys d xs ≡ keys e ys → all_alike (same_keys d e) xs ys ≡ true
+  keys_alike [] [] q = refl
+  keys_alike [] (y ∷ ys) q = cc
+  keys_alike (x ∷ xs) [] q = cc
+  keys_alike (x ∷ xs) (y ∷ ys) q =
       let p : key_of d x ≡ key_of e y = cc in
       let r : keys d xs ≡ keys e ys = cc in
-      ap₂ ◌&&◌ (eq-eqb (key_of d x) (key_of e y) p) (keys-alike xs ys r)
+      ap₂ ◌&&◌ (eq-eqb (key_of d x) (key_of e y) p) (keys_alike xs ys r)
 
 -- A pair of nodes, by the two tests that the code makes
 module _ (s d e x y : ℕ) where
-  agree-both : agree_under s d e x y ≡ same_keys d e x y && not (reaches s d x)
+  agree_both : agree_under s d e x y ≡ same_keys d e x y && not (reaches s d x)
   unfolding agree_under
-  agree-both = refl
+  agree_both = refl
 
   module _ (same : Bool) (is_same : same ≡ same_keys d e x y) where
     pub agree_refused : not same ≡ true → false ≡ agree_under s d e x y
-    agree_refused q = sym (agree-both ∙ ap (λ (c : Bool). c && not (reaches s d x)) (sym is_same ∙ not-true same q))
+    agree_refused q = sym (agree_both ∙ ap (λ (c : Bool). c && not (reaches s d x)) (sym is_same ∙ not-true same q))
 
     pub agree_judged : (out : Bool) → out ≡ reaches s d x → not same ≡ false → not out ≡ agree_under s d e x y
-    agree_judged out is-out q = sym (agree-both ∙ ap₂ (λ (c b : Bool). c && not b) (sym is_same ∙ not-false same q) (sym is-out))
+    agree_judged out is-out q = sym (agree_both ∙ ap₂ (λ (c b : Bool). c && not b) (sym is_same ∙ not-false same q) (sym is-out))
 
 -- Where all binders above the first root are shared, nodes agree by their keys alone
 reaches_none : (d x : ℕ) → reaches d d x ≡ false
@@ -112,7 +112,7 @@ all_shared d e (x ∷ xs) [] = refl
 all_shared d e (x ∷ xs) (y ∷ ys) = ap₂ ◌&&◌ (one x y) (all_shared d e xs ys)
   where
     one : (x y : ℕ) → agree_under d d e x y ≡ same_keys d e x y
-    one x y = agree-both d d e x y ∙ ap (λ (c : Bool). same_keys d e x y && not c) (reaches_none d x) ∙ and-true _
+    one x y = agree_both d d e x y ∙ ap (λ (c : Bool). same_keys d e x y && not c) (reaches_none d x) ∙ and-true _
 
 -- Lists of nodes compared by a test f: what a turn of the loop, and its end, make of those from k on
 module _ (f : ℕ → ℕ → Bool) (xs ys : List ℕ) where
@@ -148,8 +148,8 @@ module _ (f : ℕ → ℕ → Bool) (xs ys : List ℕ) where
         let p : choose found (pairs_from (k + 1)) 0 ≡ 0 = choose_false _ _ h in
         (sym (alike_step ∙ ap (λ (c : Bool). c && alike_from (k + 1)) h), omega (arith, pairs_step))
 
-  pub compare-ends : (k : ℕ) → k ≡ min (length xs) (length ys) → (eqb (length xs) (length ys) ≡ alike_from k) × (k ≡ k + pairs_from k)
-  compare-ends k e = go (drop k xs) (drop k ys) (length-drop k xs) (length-drop k ys)
+  pub compare_ends : (k : ℕ) → k ≡ min (length xs) (length ys) → (eqb (length xs) (length ys) ≡ alike_from k) × (k ≡ k + pairs_from k)
+  compare_ends k e = go (drop k xs) (drop k ys) (length-drop k xs) (length-drop k ys)
     where
       go : (us vs : List ℕ) → length us ≡ length xs - k → length vs ≡ length ys - k
           → (eqb (length xs) (length ys) ≡ all_alike f us vs) × (k ≡ k + pairs f us vs)

@@ -2,7 +2,7 @@
 use mathlib.Core.Path.{◌∙◌, sym}
 use native.Mathlib.Omega.{arith}
 use Rattle.meaning.specs.Limits.{max_functions}
-use Rattle.words.proofs.WordLaws.{too_few, row_read, past-read, other-read}
+use Rattle.words.proofs.WordLaws.{too_few, row_read, past_read, other_read}
 use borrow.Author.Rules.{rules}
 use Rattle.words.proofs.place_of.Statement.{statement}
 use Rattle.words.proofs.place_of.Tie as tie
@@ -34,14 +34,14 @@ returns-3 : tie.Need-returns-3
 unfolding max_functions
 returns-3 c =
     let read = c.before.before in
-    past-read _ read.before.if1.false _ read.sets-in.ensures c.match.keys2
+    past_read _ read.before.if1.false _ read.sets-in.ensures c.match.keys2
 
 returns-4 : tie.Need-returns-4
 unfolding max_functions
 returns-4 c =
     let rest = c.before in
     let read = rest.before.before in
-    c.nowhere2.ensures ∙ sym (other-read _ read.before.if1.false (omega (arith, rest.match.rest)))
+    c.nowhere2.ensures ∙ sym (other_read _ read.before.if1.false (omega (arith, rest.match.rest)))
 
 pub place-of-spec : {M : Type 1} → statement M
 place-of-spec =

@@ -7,7 +7,7 @@ use Rattle.meaning.specs.Limits.{max_functions}
 use Rattle.masks.specs.Sets.{mask, masks_in, word_count, words_of}
 use Rattle.masks.proofs.Words.{masks_at}
 use Rattle.words.specs.Storing.{PutWords}
-use Rattle.words.proofs.WordLaws.{Stored, stored-none, stored_more, stored-all}
+use Rattle.words.proofs.WordLaws.{Stored, stored_none, stored_more, stored_all}
 use borrow.Author.Rules.{rules}
 use Rattle.words.proofs.put_row.Statement.{statement}
 use Rattle.words.proofs.put_row.Tie as tie
@@ -24,7 +24,7 @@ unfolding max_functions
 loop-holds c =
     let s = c.before.args in
     let eight : length s.t3 ≡ max_functions = search rules in
-    (omega arith, refl, stored-none s.at (masks_in s.t3) s.words.now (length-map s.t3 mask ∙ eight))
+    (omega arith, refl, stored_none s.at (masks_in s.t3) s.words.now (length-map s.t3 mask ∙ eight))
 
 mul-put-set : tie.Need-overflow-mul-put-set invariant-loop decreases-loop
 mul-put-set c = search rules
@@ -78,7 +78,7 @@ returns c =
     let start = c.before.before.before in
     let row = start.args.t3 in
     let eight : length start.args.t3 ≡ max_functions = search rules in
-    stored-all start.args.at (masks_in row) start.args.words.now (length-map row mask ∙ eight) loop.k loop.words
+    stored_all start.args.at (masks_in row) start.args.words.now (length-map row mask ∙ eight) loop.k loop.words
     (omega (arith, c.loop-test.false, loop.invariant.0)) loop.invariant.2
 
 pub put-row-spec : {M : Type 1} → statement M

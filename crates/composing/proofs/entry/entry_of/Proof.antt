@@ -1,6 +1,6 @@
 -- `entry_of` meets its contract: a function, another metavariable, or none of the problem's.
 use borrow.Author.Rules.{rules}
-use Rattle.composing.proofs.EntryLaws.{entry-function, entry_plain, entry_absent, rank_small}
+use Rattle.composing.proofs.EntryLaws.{entry_function, entry_plain, entry_absent, rank_small}
 use Rattle.composing.proofs.entry.entry_of.Statement.{statement}
 use Rattle.composing.proofs.entry.entry_of.Tie as tie
 
@@ -21,7 +21,7 @@ body-of-requires c κs =
 -- src/entry.rt:63:9
 returns : tie.Need-returns
 returns c =
-    entry-function _ _ _ c.before.before.before.in-set.ensures _ _ c.before.before.if1.true c.before.rank.ensures
+    entry_function _ _ _ c.before.before.before.in-set.ensures _ _ c.before.before.if1.true c.before.rank.ensures
     c.body_of.ensures
 
 -- src/entry.rt:65:8

@@ -1,7 +1,7 @@
 -- `value_of` meets its contract.
 use mathlib.Core.Path.{refl}
 use borrow.Author.Rules.{rules}
-use Rattle.composing.proofs.EntryLaws.{value-open, value_there}
+use Rattle.composing.proofs.EntryLaws.{value_open, value_there}
 use Rattle.composing.proofs.entry.value_of.Statement.{statement}
 use Rattle.composing.proofs.entry.value_of.Tie as tie
 
@@ -15,7 +15,7 @@ element-copy-out-node c = search rules
 
 -- src/entry.rt:43:1
 returns : tie.Need-returns
-returns c = value-open _ _ _ refl c.if1.true
+returns c = value_open _ _ _ refl c.if1.true
 
 -- src/entry.rt:43:1
 returns-2 : tie.Need-returns-2

@@ -1,7 +1,7 @@
 -- `entry_length` meets its contract: a law for each kind of entry.
 use native.Mathlib.Omega.{arith}
-use Rattle.composing.proofs.TextLaws.{absent-length, body_length, body-measurable, measured-small, open-length}
-use Rattle.composing.proofs.TextLaws.{value-length, value-measurable}
+use Rattle.composing.proofs.TextLaws.{absent_length, body_length, body_measurable, measured_small, open_length}
+use Rattle.composing.proofs.TextLaws.{value_length, value_measurable}
 use borrow.Author.Rules.{rules}
 use Rattle.composing.proofs.text.entry_length.Statement.{statement}
 use Rattle.composing.proofs.text.entry_length.Tie as tie
@@ -16,14 +16,14 @@ enum-known-entry : tie.Need-enum-known-entry
 enum-known-entry c = search rules
 
 term-length-requires : tie.Need-term-length-requires
-term-length-requires c κs = value-measurable c.before.entry.given.1 c.before.before.before.before.requires
+term-length-requires c κs = value_measurable c.before.entry.given.1 c.before.before.before.before.requires
 
 add-result : tie.Need-overflow-add-result
 add-result c =
     let start = c.before.before.before.before.before in
     omega (
       arith,
-      measured-small start.requires (value-length c.term-length.result c.before.before.entry.given.1
+      measured_small start.requires (value_length c.term-length.result c.before.before.entry.given.1
           c.term-length.ensures),
     )
 
@@ -31,25 +31,25 @@ enum-known-entry-2 : tie.Need-enum-known-entry-2
 enum-known-entry-2 c = search rules
 
 copy-length-requires : tie.Need-copy-length-requires
-copy-length-requires c κs = body-measurable c.before.entry2.given.1 c.before.before.before.before.requires
+copy-length-requires c κs = body_measurable c.before.entry2.given.1 c.before.before.before.before.requires
 
 add-result-2 : tie.Need-overflow-add-result-2
 add-result-2 c =
     let start = c.before.before.before.before.before in
     omega (
       arith,
-      measured-small start.requires (body_length c.copy-length.result c.before.before.entry2.given.1
+      measured_small start.requires (body_length c.copy-length.result c.before.before.entry2.given.1
           c.copy-length.ensures),
     )
 
 returns : tie.Need-returns
-returns c = absent-length c.enum_told.given.1
+returns c = absent_length c.enum_told.given.1
 
 returns-2 : tie.Need-returns-2
-returns-2 c = open-length c.enum-told2.given.1
+returns-2 c = open_length c.enum-told2.given.1
 
 returns-3 : tie.Need-returns-3
-returns-3 c = value-length _ c.before.before.entry.given.1 c.term-length.ensures
+returns-3 c = value_length _ c.before.before.entry.given.1 c.term-length.ensures
 
 returns-4 : tie.Need-returns-4
 returns-4 c = body_length _ c.before.before.entry2.given.1 c.copy-length.ensures

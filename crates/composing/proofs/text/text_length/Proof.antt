@@ -3,7 +3,7 @@
 use Prim.Native.Nat.{◌-◌, ◌≤◌}
 use native.Mathlib.Omega.{arith}
 use Rattle.meaning.specs.Limits.{metavariable_count}
-use Rattle.composing.proofs.TextLaws.{Counting, counting-begins, counting-ends, counting-goes-on, entry_at_there}
+use Rattle.composing.proofs.TextLaws.{Counting, counting_begins, counting_ends, counting_goes_on, entry_at_there}
 use Rattle.composing.proofs.TextLaws.{entry_measured, sum_small}
 use borrow.Author.Rules.{rules}
 use Rattle.composing.proofs.text.text_length.Statement.{statement}
@@ -16,7 +16,7 @@ abbrev decreases-loop : tie.decreases-loop
 decreases-loop es plan m₀ n₀ m n = 32 - m
 
 loop-holds : tie.Need-loop-init invariant-loop decreases-loop
-loop-holds c = (search rules, counting-begins)
+loop-holds c = (search rules, counting_begins)
 
 entry-of-requires : tie.Need-entry-of-requires invariant-loop decreases-loop
 entry-of-requires c κs = (c.before.before.before.requires.planned, search rules)
@@ -47,13 +47,13 @@ loop-again : tie.Need-loop-preserved invariant-loop decreases-loop
 unfolding metavariable_count
 loop-again c = (
   search rules,
-  counting-goes-on c.before.before.loop-test.true c.before.before.before.loop.invariant.1
+  counting_goes_on c.before.before.loop-test.true c.before.before.before.loop.invariant.1
       (entry_measured _ _ c.before.entry_of.ensures c.entry_length.ensures),
 )
 
 returns : tie.Need-returns invariant-loop decreases-loop
 unfolding metavariable_count
-returns c = counting-ends (omega (arith, c.loop-test.false, c.before.loop.invariant.0)) c.before.loop.invariant.1
+returns c = counting_ends (omega (arith, c.loop-test.false, c.before.loop.invariant.0)) c.before.loop.invariant.1
 
 pub text-length-spec : {M : Type 1} → statement M
 text-length-spec =

@@ -1,22 +1,22 @@
 -- `write_copied` meets its contract: the term's bytes, then what stands before them.
 use mathlib.Core.Path.{◌∙◌}
 use native.Mathlib.Omega.{arith}
-use Rattle.composing.proofs.TextLaws.{copy-begins, copy-copies, copy_short, copy_written, kept_length, long_after, long_before}
+use Rattle.composing.proofs.TextLaws.{copy_begins, copy_copies, copy_short, copy_written, kept_length, long_after, long_before}
 use borrow.Author.Rules.{rules}
 use Rattle.composing.proofs.text.write_copied.Statement.{statement}
 use Rattle.composing.proofs.text.write_copied.Tie as tie
 
 sub-copy : tie.Need-overflow-sub-copy
-sub-copy c = copy-begins c.before.before.args.out.now c.before.before.requires
+sub-copy c = copy_begins c.before.before.args.out.now c.before.before.requires
 
 part-copy-start : tie.Need-slice-bounds-copy-start
-part-copy-start c = copy-begins c.before.before.args.out.now c.before.before.requires
+part-copy-start c = copy_begins c.before.before.args.out.now c.before.before.requires
 
 part-copy-end : tie.Need-slice-bounds-copy-end
 part-copy-end c = search rules
 
 copy-requires : tie.Need-copy-requires
-copy-requires c κs = copy-copies c.before.before.before.args.out.now c.before.before.before.requires
+copy-requires c κs = copy_copies c.before.before.before.args.out.now c.before.before.before.requires
 
 slice-write-out : tie.Need-slice-write-out
 slice-write-out c =
@@ -43,7 +43,7 @@ write-head-requires c κs =
     record {
       room = omega (
         arith,
-        copy-begins start.args.out.now start.requires,
+        copy_begins start.args.out.now start.requires,
         long_after start.args.out.now start.requires
             copy.copy.new.1.1.1.0 copy.copy.result copy.copy.ensures,
       );

@@ -1,5 +1,5 @@
 -- `write_entry` meets its contract: a law for each kind of entry.
-use Rattle.composing.proofs.TextLaws.{absent-written, body-room, body_written, open_room, open_written, value_room, value_written}
+use Rattle.composing.proofs.TextLaws.{absent_written, body_room_lem, body_written, open_room, open_written, value_room, value_written}
 use borrow.Author.Rules.{rules}
 use Rattle.composing.proofs.text.write_entry.Statement.{statement}
 use Rattle.composing.proofs.text.write_entry.Tie as tie
@@ -28,10 +28,10 @@ enum-known-entry-2 : tie.Need-enum-known-entry-2
 enum-known-entry-2 c = search rules
 
 write-copied-requires-2 : tie.Need-write-copied-requires-2
-write-copied-requires-2 c κs = body-room c.before.before.entry2.given.1 c.before.before.before.before.before.before.requires
+write-copied-requires-2 c κs = body_room_lem c.before.before.entry2.given.1 c.before.before.before.before.before.before.requires
 
 returns : tie.Need-returns
-returns c = absent-written c.enum_told.given.1
+returns c = absent_written c.enum_told.given.1
 
 same_length : tie.Need-same-length
 same_length c = search rules

@@ -2,7 +2,7 @@
 -- all. The measure is the number of faces left.
 use mathlib.Core.Path.{◌≡◌, sym, ◌∙◌}
 use native.Mathlib.Omega.{arith}
-use Rattle.faces.proofs.FirstLaws.{large-end, large_here, large_next}
+use Rattle.faces.proofs.FirstLaws.{large_end, large_here, large_next}
 use Prim.Native.Nat.{◌-◌}
 use lib.ListN.{take, drop}
 use Rattle.faces.specs.First.{any_large}
@@ -54,7 +54,7 @@ returns-2 : tie.Need-returns-2 invariant-loop decreases-loop
 returns-2 c =
     let a = c.before in
     let s = a.before.before.before in
-    large-end s.args.es.now s.args.firsts.nodes s.args.firsts.count a.loop.k
+    large_end s.args.es.now s.args.firsts.nodes s.args.firsts.count a.loop.k
     (omega (arith, s.requires.array, s.requires.count)) c.loop-test.false ∙ a.loop.invariant
 
 pub any-large-spec : {M : Type 1} → statement M

@@ -1,5 +1,5 @@
 -- `first::applies` meets its contract: one law for each return.
-use Rattle.faces.proofs.FirstLaws.{applies-out, applies_six, applies_other}
+use Rattle.faces.proofs.FirstLaws.{applies_out, applies_six, applies_other}
 use borrow.Author.Rules.{rules}
 use Rattle.faces.proofs.first.applies.Statement.{statement}
 use Rattle.faces.proofs.first.applies.Tie as tie
@@ -7,7 +7,7 @@ use Rattle.faces.proofs.first.applies.Tie as tie
 returns : tie.Need-returns
 returns c =
     let a = c.before.before.args in
-    applies-out a.ps.now a.f a.n c.if1.true
+    applies_out a.ps.now a.f a.n c.if1.true
 
 mul-x : tie.Need-overflow-mul-x
 mul-x c = search rules

@@ -1,7 +1,7 @@
 -- `first::first_face` meets its contract. The loop's invariant: the first face among those left is the first of all. The measure is the
 -- number of faces left.
 use mathlib.Core.Path.{◌≡◌, sym, ◌∙◌}
-use Rattle.faces.proofs.FirstLaws.{first-none, first_found, first_next}
+use Rattle.faces.proofs.FirstLaws.{first_none, first_found, first_next}
 use Prim.Native.Nat.{◌-◌}
 use lib.ListN.{length, drop}
 use Rattle.faces.specs.First.{first_node}
@@ -51,7 +51,7 @@ returns-2 : tie.Need-returns-2 invariant-loop decreases-loop
 returns-2 c =
     let a = c.before in
     let s = a.before.before.before.args in
-    first-none s.ps.now s.faces.now s.f a.loop.k c.loop-test.false ∙ a.loop.invariant
+    first_none s.ps.now s.faces.now s.f a.loop.k c.loop-test.false ∙ a.loop.invariant
 
 pub first-face-spec : {M : Type 1} → statement M
 first-face-spec =

@@ -2,7 +2,7 @@
 -- metavariables left.
 use mathlib.Core.Path.{refl}
 use native.Mathlib.Omega.{arith}
-use Rattle.faces.proofs.FirstLaws.{listing_start, listing-end, firsts-count}
+use Rattle.faces.proofs.FirstLaws.{listing_start, listing_end, firsts_count}
 use Prim.Native.Nat.{◌-◌}
 use Rattle.faces.specs.First.{Listing}
 use borrow.Author.Rules.{rules}
@@ -24,7 +24,7 @@ looked-up-requires : tie.Need-looked-up-requires invariant-loop decreases-loop
 looked-up-requires c κs =
     let a = c.before in
     let s = a.before.before.before in
-    (a.loop.invariant, c.loop-test.true, omega (arith, firsts-count s.args.ps.now s.args.faces.now s.args.functions, s.requires))
+    (a.loop.invariant, c.loop-test.true, omega (arith, firsts_count s.args.ps.now s.args.faces.now s.args.functions, s.requires))
 
 add-m : tie.Need-overflow-add-m invariant-loop decreases-loop
 add-m c = search rules
@@ -39,7 +39,7 @@ returns : tie.Need-returns invariant-loop decreases-loop
 returns c =
     let a = c.before in
     let s = a.before.before.before.args in
-    listing-end s.ps.now s.faces.now s.functions a.loop.m a.loop.firsts c.loop-test.false a.loop.invariant
+    listing_end s.ps.now s.faces.now s.functions a.loop.m a.loop.firsts c.loop-test.false a.loop.invariant
 
 pub first-faces-spec : {M : Type 1} → statement M
 first-faces-spec =

@@ -1,11 +1,11 @@
 -- `head_of` meets its contract: 7, what `parts_of` says, what `rule_of` says.
-use Rattle.fields.proofs.HeadLaws.{head-none, head-cut, head-misplaced, head_field}
+use Rattle.fields.proofs.HeadLaws.{head_none, head_cut, head_misplaced, head_field}
 use borrow.Author.Rules.{rules}
 use Rattle.fields.proofs.field.head_of.Statement.{statement}
 use Rattle.fields.proofs.field.head_of.Tie as tie
 
 returns : tie.Need-returns
-returns c = head-none _ _ c.if1.true
+returns c = head_none _ _ c.if1.true
 
 parts-of-requires : tie.Need-parts-of-requires
 parts-of-requires c κs = search rules
@@ -27,21 +27,21 @@ enum-known-kind c = search rules
 
 returns-2 : tie.Need-returns-2
 returns-2 c =
-    head-cut _ _ c.before.before.before.before.if1.false
-    (rw c.before.r.given.1 at c.before.before.before.parts_of_lem.ensures)
+    head_cut _ _ c.before.before.before.before.if1.false
+    (rw c.before.r.given.1 at c.before.before.before.parts_of.ensures)
 
 returns-3 : tie.Need-returns-3
 returns-3 c =
-    head-misplaced _ _ c.before.before.before.before.before.before.before.before.if1.false
+    head_misplaced _ _ c.before.before.before.before.before.before.before.before.if1.false
     (rw c.before.before.before.before.before.tag.given.1 at
-    c.before.before.before.before.before.before.before.parts_of_lem.ensures) (rw c.before.r2.given.1 at
+    c.before.before.before.before.before.before.before.parts_of.ensures) (rw c.before.r2.given.1 at
     c.before.before.before.rule-of.ensures)
 
 returns-4 : tie.Need-returns-4
 returns-4 c =
     head_field _ _ c.before.before.before.before.before.before.before.before.if1.false
     (rw c.before.before.before.before.before.tag.given.1 at
-    c.before.before.before.before.before.before.before.parts_of_lem.ensures) (rw c.before.kind.given.1 at
+    c.before.before.before.before.before.before.before.parts_of.ensures) (rw c.before.kind.given.1 at
     c.before.before.before.rule-of.ensures)
 
 pub head-of-spec : {M : Type 1} → statement M

@@ -1,12 +1,12 @@
 -- `parts_of` meets its contract: 2, 3, or the parts of the field; two bytes make a length below 65,536.
 use native.Mathlib.Omega.{arith}
-use Rattle.fields.proofs.HeadLaws.{parts-short, parts-past, parts_field}
+use Rattle.fields.proofs.HeadLaws.{parts_short, parts_past, parts_field}
 use borrow.Author.Rules.{rules}
 use Rattle.fields.proofs.field.parts_of.Statement.{statement}
 use Rattle.fields.proofs.field.parts_of.Tie as tie
 
 returns : tie.Need-returns
-returns c = parts-short _ c.if1.true
+returns c = parts_short _ c.if1.true
 
 word-requires : tie.Need-word-requires
 word-requires c κs = search rules
@@ -18,7 +18,7 @@ sub-if2 : tie.Need-overflow-sub-if2
 sub-if2 c = search rules
 
 returns-2 : tie.Need-returns-2
-returns-2 c = parts-past _ c.before.before.if1.false (rw c.before.word.ensures at c.if2.true)
+returns-2 c = parts_past _ c.before.before.if1.false (rw c.before.word.ensures at c.if2.true)
 
 shared-slice-read-t8 : tie.Need-shared-slice-read-t8
 shared-slice-read-t8 c = search rules

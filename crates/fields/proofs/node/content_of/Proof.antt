@@ -58,13 +58,13 @@ returns-4 : tie.Need-returns-4
 returns-4 c = rw c.before.enum-told4.given.1 c.binder-in.ensures
 
 returns-5 : tie.Need-returns-5
-returns-5 c = rw c.before.enum-told5.given.1 c.metavariable_in_lem.ensures
+returns-5 c = rw c.before.enum-told5.given.1 c.metavariable_in.ensures
 
 returns-6 : tie.Need-returns-6
-returns-6 c = rw c.before.enum-told6.given.1 c.function_in_lem.ensures
+returns-6 c = rw c.before.enum-told6.given.1 c.function_in.ensures
 
 returns-7 : tie.Need-returns-7
-returns-7 c = rw c.before.enum-told7.given.1 c.hole_in_lem.ensures
+returns-7 c = rw c.before.enum-told7.given.1 c.hole_in.ensures
 
 pub content-of-spec : {M : Type 1} → statement M
 content-of-spec =

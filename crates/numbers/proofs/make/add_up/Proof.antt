@@ -5,7 +5,7 @@ use native.Mathlib.Omega.{arith}
 use lib.ListN.{length, length-set}
 use Rattle.tokens.specs.Key.{at}
 use Rattle.numbers.specs.Alike.{weight_of_key, sum_to}
-use Rattle.numbers.proofs.Sums.{sum-none, sum-next, sum-few}
+use Rattle.numbers.proofs.Sums.{sum_none, sum_next, sum_few}
 use Rattle.numbers.proofs.Passing.{summing_begins, summing_more}
 use borrow.Author.Rules.{rules}
 use Rattle.numbers.proofs.make.add_up.Statement.{statement}
@@ -25,7 +25,7 @@ next : (c : tie.After-weight invariant-loop decreases-loop)
 next c =
     let at = c.before.before.before.before.loop in
     let t = c.before.before.before.before.before.before.before.args.t.now in
-    ap (λ (m : ℕ). sum_to t at.k + m) (c.weight.ensures ∙ ap weight_of_key c.before.key_of.ensures) ∙ sum-next t at.k (omega arith)
+    ap (λ (m : ℕ). sum_to t at.k + m) (c.weight.ensures ∙ ap weight_of_key c.before.key_of.ensures) ∙ sum_next t at.k (omega arith)
 
 slice-write-sums : tie.Need-slice-write-sums invariant-loop decreases-loop
 slice-write-sums c = omega (arith, c.before.before.requires.1)
@@ -35,7 +35,7 @@ loop-holds c =
     let s = c.before.before in (
       omega arith,
       refl,
-      sum-none s.args.t.now,
+      sum_none s.args.t.now,
       summing_begins s.args.t.now s.args.sums.now (omega (arith, s.requires.1)),
     )
 
@@ -55,7 +55,7 @@ add-sum : tie.Need-overflow-add-sum invariant-loop decreases-loop
 add-sum c =
     let at = c.before.before.before.before.loop in
     let s = c.before.before.before.before.before.before.before in
-    omega (arith, at.invariant.2, next c, sum-few s.args.t.now (at.k + 1) (omega arith), s.requires.0)
+    omega (arith, at.invariant.2, next c, sum_few s.args.t.now (at.k + 1) (omega arith), s.requires.0)
 
 add-k : tie.Need-overflow-add-k invariant-loop decreases-loop
 add-k c = search rules

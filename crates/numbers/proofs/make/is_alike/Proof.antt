@@ -1,6 +1,6 @@
 -- `make::is_alike` meets its contract.
 use mathlib.Core.Path.{sym, ◌∙◌}
-use Rattle.numbers.proofs.Buckets.{unlike-label, unlike-size, alike-label}
+use Rattle.numbers.proofs.Buckets.{unlike_label, unlike_size, alike_label}
 use borrow.Author.Rules.{rules}
 use Rattle.numbers.proofs.make.is_alike.Statement.{statement}
 use Rattle.numbers.proofs.make.is_alike.Tie as tie
@@ -8,7 +8,7 @@ use Rattle.numbers.proofs.make.is_alike.Tie as tie
 returns : tie.Need-returns
 returns c =
     let s = c.before.before in
-    sym (unlike-label s.args.t.now s.args.i s.args.k (λ e. c.if1.true (s.requires.2 ∙ e ∙ sym s.requires.3)))
+    sym (unlike_label s.args.t.now s.args.i s.args.k (λ e. c.if1.true (s.requires.2 ∙ e ∙ sym s.requires.3)))
 
 mul-size : tie.Need-overflow-mul-size
 mul-size c = search rules
@@ -32,7 +32,7 @@ returns-2 : tie.Need-returns-2
 returns-2 c =
     let s = c.before.before.before.before.before.before.before in
     sym
-    (unlike-size s.args.t.now s.args.i s.args.k s.requires.0 s.requires.1
+    (unlike_size s.args.t.now s.args.i s.args.k s.requires.0 s.requires.1
     (λ e. c.if2.true (c.before.before.before.size.ensures ∙ e ∙ sym c.before.size2.ensures)))
 
 same-requires : tie.Need-same-requires
@@ -42,7 +42,7 @@ returns-3 : tie.Need-returns-3
 returns-3 c =
     let s = c.before.before.before.before.before.before.before.before in
     c.same.ensures
-    ∙ sym (alike-label s.args.t.now s.args.i s.args.k (sym s.requires.2 ∙ c.before.before.before.before.before.before.if1.false ∙ s.requires.3))
+    ∙ sym (alike_label s.args.t.now s.args.i s.args.k (sym s.requires.2 ∙ c.before.before.before.before.before.before.if1.false ∙ s.requires.3))
 
 pub is-alike-spec : {M : Type 1} → statement M
 is-alike-spec =

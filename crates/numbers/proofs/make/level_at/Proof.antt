@@ -2,7 +2,7 @@
 use mathlib.Core.Path.{refl}
 use Prim.Native.Nat.{◌+◌}
 use Rattle.numbers.proofs.Sums.{light_level}
-use Rattle.numbers.proofs.Passing.{level-found}
+use Rattle.numbers.proofs.Passing.{level_found}
 use borrow.Author.Rules.{rules}
 use Rattle.numbers.proofs.make.level_at.Statement.{statement}
 use Rattle.numbers.proofs.make.level_at.Tie as tie
@@ -46,7 +46,7 @@ returns-2 : tie.Need-returns-2
 returns-2 c =
     let size = c.before.before.before in
     let s = c.before.before.before.before.before.before.before in
-    level-found s.args.t.now s.args.k s.requires.0 size.size.result c.before.depth.result (s.args.k + size.size.result)
+    level_found s.args.t.now s.args.k s.requires.0 size.size.result c.before.depth.result (s.args.k + size.size.result)
     c.innermost.result size.size.ensures c.before.depth.ensures refl c.innermost.ensures
 
 pub level-at-spec : {M : Type 1} → statement M

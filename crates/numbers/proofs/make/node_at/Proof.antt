@@ -2,7 +2,7 @@
 use mathlib.Core.Path.{refl}
 use Prim.Native.Nat.{◌+◌}
 use native.Mathlib.Omega.{arith}
-use Rattle.numbers.proofs.Passing.{level-few, sums_rise, sum_found, node-known}
+use Rattle.numbers.proofs.Passing.{level_few, sums_rise, sum_found, node_known}
 use borrow.Author.Rules.{rules}
 use Rattle.numbers.proofs.make.node_at.Statement.{statement}
 use Rattle.numbers.proofs.make.node_at.Tie as tie
@@ -50,7 +50,7 @@ level-at-requires c κs =
 binder-at-requires : tie.Need-binder-at-requires
 binder-at-requires c κs =
     let s = c.before.before.before.before.before.before.before.before in
-    omega (arith, level-few s.args.t.now s.args.k s.requires.0 c.level-at.result c.level-at.ensures, s.requires.1.0.long)
+    omega (arith, level_few s.args.t.now s.args.k s.requires.0 c.level-at.result c.level-at.ensures, s.requires.1.0.long)
 
 mix-requires : tie.Need-mix-requires
 mix-requires c κs = search rules
@@ -60,7 +60,7 @@ returns c =
     let level = c.before.before.level-at in
     let size = c.before.before.before.before.before in
     let s = c.before.before.before.before.before.before.before.before.before.before in
-    node-known s.args.t.now s.args.k s.requires.0 s.args.last.now s.requires.1.0 _ level.result c.before.binder-at.result c.mix.result
+    node_known s.args.t.now s.args.k s.requires.0 s.args.last.now s.requires.1.0 _ level.result c.before.binder-at.result c.mix.result
     (sum_found s.args.t.now s.args.k s.requires.0 size.size.result (s.args.k + size.size.result) size.size.ensures refl
     s.args.sums.now s.requires.1.1)
     level.ensures c.before.binder-at.ensures c.mix.ensures

@@ -4,8 +4,8 @@ use Prim.Native.Nat.{ℕ, ◌+◌, ◌-◌, ◌≤◌}
 use native.Mathlib.Omega.{arith}
 use lib.ListN.{length, set}
 use Rattle.numbers.specs.Numbering.{Lasts, Passed}
-use Rattle.numbers.proofs.Passing.{lasts-none, passed_none}
-use Rattle.numbers.proofs.Buckets.{lasts-more}
+use Rattle.numbers.proofs.Passing.{lasts_none, passed_none}
+use Rattle.numbers.proofs.Buckets.{lasts_more}
 use borrow.Author.Rules.{rules}
 use Rattle.numbers.proofs.make.number.Statement.{statement}
 use Rattle.numbers.proofs.make.number.Tie as tie
@@ -28,7 +28,7 @@ loop-holds c =
       omega arith,
       refl,
       refl,
-      lasts-none s.args.t.now 256 refl,
+      lasts_none s.args.t.now 256 refl,
       passed_none s.args.t.now 256 refl s.args.links.now _ s.requires.1.for_links c.before.before.add-up.ensures,
     )
 
@@ -83,7 +83,7 @@ loop-again c =
       next.number-next.auto.1.1.1.1.1.0 ∙ at.invariant.1,
       next.number-next.auto.1.1.1.1.0 ∙ at.invariant.2,
       subst (λ (d : ℕ). Lasts s.args.t.now (at.k + 1) (set at.last d (at.k + 1))) (sym c.depth.ensures)
-          (lasts-more s.args.t.now at.k at.last at.invariant.3),
+          (lasts_more s.args.t.now at.k at.last at.invariant.3),
       next.number-next.ensures,
     )
 

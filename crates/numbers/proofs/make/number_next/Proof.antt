@@ -6,7 +6,7 @@ use Rattle.tokens.specs.Key.{at}
 use lib.ListN.{set}
 use Rattle.numbers.specs.Alike.{label_at}
 use Rattle.numbers.specs.Numbering.{NumberOf, bucket_at, Points, Passed}
-use Rattle.numbers.proofs.Passing.{node-binder, node-hash, node-level, node-label, node-bucket, head_points, passed_more}
+use Rattle.numbers.proofs.Passing.{node_binder, node_hash, node_level, node_label, node_bucket, head_points, passed_more}
 use Rattle.numbers.proofs.Buckets.{number_found, number_new}
 use borrow.Author.Rules.{rules}
 use Rattle.numbers.proofs.make.number_next.Statement.{statement}
@@ -18,19 +18,19 @@ module _ (s : tie.Start) where
   bucket = s.args.node.hash / 16777216
 
   binder-small : s.args.node.binder < 65536
-  binder-small = node-binder s.args.t.now s.pre.0.0 s.args.k s.pre.0.1 s.args.node s.pre.0.2
+  binder-small = node_binder s.args.t.now s.pre.0.0 s.args.k s.pre.0.1 s.args.node s.pre.0.2
 
-  hash-small : s.args.node.hash < 4294967296
-  hash-small = node-hash s.args.t.now s.pre.0.0 s.args.k s.pre.0.1 s.args.node s.pre.0.2
+  hash_small : s.args.node.hash < 4294967296
+  hash_small = node_hash s.args.t.now s.pre.0.0 s.args.k s.pre.0.1 s.args.node s.pre.0.2
 
   level-small : s.args.node.level < 256
-  level-small = node-level s.args.t.now s.pre.0.0 s.args.k s.pre.0.1 s.args.node s.pre.0.2
+  level-small = node_level s.args.t.now s.pre.0.0 s.args.k s.pre.0.1 s.args.node s.pre.0.2
 
   label : s.args.node.binder + 65536 * s.args.node.hash ≡ label_at s.args.t.now s.args.k
-  label = node-label s.args.t.now s.pre.0.0 s.args.k s.pre.0.1 s.args.node s.pre.0.2
+  label = node_label s.args.t.now s.pre.0.0 s.args.k s.pre.0.1 s.args.node s.pre.0.2
 
   is-bucket : bucket ≡ bucket_at s.args.t.now s.args.k
-  is-bucket = node-bucket s.args.t.now s.pre.0.0 s.args.k s.pre.0.1 s.args.node s.pre.0.2
+  is-bucket = node_bucket s.args.t.now s.pre.0.0 s.args.k s.pre.0.1 s.args.node s.pre.0.2
 
   points : Points s.args.t.now (bucket_at s.args.t.now s.args.k) s.args.k (at s.args.heads.now bucket)
   points =
@@ -50,16 +50,16 @@ module _ (s : tie.Start) where
       bucket _ n is-bucket (ap (λ (l : ℕ). at s.args.heads.now bucket + 65536 * l) label) own
 
 mul-label : tie.Need-overflow-mul-label
-mul-label c = omega (arith, hash-small c.before.before.before.before.before)
+mul-label c = omega (arith, hash_small c.before.before.before.before.before)
 
 add-label : tie.Need-overflow-add-label
-add-label c = let s = c.before.before.before.before.before.before in omega (arith, binder-small s, hash-small s)
+add-label c = let s = c.before.before.before.before.before.before in omega (arith, binder-small s, hash_small s)
 
 mul-head : tie.Need-overflow-mul-head
 mul-head c = search rules
 
 slice-read-head : tie.Need-slice-read-head
-slice-read-head c = let s = c.before.before.before.before.before.before.before.before in omega (arith, hash-small s, s.requires.1.heads_long)
+slice-read-head c = let s = c.before.before.before.before.before.before.before.before in omega (arith, hash_small s, s.requires.1.heads_long)
 
 find-requires : tie.Need-find-requires
 find-requires c κs =
@@ -69,10 +69,10 @@ find-requires c κs =
     )
 
 mul-links : tie.Need-overflow-mul-links
-mul-links c = let s = c.before.before.before.before.before.before.before.before.before.before in omega (arith, binder-small s, hash-small s)
+mul-links c = let s = c.before.before.before.before.before.before.before.before.before.before in omega (arith, binder-small s, hash_small s)
 
 add-links : tie.Need-overflow-add-links
-add-links c = let s = c.before.before.before.before.before.before.before.before.before.before in omega (arith, binder-small s, hash-small s, (points s).up_to, small s)
+add-links c = let s = c.before.before.before.before.before.before.before.before.before.before in omega (arith, binder-small s, hash_small s, (points s).up_to, small s)
 
 mul-links-2 : tie.Need-overflow-mul-links-2
 mul-links-2 c = search rules
@@ -87,7 +87,7 @@ mul-heads : tie.Need-overflow-mul-heads
 mul-heads c = search rules
 
 slice-write-heads : tie.Need-slice-write-heads
-slice-write-heads c = let s = c.before.before.before.before.before.before.before.before.before.before in omega (arith, hash-small s, s.requires.1.heads_long)
+slice-write-heads c = let s = c.before.before.before.before.before.before.before.before.before.before in omega (arith, hash_small s, s.requires.1.heads_long)
 
 mul-ns : tie.Need-overflow-mul-ns
 mul-ns c = search rules

@@ -7,7 +7,7 @@ use lib.ListN.{length}
 use lib.Seq.{length-take-le}
 use borrow.Author.Rules.{rules}
 use Rattle.prepare.proofs.PreparedLaws.{fresh_rooms, fresh_room}
-use Rattle.places.proofs.Naming.{starts-refused, starts_inside, starts_open, starts_begins}
+use Rattle.places.proofs.Naming.{starts_refused, starts_inside, starts_open, starts_begins}
 use Rattle.places.proofs.Place.start.Statement.{statement}
 use Rattle.places.proofs.Place.start.Tie as tie
 
@@ -67,7 +67,7 @@ returns : tie.Need-returns
 returns c =
     let v = c.before.before in
     let prepared = v.before.before.before.before.before.before.before.prepare in
-    starts-refused _ _ _ _ _ _ prepared.ensures _ _ v.verdict.given.1 refl
+    starts_refused _ _ _ _ _ _ prepared.ensures _ _ v.verdict.given.1 refl
 
 returns-2 : tie.Need-returns-2
 returns-2 c =

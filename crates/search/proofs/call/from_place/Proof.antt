@@ -3,7 +3,7 @@ use mathlib.Core.Path.{sym, subst}
 use lib.Seq.{length-take-le}
 use borrow.Author.Rules.{rules}
 use Rattle.places.specs.Places.{Tells}
-use Rattle.search.proofs.CallLaws.{callable-open, placed-zero, placed-nowhere, placed_past, placed_row, tells_is_row}
+use Rattle.search.proofs.CallLaws.{callable_open, placed_zero, placed_nowhere, placed_past, placed_row, tells_is_row}
 use Rattle.search.proofs.call.from_place.Statement.{statement}
 use Rattle.search.proofs.call.from_place.Tie as tie
 
@@ -11,7 +11,7 @@ refused-requires : tie.Need-refused-requires
 refused-requires c κs = search rules
 
 returns : tie.Need-returns
-returns c = placed-zero _ _ _ _ _ _ _ _ _ c.before.if1.true c.refused.ensures
+returns c = placed_zero _ _ _ _ _ _ _ _ _ c.before.if1.true c.refused.ensures
 
 slice-aggregate-named-by : tie.Need-slice-aggregate-named-by
 slice-aggregate-named-by c =
@@ -24,7 +24,7 @@ slice-aggregate-named-by-2 c =
     sym (length-take-le _ _ s.requires.ready.tabled.numbers_inside)
 
 named-by-requires : tie.Need-named-by-requires
-named-by-requires c κs = callable-open _ _ _ _ _ _ _ c.before.before.before.before.before.before.before.before.requires
+named-by-requires c κs = callable_open _ _ _ _ _ _ _ c.before.before.before.before.before.before.before.before.requires
 
 enum_told : tie.Need-enum-told
 enum_told c = search rules
@@ -49,7 +49,7 @@ from-row-requires c κs = (
 
 returns-2 : tie.Need-returns-2
 returns-2 c =
-    placed-nowhere _ _ _ _ _ _ _ _ _ c.before.before.before.before.before.before.if1.false
+    placed_nowhere _ _ _ _ _ _ _ _ _ c.before.before.before.before.before.before.if1.false
     (subst (Tells _ _ _ _ _) c.before.enum_told.given.1 c.before.before.before.Named-by.ensures) c.refused2.ensures
 
 returns-3 : tie.Need-returns-3

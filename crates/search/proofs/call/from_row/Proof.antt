@@ -2,7 +2,7 @@
 use mathlib.Core.Path.{refl, sym}
 use lib.Seq.{length-take-le}
 use borrow.Author.Rules.{rules}
-use Rattle.search.proofs.CallLaws.{callable-open, callable-seekable}
+use Rattle.search.proofs.CallLaws.{callable_open, callable_seekable}
 use Rattle.search.proofs.call.from_row.Statement.{statement}
 use Rattle.search.proofs.call.from_row.Tie as tie
 
@@ -19,7 +19,7 @@ slice-aggregate-first-row-2 c =
 first-row-requires : tie.Need-first-row-requires
 first-row-requires c κs =
     let s = c.before.before.before.before.before.before.before in
-    callable-open _ _ _ _ _ _ _ s.requires.0 s.requires.1.some_rows
+    callable_open _ _ _ _ _ _ _ s.requires.0 s.requires.1.some_rows
 
 slice-aggregate-seek : tie.Need-slice-aggregate-seek
 slice-aggregate-seek c =
@@ -44,7 +44,7 @@ slice-aggregate-seek-4 c =
 seek-requires : tie.Need-seek-requires
 seek-requires c κs =
     let s = c.before.before.before.before.before.before.before.before.before.before.before.before.before.before in
-    callable-seekable _ _ _ _ _ _ _ s.requires.0 _ s.requires.1 _ c.before.before.before.before.before.before.first_row.ensures
+    callable_seekable _ _ _ _ _ _ _ s.requires.0 _ s.requires.1 _ c.before.before.before.before.before.before.first_row.ensures
 
 same_length : tie.Need-same-length
 same_length c = search rules

@@ -14,7 +14,7 @@ use Rattle.table.specs.declared.problem.Pair.{Pair}
 use Rattle.table.specs.declared.problem.Pair.TheVariants as pairs
 use Rattle.table.specs.declared.problem.Top.TheVariants as tops
 use Rattle.table.proofs.ProblemLaws.{Reading, bytes_less, content_spaces, content_within, reading_begins, reading_cut}
-use Rattle.table.proofs.ProblemLaws.{reading-ends, reading_goes, reading_refused, sums_fit}
+use Rattle.table.proofs.ProblemLaws.{reading_ends, reading_goes, reading_refused, sums_fit}
 use Rattle.table.proofs.problem.read_constraints.Statement.{statement}
 use Rattle.table.proofs.problem.read_constraints.Tie as tie
 
@@ -58,7 +58,7 @@ module _ (c : tie.After-n invariant-loop decreases-loop) where
 
   head : TopDone (max_constraints - loop.loop.count) (take (length s - at) (drop at s)) (tops.Content size)
   unfolding max_constraints
-  head = rw c.n.given.1 at c.before.before.constraint_head_lem.ensures
+  head = rw c.n.given.1 at c.before.before.constraint_head.ensures
 
   within : at + 3 + size ≤ length s
   within = content_within loop.loop.inv turn.loop-test.taken head
@@ -146,7 +146,7 @@ unfolding max_constraints
 returns c =
     let h = c.before.before.before in
     reading_cut h.before.before.before.loop.invariant h.before.before.loop-test.true
-    (rw c.before.r.given.1 at h.constraint_head_lem.ensures)
+    (rw c.before.r.given.1 at h.constraint_head.ensures)
 
 enum-known-n : tie.Need-enum-known-n invariant-loop decreases-loop
 enum-known-n c = c.match.keys2
@@ -253,7 +253,7 @@ same-length-6 : tie.Need-same-length-6 invariant-loop decreases-loop
 same-length-6 c = c.before.loop.invariant.expressions.same
 
 returns-3 : tie.Need-returns-3 invariant-loop decreases-loop
-returns-3 c = reading-ends c.before.loop.invariant c.loop-test.false
+returns-3 c = reading_ends c.before.loop.invariant c.loop-test.false
 
 pub read-constraints-spec : {M : Type 1} → statement M
 read-constraints-spec =

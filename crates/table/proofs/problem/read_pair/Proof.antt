@@ -7,7 +7,7 @@ use Rattle.terms.specs.Reading.{TermDone}
 use Rattle.terms.specs.declared.term.Term.TheVariants as terms
 use Rattle.terms.proofs.Bounds.{term_fine}
 use Rattle.terms.proofs.TermLaws.{TookFits, took_fits}
-use Rattle.table.proofs.ProblemLaws.{pair-refused, pair-paired}
+use Rattle.table.proofs.ProblemLaws.{pair_refused, pair_paired}
 use borrow.Author.Rules.{rules}
 use Rattle.table.proofs.problem.read_pair.Statement.{statement}
 use Rattle.table.proofs.problem.read_pair.Tie as tie
@@ -59,7 +59,7 @@ same_length : tie.Need-same-length
 same_length c = search rules
 
 returns : tie.Need-returns
-returns c = pair-refused _ _ _ _ _ _ (rw c.before.r.given.1 at c.before.before.before.before.before.read-pattern.ensures)
+returns c = pair_refused _ _ _ _ _ _ (rw c.before.r.given.1 at c.before.before.before.before.before.read-pattern.ensures)
 
 same-length-2 : tie.Need-same-length-2
 same-length-2 c = search rules
@@ -69,7 +69,7 @@ same-length-3 c = search rules
 
 returns-2 : tie.Need-returns-2
 returns-2 c =
-    pair-paired _ _ _ _ _ _ _ (first c.before.before.before.before.before.before.before)
+    pair_paired _ _ _ _ _ _ _ (first c.before.before.before.before.before.before.before)
     c.before.before.before.read-expression.ensures c.paired.ensures
 
 pub read-pair-spec : {M : Type 1} → statement M

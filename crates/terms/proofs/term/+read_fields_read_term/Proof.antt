@@ -23,7 +23,7 @@ use Rattle.terms.specs.declared.term.Term.TheVariants as terms
 use Rattle.terms.proofs.Bounds.{Fine, term_fine}
 use Rattle.terms.proofs.Rows.{row_inside, row_same, row_scaled}
 use Rattle.terms.proofs.TermLaws.{Reading, bytes_less, inner_short, inner_space, open_room, reading_begins, reading_cut}
-use Rattle.terms.proofs.TermLaws.{reading-ends, reading_goes, reading_refused, rest-space, sums_fit, term-closed, term-refused}
+use Rattle.terms.proofs.TermLaws.{reading_ends, reading_goes, reading_refused, rest_space, sums_fit, term_closed, term_refused}
 use Rattle.terms.proofs.term.read_fields.Reads as read-fields
 use Rattle.terms.proofs.term.read_fields.Kinds as read-fields-kinds
 use Rattle.terms.proofs.term.+read_fields_read_term.Lts-read_fields as read-fields-lts
@@ -114,7 +114,7 @@ module _ (t : ℕ) where
     end = c.before.before.node.given.0.1.0
 
     opened : OpenDone site.levels (site_context site) entry.args.s.now (opens.Node node end)
-    opened = rw c.before.before.node.given.1 at c.before.before.before.before.open-term.ensures
+    opened = rw c.before.before.node.given.1 at c.before.before.before.before.open_term.ensures
 
     inside : OpenFits site.levels (length entry.args.s.now) c.fixed.result end
     inside = subst (λ (k : ℕ). OpenFits site.levels (length entry.args.s.now) k end) (sym c.fixed.ensures) opened.fits
@@ -188,7 +188,7 @@ module _ (t : ℕ) where
   read-term-returns : Term read-term-lts.Need-returns
   read-term-returns c =
       let read = c.before.before.before in
-      term-refused read.before.before.before.args.site _ _ _ _ (rw c.before.r.given.1 at read.open-term.ensures)
+      term_refused read.before.before.before.args.site _ _ _ _ (rw c.before.r.given.1 at read.open_term.ensures)
 
   read-term-same-length : Term read-term-lts.Need-same-length
   read-term-same-length c = search rules
@@ -200,7 +200,7 @@ module _ (t : ℕ) where
       let below = read.before.before in
       let due = below.before in
       let f = due.before.before in
-      term-closed (site f) _ _ _ _ _ _ _ _ _ _ (opened f) (has_room f) below.below.ensures.levels below.below.ensures.context
+      term_closed (site f) _ _ _ _ _ _ _ _ _ _ (opened f) (has_room f) below.below.ensures.levels below.below.ensures.context
       below.below.ensures.names (rw (f.fixed.ensures, due.due.ensures) at read.read-fields.ensures) closed.close.ensures
 
   -- `read_fields`: what is read lies in the table
@@ -282,7 +282,7 @@ module _ (t : ℕ) where
   read-fields-returns c =
       let next = c.before.before in
       let start = next.before.before.before.before in
-      reading-ends (term_fine _ _) next.before.loop.invariant start.requires.1.short (sym next.next-due.ensures ∙ c.enum_told.given.1)
+      reading_ends (term_fine _ _) next.before.loop.invariant start.requires.1.short (sym next.next-due.ensures ∙ c.enum_told.given.1)
 
   read-fields-enum-known-r : Fields read-fields-lts.Need-enum-known-r
   read-fields-enum-known-r c = c.match.keys2
@@ -326,7 +326,7 @@ module _ (t : ℕ) where
   read-fields-read-term-requires c κs =
       let h = c.before.before.before in
       let outer = (start h).requires.1.outer in
-      (omega (arith, (start h).requires.0), record { good = outer.good; space = rest-space (fine h) (loop h).loop.invariant outer.space })
+      (omega (arith, (start h).requires.0), record { good = outer.good; space = rest_space (fine h) (loop h).loop.invariant outer.space })
 
   read-fields-enum-known-r-2 : Fields read-fields-lts.Need-enum-known-r-2
   read-fields-enum-known-r-2 c = c.match2.keys1

@@ -7,7 +7,7 @@ use lib.ListN.{length}
 use Rattle.meaning.specs.Same.{all_alike}
 use Rattle.meaning.specs.Compare.{pairs}
 use Rattle.tokens.specs.Key.{agree_under}
-use Rattle.tokens.proofs.same.Laws.{alike_from, pairs_from, compared_is, compare_goes_on, compare_stops, compare-ends}
+use Rattle.tokens.proofs.same.Laws.{alike_from, pairs_from, compared_is, compare_goes_on, compare_stops, compare_ends}
 use borrow.Author.Rules.{rules}
 use Rattle.tokens.proofs.same.compare_nodes.Statement.{statement}
 use Rattle.tokens.proofs.same.compare_nodes.Tie as tie
@@ -76,7 +76,7 @@ returns-2 c =
     let s = c.before.before.before.before.before in
     let l = c.before.loop in
     let r =
-    compare-ends (agree_under s.args.s s.args.d s.args.e) s.args.xs.now s.args.ys.now l.k (omega arith) in
+    compare_ends (agree_under s.args.s s.args.d s.args.e) s.args.xs.now s.args.ys.now l.k (omega arith) in
     compared_is (agree_under s.args.s s.args.d s.args.e) s.args.xs.now s.args.ys.now _ _
     (r.0 ∙ l.invariant.2) (r.1 ∙ l.invariant.3)
 

@@ -1,7 +1,7 @@
 -- `same::key_of_variable` meets its contract: one law for each return.
 use mathlib.Core.Path.{sym, ap, ◌∙◌}
 use Prim.Native.Nat.{ℕ, ◌+◌, ◌*◌}
-use Rattle.tokens.proofs.same.Laws.{key-free, key-inside, key-outside}
+use Rattle.tokens.proofs.same.Laws.{key_free, key_inside, key_outside}
 use borrow.Author.Rules.{rules}
 use Rattle.tokens.proofs.same.key_of_variable.Statement.{statement}
 use Rattle.tokens.proofs.same.key_of_variable.Tie as tie
@@ -10,7 +10,7 @@ mul-result : tie.Need-overflow-mul-result
 mul-result c = search rules
 
 returns : tie.Need-returns
-returns c = (sym (key-free _ _ _ _ c.if1.true), search rules)
+returns c = (sym (key_free _ _ _ _ c.if1.true), search rules)
 
 index-requires : tie.Need-index-requires
 index-requires c κs = search rules
@@ -24,7 +24,7 @@ add-result c = search rules
 returns-2 : tie.Need-returns-2
 returns-2 c = (
   ap (λ (i : ℕ). 4 * i + 1) c.index.ensures
-      ∙ sym (key-inside _ _ _ _ c.before.before.if1.false c.before.if2.true),
+      ∙ sym (key_inside _ _ _ _ c.before.before.if1.false c.before.if2.true),
   search rules,
 )
 
@@ -35,7 +35,7 @@ add-result-2 : tie.Need-overflow-add-result-2
 add-result-2 c = search rules
 
 returns-3 : tie.Need-returns-3
-returns-3 c = (sym (key-outside _ _ _ _ c.before.if1.false c.if2.false), search rules)
+returns-3 c = (sym (key_outside _ _ _ _ c.before.if1.false c.if2.false), search rules)
 
 pub key-of-variable-spec : {M : Type 1} → statement M
 key-of-variable-spec =

@@ -1,7 +1,7 @@
 -- `same::reaches` meets its contract.
 use mathlib.Core.Path.{sym, ap, ◌∙◌}
 use Rattle.tokens.specs.Key.{upper_half}
-use Rattle.tokens.proofs.same.Laws.{reaches-no-variable, reaches_above, reaches_below}
+use Rattle.tokens.proofs.same.Laws.{reaches_no_variable, reaches_above, reaches_below}
 use borrow.Author.Rules.{rules}
 use Rattle.tokens.proofs.same.reaches.Statement.{statement}
 use Rattle.tokens.proofs.same.reaches.Tie as tie
@@ -12,7 +12,7 @@ tag-requires c κs = search rules
 returns : tie.Need-returns
 returns c =
     let s = c.before.before in
-    sym (reaches-no-variable s.args.d s.args.r s.args.x (λ e. c.if1.true (c.before.tag.ensures ∙ e)))
+    sym (reaches_no_variable s.args.d s.args.r s.args.x (λ e. c.if1.true (c.before.tag.ensures ∙ e)))
 
 payload-requires : tie.Need-payload-requires
 payload-requires c κs = search rules

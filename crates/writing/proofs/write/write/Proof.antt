@@ -1,7 +1,7 @@
 -- `write` meets its contract: the problem is prepared, and the row's text written.
 use Rattle.prepare.proofs.PreparedLaws.{fresh_room, fresh_rooms}
 use Rattle.search.proofs.CallLaws.{prepared_callable}
-use Rattle.writing.proofs.WriteLaws.{write-accepted, write-refused}
+use Rattle.writing.proofs.WriteLaws.{write_accepted, write_refused}
 use borrow.Author.Rules.{rules}
 use Rattle.writing.proofs.write.write.Statement.{statement}
 use Rattle.writing.proofs.write.write.Tie as tie
@@ -52,7 +52,7 @@ returns : tie.Need-returns
 returns c =
     let prepare = c.before.before.before.before.before.before.before.before in
     let start = prepare.before.before.before.before.before.before.before in
-    write-refused _ _ _ _ _ _ prepare.prepare.ensures start.args.row c.before.verdict.given.1
+    write_refused _ _ _ _ _ _ prepare.prepare.ensures start.args.row c.before.verdict.given.1
 
 same_length : tie.Need-same-length
 same_length c = search rules
@@ -62,7 +62,7 @@ returns-2 c =
     let write-named = c.before.before.before in
     let verdict2 = write-named.before.before.before.before.before.before.before.before in
     let prepare = verdict2.before.before.before.before.before.before.before in
-    write-accepted _ _ _ _ _ _ prepare.prepare.ensures _ verdict2.verdict2.given.1 write-named.write-named.ensures
+    write_accepted _ _ _ _ _ _ prepare.prepare.ensures _ verdict2.verdict2.given.1 write-named.write-named.ensures
 
 pub write_spec : {M : Type 1} → statement M
 write_spec =

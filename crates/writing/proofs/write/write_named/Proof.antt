@@ -1,7 +1,7 @@
 -- `write_named` meets its contract: a law for each thing that a value names.
 use mathlib.Core.Path.{sym}
 use lib.Seq.{length-take-le}
-use Rattle.search.proofs.CallLaws.{callable-open}
+use Rattle.search.proofs.CallLaws.{callable_open}
 use Rattle.writing.proofs.WriteLaws.{named_callable, named_nothing, named_past, named_written}
 use borrow.Author.Rules.{rules}
 use Rattle.writing.proofs.write.write_named.Statement.{statement}
@@ -15,7 +15,7 @@ slice-aggregate-named-by-2 c =
     sym (length-take-le _ _ c.before.before.before.before.before.before.before.before.requires.ready.tabled.numbers_inside)
 
 named-by-requires : tie.Need-named-by-requires
-named-by-requires c κs = callable-open _ _ _ _ _ _ _ c.before.before.before.before.before.before.before.before.requires
+named-by-requires c κs = callable_open _ _ _ _ _ _ _ c.before.before.before.before.before.before.before.before.requires
 
 enum_told : tie.Need-enum-told
 enum_told c = search rules

@@ -1,7 +1,7 @@
 -- `write_row` meets its contract: the row is judged, and its text written.
 use mathlib.Core.Path.{sym}
 use lib.Seq.{length-take-le}
-use Rattle.writing.proofs.WriteLaws.{row-judgeable, row_planned, row_seventeen, row_text_lem}
+use Rattle.writing.proofs.WriteLaws.{row_judgeable, row_planned, row_seventeen, row_text_lem}
 use borrow.Author.Rules.{rules}
 use Rattle.writing.proofs.write.write_row.Statement.{statement}
 use Rattle.writing.proofs.write.write_row.Tie as tie
@@ -27,7 +27,7 @@ slice-aggregate-judge-4 c =
     sym (length-take-le _ _ start.requires.callable.ready.laid.faces_inside)
 
 judge-requires : tie.Need-judge-requires
-judge-requires c κs = row-judgeable c.before.before.before.before.before.before.before.before.before.before.before.before.before.requires
+judge-requires c κs = row_judgeable c.before.before.before.before.before.before.before.before.before.before.before.before.before.requires
 
 same_length : tie.Need-same-length
 same_length c = search rules
