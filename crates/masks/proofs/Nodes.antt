@@ -131,19 +131,19 @@ value_leave (false ∷ l) (suc k) h =
     rw (← e) (value_leave l k h)
 
 module _ (w m k : ℕ) (h : m < 2 ^ w) (i : In (marks w m) k) where
-  bit-left : m ≡ value (leave (marks w m) k) + bit w k
-  bit-left =
+  bit_left : m ≡ value (leave (marks w m) k) + bit w k
+  bit_left =
       sym (value_marks w m h) ∙ value_leave (marks w m) k i
       ∙ ap (λ (n : ℕ). value (leave (marks w m) k) + bit n k) (length_marks w m)
 
   pub bit_le : value (only w k) ≤ m
-  bit_le = omega (arith, bit-left, value_only w k (in_width w m k i))
+  bit_le = omega (arith, bit_left, value_only w k (in_width w m k i))
 
-  pub marks-leave : marks w (m - value (only w k)) ≡ leave (marks w m) k
+  pub marks_leave : marks w (m - value (only w k)) ≡ leave (marks w m) k
   unfolding leave
-  marks-leave =
+  marks_leave =
       let l : List Bool = set (marks w m) k false in
-      let e : m - value (only w k) ≡ value l = omega (arith, bit-left, value_only w k (in_width w m k i)) in
+      let e : m - value (only w k) ≡ value l = omega (arith, bit_left, value_only w k (in_width w m k i)) in
       let n : w ≡ length l = sym (length-set (marks w m) k false ∙ length_marks w m) in
       ap (marks w) e ∙ ap (λ (x : ℕ). marks x (value l)) n ∙ marks_value l
 

@@ -155,21 +155,21 @@ first_last w = ap first (append-nil (marks word_nodes w))
 
 -- As the code looks for it, by the first word that is not 0
 module _ (s : NodeSet) where
-  pub lowest-first : s.w0 < 2 ^ word_nodes → (s.w0 ≡ 0 → ⊥) → first (marks word_nodes s.w0) ≡ first (nodes s)
-  lowest-first h n = sym (ap first (nodes_words s) ∙ first_word s.w0 _ h n)
+  pub lowest_first : s.w0 < 2 ^ word_nodes → (s.w0 ≡ 0 → ⊥) → first (marks word_nodes s.w0) ≡ first (nodes s)
+  lowest_first h n = sym (ap first (nodes_words s) ∙ first_word s.w0 _ h n)
 
-  pub lowest-second : s.w0 ≡ 0 → s.w1 < 2 ^ word_nodes → (s.w1 ≡ 0 → ⊥) → 64 + first (marks word_nodes s.w1) ≡ first (nodes s)
-  lowest-second a h n =
+  pub lowest_second : s.w0 ≡ 0 → s.w1 < 2 ^ word_nodes → (s.w1 ≡ 0 → ⊥) → 64 + first (marks word_nodes s.w1) ≡ first (nodes s)
+  lowest_second a h n =
       sym
       (ap first (nodes_words s) ∙ first_later s.w0 _ a ∙ ap (λ (k : ℕ). 64 + k) (first_word s.w1 (s.w2 ∷ s.w3 ∷ []) h n))
 
-  pub lowest-third : s.w0 ≡ 0 → s.w1 ≡ 0 → s.w2 < 2 ^ word_nodes → (s.w2 ≡ 0 → ⊥) → 128 + first (marks word_nodes s.w2) ≡ first (nodes s)
-  lowest-third a b h n =
+  pub lowest_third : s.w0 ≡ 0 → s.w1 ≡ 0 → s.w2 < 2 ^ word_nodes → (s.w2 ≡ 0 → ⊥) → 128 + first (marks word_nodes s.w2) ≡ first (nodes s)
+  lowest_third a b h n =
       let x = ap first (nodes_words s) ∙ first_later s.w0 _ a in
       omega (arith, x, first_later s.w1 (s.w2 ∷ s.w3 ∷ []) b, first_word s.w2 (s.w3 ∷ []) h n)
 
-  pub lowest-fourth : s.w0 ≡ 0 → s.w1 ≡ 0 → s.w2 ≡ 0 → 192 + first (marks word_nodes s.w3) ≡ first (nodes s)
-  lowest-fourth a b d =
+  pub lowest_fourth : s.w0 ≡ 0 → s.w1 ≡ 0 → s.w2 ≡ 0 → 192 + first (marks word_nodes s.w3) ≡ first (nodes s)
+  lowest_fourth a b d =
       let x = ap first (nodes_words s) ∙ first_later s.w0 _ a in
       omega (arith, x, first_later s.w1 (s.w2 ∷ s.w3 ∷ []) b, first_later s.w2 (s.w3 ∷ []) d, first_last s.w3)
 

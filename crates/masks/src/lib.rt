@@ -1,5 +1,6 @@
 // Sets of the nodes of a face: "node set as a 64-bit mask: ones counted for holes, leading zeros for the lowest node", and since T-10 four such
 // words, node 0 at the highest bit of the first. What a set is, as marks and as one number, is defined in specs/.
+#![tactic(auto)]
 
 ghost use Rattle.std.specs.Prelude.{◌≡◌, false, ◌<◌, eqb, get_or, set};
 ghost use Rattle.masks.specs.Mask.{marks, value, trues, first, join, leave, only};
@@ -60,7 +61,7 @@ fn leading(w: u64) -> usize
     u64::leading_zeros(w) as usize
 }
 
-#[derive(Drop)]
+#[derive(Clone, Copy)]
 pub struct NodeSet {
     pub w0: u64,
     pub w1: u64,

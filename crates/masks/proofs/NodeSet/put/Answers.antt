@@ -1,0 +1,16 @@
+-- `NodeSet::put`: a word for each number.
+use native.Mathlib.Omega.{arith}
+use Rattle.masks.proofs.Words.{put_at}
+use Rattle.masks.proofs.NodeSet.put.Goals as goal
+
+pub returns-in-0 : goal.returns-in-0
+returns-in-0 c = put_at _ _ 0 _ c.in-0.is
+
+pub returns-in-1 : goal.returns-in-1
+returns-in-1 c = put_at _ _ 1 _ c.in-1.is
+
+pub returns-in-2 : goal.returns-in-2
+returns-in-2 c = put_at _ _ 2 _ c.in-2.is
+
+pub returns-in_default : goal.returns-in_default
+returns-in_default c = put_at _ c.args.i 3 _ (omega (arith, c.in_default.in_default-own.rest))
