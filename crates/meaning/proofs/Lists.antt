@@ -189,9 +189,12 @@ at_mem [] k x e = never (cc)
 at_mem (y ∷ xs) zero x e = Memᴰ.head (let p : x ≡ y = cc in p)
 at_mem (y ∷ xs) (suc k) x e = Memᴰ.tail (at_mem xs k x e)
 
+mem_number : {A : Type 0} (x : A) (xs : List A) → x ∈ xs → (k : ℕ) × (get_elem? xs k ≡ some x)
+mem_number x xs (Memᴰ.head e) = (0, ap some (sym e))
+mem_number x xs (Memᴰ.tail m) = let (k, e) = mem_number x _ m in (suc k, e)
+
 pub mem_at : {A : Type 0} (xs : List A) (x : A) → x ∈ xs → (k : ℕ) × (get_elem? xs k ≡ some x)
-mem_at xs x (Memᴰ.head e) = (0, ap some (sym e))
-mem_at xs x (Memᴰ.tail m) = let (k, e) = mem_at _ x m in (suc k, e)
+mem_at xs x m = mem_number x xs m
 
 pub at_past : {A : Type 0} (xs : List A) (k : ℕ) → length xs ≤ k → get_elem? xs k ≡ none
 at_past [] k h = refl

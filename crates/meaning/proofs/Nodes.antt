@@ -84,6 +84,7 @@ renumbered {L} {u} {t} h e = subst (λ k. Stands k u t) e h
 pub stands_in : {L : Type 0} {n j m : ℕ} {u : Forest L} {t v : Tree L} → Stands n u t → Stands j (one t) v → m ≡ n + j → Stands m u v
 stands_in here here e = renumbered here (omega arith)
 stands_in here (below g) e = renumbered (below g) (omega arith)
+stands_in here (beside g _) e = elim g [ ]
 stands_in {j} (below {n} h) g e = renumbered (below (stands_in {m = n + j} h g refl)) (omega arith)
 stands_in {j} {m} (beside {c} {n} h d) g e = beside {c = c} {m = m} (stands_in {m = n + j} h g refl) (omega arith)
 
@@ -99,12 +100,17 @@ module _ {E L M : Type 0} (into : L → E → E) (f : E → L → M) where
   relabel_stands (beside {l} {c} {n} h d) e =
       let r = relabel_stands h e in (r.0, beside r.1 (d ∙ ap (λ (k : ℕ). suc (k + n)) (sym (relabel_size into f (into l e) c))))
 
+  relabelled_node : (u : Forest L) (e : E) {n : ℕ} {t : Tree M} → Stands n (relabel into f e u) t
+      → (e' : E) × (t' : Tree L) × Stands n u t' × (t ≡ relabel_tree e' t')
+  relabelled_node nil e g = elim g [ ]
+  relabelled_node (cons l c s) e here = (e, (l, c), here, refl)
+  relabelled_node (cons l c s) e (below h) = let r = relabelled_node c (into l e) h in (r.0, r.1, below r.2, r.3)
+  relabelled_node (cons l c s) e (beside {n} h d) =
+      let r = relabelled_node s e h in (r.0, r.1, beside r.2 (d ∙ ap (λ (k : ℕ). suc (k + n)) (relabel_size into f (into l e) c)), r.3)
+
   pub stands_relabel : {n : ℕ} {t : Tree M} (u : Forest L) (e : E) → Stands n (relabel into f e u) t
       → (e' : E) × (t' : Tree L) × Stands n u t' × (t ≡ relabel_tree e' t')
-  stands_relabel (cons l c s) e here = (e, (l, c), here, refl)
-  stands_relabel (cons l c s) e (below h) = let r = stands_relabel c (into l e) h in (r.0, r.1, below r.2, r.3)
-  stands_relabel (cons l c s) e (beside {n} h d) =
-      let r = stands_relabel s e h in (r.0, r.1, beside r.2 (d ∙ ap (λ (k : ℕ). suc (k + n)) (relabel_size into f (into l e) c)), r.3)
+  stands_relabel u e h = relabelled_node u e h
 
 -- A face's own node. Where the first node of e has the number n, it is j nodes further on
 abbrev Within : ℕ → Terms → Face → Type 0

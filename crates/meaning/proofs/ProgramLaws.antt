@@ -86,28 +86,35 @@ module _ (p : Problem) (accepted : Accepted p) where
   unlike a b other = absurd (other (same_kind (alike a b)))
 
   -- ONLY ONE: the replies to two lists of calls are alike, one after the other
-  one_lines : {k : ℕ} {v : PlaceValue} {rs rs' : List HostReply} {xs ys : List Bytes}
-      → Replies p v rs → Replies p v rs' → Lines p k rs xs → Lines p k rs' ys → xs ≡ ys
-  one_lines {k} (then a later) (then {xs = rs'} b later') (solution r l m d) (solution r' l' m' d') =
+  lines_alike : {k k' : ℕ} {v : PlaceValue} {rs rs' : List HostReply} {xs ys : List Bytes}
+      → Replies p v rs → Replies p v rs' → k ≡ k' → Lines p k rs xs → Lines p k' rs' ys → xs ≡ ys
+  lines_alike {k} {k'} (then a later) (then {xs = rs'} b later') e (solution r {lines = lines} l m d) (solution r' l' m' d') =
       let (row, next) = same_found (alike a b) in
       let same : r ≡ r' = value_names_row p _ r r' accepted (subst (λ (v : PlaceValue). Names p v (at r)) row m) m' in
-      ap₂ {C = List Bytes} (λ (x : Row) (zs : List Bytes). solution_line (suc k) (row_text p x) ∷ zs) same
-      (one_lines later (subst (λ (v : PlaceValue). Replies p v rs') (sym next) later') d d')
-  one_lines (then a later) (then b later') (solution r l m d) more = absurd (omega arith)
-  one_lines (then a later) (then b later') (solution r l m d) ended = unlike a b (λ z. omega arith)
-  one_lines (then a later) (then b later') (solution r l m d) pauses = unlike a b (λ z. omega arith)
-  one_lines (then a later) (then b later') more (solution r l m d) = absurd (omega arith)
-  one_lines (then a later) (then b later') more more = refl
-  one_lines (then a later) (then b later') more ended = unlike a b (λ z. omega arith)
-  one_lines (then a later) (then b later') more pauses = unlike a b (λ z. omega arith)
-  one_lines (then a later) (then b later') ended (solution r l m d) = unlike a b (λ z. omega arith)
-  one_lines (then a later) (then b later') ended more = unlike a b (λ z. omega arith)
-  one_lines (then a later) (then b later') ended ended = refl
-  one_lines (then a later) (then b later') ended pauses = unlike a b (λ z. omega arith)
-  one_lines (then a later) (then b later') pauses (solution r l m d) = unlike a b (λ z. omega arith)
-  one_lines (then a later) (then b later') pauses more = unlike a b (λ z. omega arith)
-  one_lines (then a later) (then b later') pauses ended = unlike a b (λ z. omega arith)
-  one_lines (then a later) (then b later') pauses pauses = refl
+      ap (λ (n : ℕ). solution_line (suc n) (row_text p r) ∷ lines) e
+      ∙ ap₂ {C = List Bytes} (λ (x : Row) (zs : List Bytes). solution_line (suc k') (row_text p x) ∷ zs) same
+      (lines_alike {k = suc k} {k' = suc k'} later (subst (λ (v : PlaceValue). Replies p v rs') (sym next) later') (ap suc e) d d')
+  lines_alike none _ _ x _ = elim x [ ]
+  lines_alike (then a later) none _ _ y = elim y [ ]
+  lines_alike (then a later) (then b later') e (solution r l m d) more = absurd (omega arith)
+  lines_alike (then a later) (then b later') e (solution r l m d) ended = unlike a b (λ z. omega arith)
+  lines_alike (then a later) (then b later') e (solution r l m d) pauses = unlike a b (λ z. omega arith)
+  lines_alike (then a later) (then b later') e more (solution r l m d) = absurd (omega arith)
+  lines_alike (then a later) (then b later') e more more = refl
+  lines_alike (then a later) (then b later') e more ended = unlike a b (λ z. omega arith)
+  lines_alike (then a later) (then b later') e more pauses = unlike a b (λ z. omega arith)
+  lines_alike (then a later) (then b later') e ended (solution r l m d) = unlike a b (λ z. omega arith)
+  lines_alike (then a later) (then b later') e ended more = unlike a b (λ z. omega arith)
+  lines_alike (then a later) (then b later') e ended ended = ap (λ (n : ℕ). count_line "end " n ∷ []) e
+  lines_alike (then a later) (then b later') e ended pauses = unlike a b (λ z. omega arith)
+  lines_alike (then a later) (then b later') e pauses (solution r l m d) = unlike a b (λ z. omega arith)
+  lines_alike (then a later) (then b later') e pauses more = unlike a b (λ z. omega arith)
+  lines_alike (then a later) (then b later') e pauses ended = unlike a b (λ z. omega arith)
+  lines_alike (then a later) (then b later') e pauses pauses = ap (λ (n : ℕ). count_line "paused " n ∷ []) e
+
+  one_lines : {k : ℕ} {v : PlaceValue} {rs rs' : List HostReply} {xs ys : List Bytes}
+      → Replies p v rs → Replies p v rs' → Lines p k rs xs → Lines p k rs' ys → xs ≡ ys
+  one_lines a b x y = lines_alike a b refl x y
 
   -- SOME: from any place on
   abbrev SomeLines : ℕ → PlaceValue → Type 0
