@@ -11,7 +11,7 @@ use metavariables::{Occurring, survey};
 use table::Read;
 
 // What is known of an accepted problem, beside its two tables and the faces.
-#[derive(Drop)]
+#[derive(Clone, Copy)]
 pub struct Standing {
     // How many tokens stand at the front of the table of patterns, and of the table of expressions.
     pub patterns: usize,
@@ -23,7 +23,7 @@ pub struct Standing {
     pub faces: usize,
 }
 
-#[derive(Drop)]
+#[derive(Clone, Copy)]
 pub enum Verdict {
     Refused(u8),
     Accepted(Standing),
@@ -31,9 +31,9 @@ pub enum Verdict {
 
 // The checks on the tables of a problem that is read.
 fn checked(ps: &[u64], es: &[u64], faces: &mut [u64]) -> Verdict
-    requires fact_1 { Table ps.now }
-    requires fact_2 { Table es.now }
-    requires fact_3 { length ps.now ≤ length faces.old }
+    requires patterns { Table ps.now }
+    requires expressions { Table es.now }
+    requires room { length ps.now ≤ length faces.old }
     ensures { Checks ps.now es.now faces.old faces.new result }
 {
     let found = check(ps, es, faces);

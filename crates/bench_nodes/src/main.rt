@@ -26,9 +26,9 @@ const WORST_TIMES: usize = 500;
 
 // The sum of what is compared, so that each time counts. Which of the two comes first is exchanged each time.
 fn compare_again(es: &[u64], first: usize, second: usize) -> usize
-    requires fact_1 { Nested es.now }
-    requires fact_2 { first < length es.now }
-    requires fact_3 { second < length es.now }
+    requires nested { Nested es.now }
+    requires first_in { first < length es.now }
+    requires second_in { second < length es.now }
 {
     let mut sum = 0usize;
     let mut k = 0;
@@ -44,8 +44,8 @@ fn compare_again(es: &[u64], first: usize, second: usize) -> usize
 
 // The first n nodes of the table are the problem's expressions.
 fn measure(es: &[u64], n: usize) -> usize
-    requires fact_1 { n ≤ length es.now }
-    requires fact_2 { Nested (take n es.now) }
+    requires front { n ≤ length es.now }
+    requires nested { Nested (take n es.now) }
 {
     if n < 2 {
         return 0;
@@ -106,9 +106,9 @@ fn number_again(es: &[u64], times: usize, ns: &mut [u64], links: &mut [u64])
 
 // The first n nodes of the table are the problem's expressions.
 fn measure_numbers(es: &[u64], n: usize, times: usize) -> usize
-    requires fact_1 { n ≤ length es.now }
-    requires fact_2 { Numerable (take n es.now) }
-    requires fact_3 { n < table_room }
+    requires front { n ≤ length es.now }
+    requires numerable { Numerable (take n es.now) }
+    requires room { n < table_room }
 {
     let mut ns = [0u64; TABLE_ROOM];
     let mut links = [0u64; TABLE_ROOM];

@@ -25,8 +25,8 @@ const TIMES: usize = 20000;
 
 // How many rows there are from the first on, which is lent for the stepping.
 fn count_from(es: &[u64], ns: &[u64], firsts: Firsts, first: [NodeSet; rows::MAX_FUNCTIONS]) -> u64
-    requires fact_1 { Faced es.now ns.now firsts }
-    requires fact_2 { place_of (rows_of es.now ns.now firsts) ≡ at (masks_in first) }
+    requires faced { Faced es.now ns.now firsts }
+    requires first_row { place_of (rows_of es.now ns.now firsts) ≡ at (masks_in first) }
 {
     let mut reached = first;
     let last = last_function(firsts);

@@ -18,8 +18,8 @@ use tokens::token::{depth, size};
 
 // Whether the body that the set makes of the face at a node uses no binder above the face. What stands below a hole is passed.
 pub fn body_closed(es: &[u64], face: usize, set: NodeSet) -> bool
-    requires fact_1 { Table es.now }
-    requires fact_2 { Inside es.now face }
+    requires table { Table es.now }
+    requires inside { Inside es.now face }
     ensures { result ≡ body_closed_at es.now face (mask set) }
 {
     let root = es[face];
@@ -43,8 +43,8 @@ pub fn body_closed(es: &[u64], face: usize, set: NodeSet) -> bool
 // Whether what stands at a node, across a hole, uses no binder between the root, at depth e, and itself, and is what stands across the
 // lowest hole.
 fn hole_fits(ns: &[u64], e: u64, lowest: usize, node: usize) -> bool
-    requires fact_1 { lowest < length ns.now }
-    requires fact_2 { node < length ns.now }
+    requires lowest_in { lowest < length ns.now }
+    requires node_in { node < length ns.now }
     ensures { result ≡ hole_fits (told ns.now) e lowest node }
 {
     if uses(ns, node, e) {
@@ -56,11 +56,11 @@ fn hole_fits(ns: &[u64], e: u64, lowest: usize, node: usize) -> bool
 // Whether the body that the set makes of the face at a node is, with some argument in its holes, what stands at node `faced`. Up to the
 // lowest hole the two agree node by node, so that it stands as far from `faced` as its node from the face.
 pub fn suits(es: &[u64], ns: &[u64], face: usize, faced: usize, set: NodeSet) -> bool
-    requires fact_1 { Table es.now }
-    requires fact_2 { Nested es.now }
-    requires fact_3 { face < length es.now }
-    requires fact_4 { faced < length es.now }
-    requires fact_5 { length ns.now ≡ length es.now }
+    requires table { Table es.now }
+    requires nested { Nested es.now }
+    requires face_in { face < length es.now }
+    requires faced_in { faced < length es.now }
+    requires numbered { length ns.now ≡ length es.now }
     ensures { result ≡ suits_at (told ns.now) es.now face faced (mask set) }
 {
     let root = es[face];

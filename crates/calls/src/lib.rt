@@ -13,7 +13,7 @@ use seeking::Answer;
 use words::{ROW_WORDS, put_row};
 
 // Where a list of calls stands: the place left, the Founds so far, and whether one of the calls was an End.
-#[derive(Drop)]
+#[derive(Clone, Copy)]
 pub struct Progress {
     pub place: Place,
     pub found: usize,
@@ -21,7 +21,7 @@ pub struct Progress {
 }
 
 // A refusal, or the number of the Founds and whether there was an End.
-#[derive(Drop)]
+#[derive(Clone, Copy)]
 pub struct Ran {
     pub answer: Start,
     pub found: usize,

@@ -17,7 +17,7 @@ use metavariables::Occurring;
 use said::Said;
 use table::TABLE_ROOM;
 
-#[derive(Drop)]
+#[derive(Clone, Copy)]
 pub enum Checked {
     Refused(u8),
     Yes,
@@ -104,8 +104,8 @@ fn said_of(yes: bool) -> Checked
 
 // 19, 20 and 27, and else yes or no.
 fn check_text(a: Standing, ps: &[u64], es: &[u64], fs: &[u64], text: &[u8]) -> Checked
-    requires fact_1 { Ground ps.now es.now fs.now a }
-    requires fact_2 { length ps.now ≤ table_room }
+    requires ground { Ground ps.now es.now fs.now a }
+    requires room { length ps.now ≤ table_room }
     ensures { CheckedText ps.now es.now fs.now a text.now result }
 {
     let mut ts = [0u64; TEXT_ROOM];

@@ -17,7 +17,7 @@ use tokens::token::{depth, size};
 
 // Where a walk through the nodes of a face stands: the first node that does not lie below a hole, whether there is a hole so far, and then
 // the number that all holes have.
-#[derive(Drop)]
+#[derive(Clone, Copy)]
 pub struct Walk {
     pub end: usize,
     pub holes: bool,
@@ -150,9 +150,9 @@ fn left_at(ns: &[u64], root: usize, left: NodeSet, i: usize) -> Walk
 
 // The choice after another that has a node: its last node is left out, and after it each node that may become a hole does.
 pub fn next_choice(es: &[u64], ns: &[u64], root: usize, set: NodeSet) -> NodeSet
-    requires fact_1 { Whole es.now root × (length ns.now ≡ length es.now) }
-    requires fact_2 { mask set ∈ choices_from ns.now es.now root }
-    requires fact_3 { 0 < mask set }
+    requires whole { Whole es.now root × (length ns.now ≡ length es.now) }
+    requires choice { mask set ∈ choices_from ns.now es.now root }
+    requires more { 0 < mask set }
     ensures { Next (choices_from ns.now es.now root) (mask set) (mask result) }
 {
     let i = last(set, size(es[root]) as usize);

@@ -16,7 +16,7 @@ use tokens::same::{Compared, compare_across, least};
 use tokens::token::{depth, size};
 
 // What is said of a pair of nodes: the problem is refused, it has no such node, or the two were compared.
-#[derive(Drop)]
+#[derive(Clone, Copy)]
 pub enum Pair {
     Refused(u8),
     NoNode,
@@ -26,9 +26,9 @@ pub enum Pair {
 // How many binders lie above both nodes, where a does not come after b: the least depth from a to b. From subterm to subterm, since none of
 // its nodes is less deep than its root, and no further than to one that lies below no binder.
 fn shared_from(t: &[u64], a: usize, b: usize) -> u64
-    requires fact_1 { Nested t.now }
-    requires fact_2 { a ≤ b }
-    requires fact_3 { b < length t.now }
+    requires nested { Nested t.now }
+    requires in_order { a ≤ b }
+    requires second_in { b < length t.now }
     ensures { Shared t.now a b result }
 {
     let x = t[a];
@@ -48,9 +48,9 @@ fn shared_from(t: &[u64], a: usize, b: usize) -> u64
 
 // The same of any two nodes.
 fn shared_depth(t: &[u64], a: usize, b: usize) -> u64
-    requires fact_1 { Nested t.now }
-    requires fact_2 { a < length t.now }
-    requires fact_3 { b < length t.now }
+    requires nested { Nested t.now }
+    requires first_in { a < length t.now }
+    requires second_in { b < length t.now }
     ensures { Shared t.now a b result }
 {
     if a < b {
@@ -61,9 +61,9 @@ fn shared_depth(t: &[u64], a: usize, b: usize) -> u64
 
 // Any two nodes of one table compared.
 pub fn compare(t: &[u64], a: usize, b: usize) -> Compared
-    requires fact_1 { Nested t.now }
-    requires fact_2 { a < length t.now }
-    requires fact_3 { b < length t.now }
+    requires nested { Nested t.now }
+    requires first_in { a < length t.now }
+    requires second_in { b < length t.now }
     ensures { ComparedIn t.now a b result }
 {
     compare_across(t, a, t, b, shared_depth(t, a, b))
@@ -71,8 +71,8 @@ pub fn compare(t: &[u64], a: usize, b: usize) -> Compared
 
 // The same of the first n nodes of a table, if both are among them.
 fn compare_present(es: &[u64], n: usize, a: usize, b: usize) -> Pair
-    requires fact_1 { n ≤ length es.now }
-    requires fact_2 { Nested (take n es.now) }
+    requires front { n ≤ length es.now }
+    requires nested { Nested (take n es.now) }
     ensures { Present (take n es.now) a b result }
 {
     if n <= a {
@@ -98,7 +98,7 @@ pub fn compare_in(problem: &[u8], a: usize, b: usize) -> Pair
 }
 
 // What is said of the nodes of a problem: the problem is refused, or so many numbers are written.
-#[derive(Drop)]
+#[derive(Clone, Copy)]
 pub enum Numbering {
     Refused(u8),
     Numbers(usize),
@@ -106,9 +106,9 @@ pub enum Numbering {
 
 // The numbers of the first n nodes of a table.
 fn number_present(es: &[u64], n: usize, ns: &mut [u64]) -> Numbering
-    requires fact_1 { n ≤ length es.now }
-    requires fact_2 { Numerable (take n es.now) }
-    requires fact_3 { (n < table_room) × (n < length ns.old) }
+    requires front { n ≤ length es.now }
+    requires numerable { Numerable (take n es.now) }
+    requires room { (n < table_room) × (n < length ns.old) }
     ensures { NumbersMade (take n es.now) n ns.new result }
 {
     let mut links = [0u64; TABLE_ROOM];

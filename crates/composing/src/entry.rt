@@ -8,7 +8,7 @@ use sources::{OPEN, Sources};
 
 // Where the entries of a row are looked up: the problem's metavariables, the face and the node set of each function, and the nodes that the
 // values are copied from.
-#[derive(Drop)]
+#[derive(Clone, Copy)]
 pub struct Plan {
     pub occurring: Occurring,
     pub nodes: [usize; MAX_FUNCTIONS],
@@ -16,7 +16,7 @@ pub struct Plan {
     pub sources: Sources,
 }
 
-#[derive(Drop)]
+#[derive(Clone, Copy)]
 pub enum Entry {
     // The metavariable does not occur.
     Absent,

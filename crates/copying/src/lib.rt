@@ -19,7 +19,7 @@ use tokens::token::{payload, size, tag};
 const HOLE: u8 = 10;
 
 // What the writer of a text or a problem answers: how many bytes it wrote, or the refusal by its number.
-#[derive(Drop)]
+#[derive(Clone, Copy)]
 pub enum Written {
     Wrote(usize),
     Refused(u8),

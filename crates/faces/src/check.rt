@@ -11,7 +11,7 @@ use crate::walk::walk;
 use lockstep::Shapes;
 use metavariables::{MAX_FUNCTIONS, both_ways, function_count, survey};
 
-#[derive(Drop)]
+#[derive(Clone, Copy)]
 pub enum Checked {
     Refused(u8),
     // A letter is used both ways, or a shape disagrees: the problem is accepted and has no rows.
@@ -30,9 +30,9 @@ fn over_limit(ps: &[u64], es: &[u64], faces: &[u64], functions: u32) -> bool
 
 // The tables of the patterns and of the expressions; the faces are recorded at the front of `out`.
 pub fn check(ps: &[u64], es: &[u64], out: &mut [u64]) -> Checked
-    requires fact_1 { Table ps.now }
-    requires fact_2 { Table es.now }
-    requires fact_3 { length ps.now ≤ length out.old }
+    requires patterns { Table ps.now }
+    requires expressions { Table es.now }
+    requires room { length ps.now ≤ length out.old }
     ensures { CheckedBy ps.now es.now out.old out.new result }
 {
     let found = survey(ps);

@@ -15,7 +15,7 @@ const ABSENT: usize = 65536;
 
 // The expression's node of each function's first face, by ascending metavariable. An array by value: there are few, so that
 // no caller has to lend room for them, and entries past `count` are not used.
-#[derive(Drop)]
+#[derive(Clone, Copy)]
 pub struct Firsts {
     pub nodes: [usize; MAX_FUNCTIONS],
     pub count: usize,

@@ -8,9 +8,9 @@ use lockstep::{Shapes, Span, walk_at};
 
 // The faces of a problem's two tables are recorded at the front of `out`.
 pub fn walk(ps: &[u64], es: &[u64], out: &mut [u64]) -> Shapes
-    requires fact_1 { Table ps.now }
-    requires fact_2 { Table es.now }
-    requires fact_3 { length ps.now ≤ length out.old }
+    requires patterns { Table ps.now }
+    requires expressions { Table es.now }
+    requires room { length ps.now ≤ length out.old }
     ensures { Walked (flat_walk ps.now es.now) out.old out.new result }
 {
     let whole = Span {

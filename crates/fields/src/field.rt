@@ -4,7 +4,7 @@ ghost use Rattle.meaning.specs.Read.{kind_of, long_at, word_at};
 ghost use Rattle.fields.specs.Heads.{context_from, ruled_from, PartsDone, HeadDone};
 
 // Where a term stands, which decides what its tag may be.
-#[derive(Drop)]
+#[derive(Clone, Copy)]
 pub enum Context {
     Pattern,
     Argument,
@@ -13,7 +13,7 @@ pub enum Context {
 }
 
 // The content rules, one for each tag.
-#[derive(Drop)]
+#[derive(Clone, Copy)]
 pub enum Kind {
     Symbol,
     Variable,
@@ -24,7 +24,7 @@ pub enum Kind {
     Hole,
 }
 
-#[derive(Drop)]
+#[derive(Clone, Copy)]
 pub enum Ruled {
     Content(Kind),
     Refused(u8),
@@ -78,7 +78,7 @@ pub fn long(s: &[u8], at: usize) -> u32
 }
 
 // A field's tag and the length of its content.
-#[derive(Drop)]
+#[derive(Clone, Copy)]
 pub enum Parts {
     Field(u8, usize),
     Refused(u8),
@@ -98,7 +98,7 @@ pub fn parts_of(s: &[u8]) -> Parts
 }
 
 // The content rule of a term's field, and the length of its content.
-#[derive(Drop)]
+#[derive(Clone, Copy)]
 pub enum Head {
     Field(Kind, usize),
     Refused(u8),

@@ -8,7 +8,7 @@ use crate::field::{Context, Head, Kind, head_of, long, word};
 use crate::limit::{FIRST_WIDE, METAVARIABLES};
 use crate::number::{Binder, Metavariable, Symbol, Variable};
 
-#[derive(Drop)]
+#[derive(Clone, Copy)]
 pub enum Node {
     Symbol(Symbol),
     Variable(Variable),
@@ -20,7 +20,7 @@ pub enum Node {
 }
 
 // How many inner fields a node must have.
-#[derive(Drop)]
+#[derive(Clone, Copy)]
 pub enum Due {
     // As many as fill the content.
     All,
@@ -72,7 +72,7 @@ impl Node {
     }
 }
 
-#[derive(Drop)]
+#[derive(Clone, Copy)]
 pub enum Content {
     Node(Node),
     Refused(u8),
@@ -179,7 +179,7 @@ fn content_of(kind: Kind, c: &[u8]) -> Content
 }
 
 // A term before its inner fields: its node, and where its field ends.
-#[derive(Drop)]
+#[derive(Clone, Copy)]
 pub enum Opened {
     Node(Node, usize),
     Refused(u8),

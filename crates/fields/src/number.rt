@@ -4,7 +4,7 @@ ghost use Rattle.meaning.specs.Field.{symbol_bytes};
 
 use crate::limit::FIRST_WIDE;
 
-#[derive(Drop)]
+#[derive(Clone, Copy)]
 pub struct Symbol(pub u32);
 
 impl Symbol {
@@ -17,11 +17,11 @@ impl Symbol {
     }
 }
 
-#[derive(Drop)]
+#[derive(Clone, Copy)]
 pub struct Variable(pub u16);
 
-#[derive(Drop)]
+#[derive(Clone, Copy)]
 pub struct Binder(pub u16);
 
-#[derive(Drop)]
+#[derive(Clone, Copy)]
 pub struct Metavariable(pub u8);

@@ -12,7 +12,7 @@ use seeking::{Answer, Searched};
 use writing::write::write;
 
 // What the search answered, and how long the text is: 0 where nothing is found.
-#[derive(Drop)]
+#[derive(Clone, Copy)]
 pub struct Finding {
     pub searched: Searched,
     pub length: usize,

@@ -19,7 +19,7 @@ use metavariables::{MAX_FUNCTIONS, METAVARIABLES, rank};
 use sources::{Agreed, OPEN, Sources, all_demanded};
 use tokens::token::{depth, payload, size, tag};
 
-#[derive(Drop)]
+#[derive(Clone, Copy)]
 pub struct Judged {
     pub solves: bool,
     // Where it is a solution row: the nodes that the values are copied from.

@@ -24,7 +24,7 @@ pub const LARGEST_TEXT: usize = 8192;
 pub const TEXT_ROOM: usize = 2731;
 
 // What reading a text answers: document 01's refusal by its number, or a count of what stands in the table.
-#[derive(Drop)]
+#[derive(Clone, Copy)]
 pub enum Answer {
     Refused(u8),
     // How many entries at the front of the table hold the text's terms.
@@ -32,14 +32,14 @@ pub enum Answer {
 }
 
 // What the text says; of a refused text it means nothing.
-#[derive(Drop)]
+#[derive(Clone, Copy)]
 pub struct TextRead {
     pub answer: Answer,
     pub said: Said,
 }
 
 // One field of a text.
-#[derive(Drop)]
+#[derive(Clone, Copy)]
 enum Field {
     Refused,
     // The bytes that it takes, its tag, its metavariable, and the nodes of its term.
@@ -47,7 +47,7 @@ enum Field {
 }
 
 // The order of the fields so far.
-#[derive(Drop)]
+#[derive(Clone, Copy)]
 struct Order {
     // Whether each number is above the one before it.
     rising: bool,
@@ -56,7 +56,7 @@ struct Order {
 }
 
 // What the fields of a text come to.
-#[derive(Drop)]
+#[derive(Clone, Copy)]
 struct Fields {
     // Whether each can be read; if not, the rest means nothing.
     readable: bool,
@@ -68,7 +68,7 @@ struct Fields {
 }
 
 // The content rules. After the number comes an expression, "an expression in which 10 may stand for a term", or nothing.
-#[derive(Drop)]
+#[derive(Clone, Copy)]
 enum Rule {
     Value,
     Body,

@@ -4,7 +4,7 @@ ghost use Rattle.std.specs.Prelude.{◌≡◌, ◌+◌, ◌*◌, ◌≤◌, leng
 ghost use Rattle.lines.specs.Parts.{InLine, Placed, Told};
 
 // What stands from an index on.
-#[derive(Drop)]
+#[derive(Clone, Copy)]
 pub enum Part {
     // So many bytes.
     Bytes(usize),
@@ -13,7 +13,7 @@ pub enum Part {
 }
 
 // A line with two parts: its letter, how many bytes each part has, and where the label begins that stands after them.
-#[derive(Drop)]
+#[derive(Clone, Copy)]
 pub struct Asked {
     pub kind: u8,
     pub first: usize,
@@ -21,7 +21,7 @@ pub struct Asked {
     pub label: usize,
 }
 
-#[derive(Drop)]
+#[derive(Clone, Copy)]
 pub enum Line {
     Asked(Asked),
     // No letter, or no two parts.

@@ -24,7 +24,7 @@ const LARGEST_WRITTEN: usize = 4224;
 pub const ROOM: usize = 8469;
 
 // Where the list of lines stands: the place of the next search call, the solutions so far, and whether the last line was made.
-#[derive(Drop)]
+#[derive(Clone, Copy)]
 pub struct Listing {
     pub place: Place,
     pub count: u32,
@@ -32,7 +32,7 @@ pub struct Listing {
 }
 
 // A line, by how long it is, and how the list stands after it.
-#[derive(Drop)]
+#[derive(Clone, Copy)]
 pub struct Line {
     pub length: usize,
     pub then: Listing,

@@ -8,7 +8,7 @@ ghost use Rattle.lockstep.specs.Span.{Lent, Walked, span_walk};
 use tokens::same::same_node;
 use tokens::token::{size, tag};
 
-#[derive(Drop)]
+#[derive(Clone, Copy)]
 pub enum Shapes {
     // A shape disagrees.
     Disagree,
@@ -18,7 +18,7 @@ pub enum Shapes {
 
 // The nodes of the patterns that are walked, and the expressions' node that the first of them is across from; d and e are the
 // binder depths from which the keys of the two are seen.
-#[derive(Drop)]
+#[derive(Clone, Copy)]
 pub struct Span {
     pub from: usize,
     pub to: usize,

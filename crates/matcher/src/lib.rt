@@ -21,14 +21,14 @@ pub struct OpenSearch {
 }
 
 // What a call on an open search answers, and the row of a Found beside it; no other answer's row means anything.
-#[derive(Drop)]
+#[derive(Clone, Copy)]
 pub struct Reply {
     pub answer: Answer,
     pub row: [NodeSet; Place::MAX_FUNCTIONS],
 }
 
 // The open search as a call leaves it, and what the call answers.
-#[derive(Drop)]
+#[derive(Clone, Copy)]
 pub struct Moved {
     pub search: OpenSearch,
     pub reply: Reply,

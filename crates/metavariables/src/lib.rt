@@ -14,7 +14,7 @@ pub const METAVARIABLES: u32 = 32;
 pub const MAX_FUNCTIONS: usize = 8;
 
 // Metavariable m is bit m.
-#[derive(Drop)]
+#[derive(Clone, Copy)]
 pub struct Occurring {
     pub functions: u32,
     pub plain: u32,

@@ -25,7 +25,7 @@ const HEAVY: u64 = 281474976710656;
 
 // Of a node: the level of the innermost binder outside that it uses, or 0, the binder itself (counted from 1, or 0), and a hash of its
 // subterm and of that binder.
-#[derive(Drop)]
+#[derive(Clone, Copy)]
 pub struct Node {
     pub level: u64,
     pub binder: u64,
@@ -113,8 +113,8 @@ fn innermost(xs: &[u64], d: u64) -> u64
 
 // The same of the subterm at node k, whose sum is known: where no variable is bound there is nothing to look for.
 fn level_at(t: &[u64], k: usize, sum: u64) -> u64
-    requires fact_1 { Inside t.now k }
-    requires fact_2 { sum ≡ sum_of_keys (keys_at t.now k) }
+    requires inside { Inside t.now k }
+    requires summed { sum ≡ sum_of_keys (keys_at t.now k) }
     ensures { result ≡ level_at t.now k }
 {
     if sum < HEAVY {
@@ -138,9 +138,9 @@ fn binder_at(last: &[u64], level: u64) -> u64
 
 // What is known of node k before it is looked for.
 fn node_at(t: &[u64], k: usize, last: &[u64], sums: &[u64]) -> Node
-    requires fact_1 { Inside t.now k }
-    requires fact_2 { Lasts t.now k last.now }
-    requires fact_3 { Summed t.now k sums.now }
+    requires inside { Inside t.now k }
+    requires lasts { Lasts t.now k last.now }
+    requires summed { Summed t.now k sums.now }
     ensures { Known t.now k result }
 {
     let end = k + size(t[k]) as usize;
@@ -171,8 +171,8 @@ fn is_alike(t: &[u64], i: usize, k: usize, link: u64, label: u64) -> bool
 // The latest node before k that is alike, or k itself where there is none: along the links of the bucket, each of which leads to an earlier
 // node.
 fn find(t: &[u64], k: usize, links: &[u64], from: u64, label: u64) -> usize
-    requires fact_1 { Numerable t.now × (k < length t.now) × (k ≤ length links.now) }
-    requires fact_2 { Linked t.now k links.now × Points t.now (bucket_at t.now k) k from × (label ≡ label_at t.now k) }
+    requires node { Numerable t.now × (k < length t.now) × (k ≤ length links.now) }
+    requires bucket { Linked t.now k links.now × Points t.now (bucket_at t.now k) k from × (label ≡ label_at t.now k) }
     ensures { Sought t.now k result }
 {
     let mut at = from;
@@ -196,8 +196,8 @@ fn number_next(
     links: &mut [u64],
     ns: &mut [u64],
 )
-    requires fact_1 { Numerable t.now × (k < length t.now) × Known t.now k node }
-    requires fact_2 { Passed t.now k heads.old links.old ns.old }
+    requires node { Numerable t.now × (k < length t.now) × Known t.now k node }
+    requires passed { Passed t.now k heads.old links.old ns.old }
     ensures { Passed t.now (k + 1) heads.new links.new ns.new }
 {
     let label = node.binder + 65536 * node.hash;

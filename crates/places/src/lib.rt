@@ -15,14 +15,14 @@ use prepare::prepare;
 use rows::{first_row, is_row};
 use table::TABLE_ROOM;
 
-#[derive(Drop)]
+#[derive(Clone, Copy)]
 pub struct Place {
     pub sets: [NodeSet; Place::MAX_FUNCTIONS],
     pub past: bool,
 }
 
 // What a value names.
-#[derive(Drop)]
+#[derive(Clone, Copy)]
 pub enum Named {
     Row,
     Past,
@@ -32,13 +32,13 @@ pub enum Named {
 
 // Where the search of a problem begins, or why it is refused. The place stands beside the answer since it holds an array; of a refused
 // problem it means nothing.
-#[derive(Drop)]
+#[derive(Clone, Copy)]
 pub enum Start {
     Refused(u8),
     Begins,
 }
 
-#[derive(Drop)]
+#[derive(Clone, Copy)]
 pub struct Started {
     pub answer: Start,
     pub place: Place,

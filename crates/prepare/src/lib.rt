@@ -19,7 +19,7 @@ use table::TABLE_ROOM;
 
 // The verdict on the problem, and the nodes of its functions' faces; of a problem that is refused or has no rows there are none. They
 // stand beside the verdict since they are an array.
-#[derive(Drop)]
+#[derive(Clone, Copy)]
 pub struct Prepared {
     pub verdict: Verdict,
     pub firsts: Firsts,
@@ -56,8 +56,8 @@ fn number_nodes(es: &[u64], ns: &mut [u64])
 
 // An accepted problem: its numbers, and the nodes of its functions' faces.
 fn with_numbers(a: Standing, ps: &[u64], es: &[u64], ns: &mut [u64], fs: &[u64]) -> Prepared
-    requires fact_1 { Ground ps.now es.now fs.now a }
-    requires fact_2 { table_room ≤ length ns.old }
+    requires ground { Ground ps.now es.now fs.now a }
+    requires room { table_room ≤ length ns.old }
     ensures { Tabling ps.now es.now ns.new fs.now a result }
 {
     let p = a.patterns;
@@ -81,8 +81,8 @@ pub fn prepare(
     ns: &mut [u64],
     fs: &mut [u64],
 ) -> Prepared
-    requires fact_1 { Rooms ps.old es.old fs.old }
-    requires fact_2 { table_room ≤ length ns.old }
+    requires rooms { Rooms ps.old es.old fs.old }
+    requires room { table_room ≤ length ns.old }
     ensures { Prepares (accept problem.now) ps.new es.new ns.new fs.new result }
 {
     let verdict = accept(problem, ps, es, fs);

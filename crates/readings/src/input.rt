@@ -3,7 +3,7 @@ ghost use Rattle.readings.specs.Input.{Within};
 
 use libc::STDIN_FILENO;
 
-#[derive(Drop)]
+#[derive(Clone, Copy)]
 pub enum Input {
     // So many bytes at the front of the buffer.
     Read(usize),

@@ -18,7 +18,7 @@ use masks::NodeSet;
 pub const MAX_FUNCTIONS: usize = metavariables::MAX_FUNCTIONS;
 
 // Whether there is a row after another, and that row; where there is none it means nothing.
-#[derive(Drop)]
+#[derive(Clone, Copy)]
 pub struct Stepped {
     pub row: [NodeSet; MAX_FUNCTIONS],
     pub more: bool,
@@ -26,8 +26,8 @@ pub struct Stepped {
 
 // Whether the set, whatever it is, is a choice of function k. One that is not there has the empty choice.
 fn is_choice_of(es: &[u64], ns: &[u64], firsts: Firsts, k: usize, set: NodeSet) -> bool
-    requires fact_1 { Faced es.now ns.now firsts }
-    requires fact_2 { k < max_functions }
+    requires faced { Faced es.now ns.now firsts }
+    requires function { k < max_functions }
     ensures { (result ≡ true) ↔ (mask set ∈ choices_of es.now ns.now firsts k) }
 {
     if k < firsts.count {
@@ -39,8 +39,8 @@ fn is_choice_of(es: &[u64], ns: &[u64], firsts: Firsts, k: usize, set: NodeSet) 
 
 // The first choice of function k.
 fn first_of(es: &[u64], ns: &[u64], firsts: Firsts, k: usize) -> NodeSet
-    requires fact_1 { Faced es.now ns.now firsts }
-    requires fact_2 { k < max_functions }
+    requires faced { Faced es.now ns.now firsts }
+    requires function { k < max_functions }
     ensures { mask result ≡ first_at ns.now es.now firsts.nodes firsts.count k }
 {
     if k < firsts.count {
@@ -52,10 +52,10 @@ fn first_of(es: &[u64], ns: &[u64], firsts: Firsts, k: usize) -> NodeSet
 
 // The choice of function k after another that has a node, so that the function is there.
 pub fn next_of(es: &[u64], ns: &[u64], firsts: Firsts, k: usize, set: NodeSet) -> NodeSet
-    requires fact_1 { Faced es.now ns.now firsts }
-    requires fact_2 { k < max_functions }
-    requires fact_3 { mask set ∈ choices_of es.now ns.now firsts k }
-    requires fact_4 { 0 < mask set }
+    requires faced { Faced es.now ns.now firsts }
+    requires function { k < max_functions }
+    requires choice { mask set ∈ choices_of es.now ns.now firsts k }
+    requires more { 0 < mask set }
     ensures { Next (choices_of es.now ns.now firsts k) (mask set) (mask result) }
 {
     let nodes = firsts.nodes;
@@ -128,8 +128,8 @@ pub fn begin_again(
     k: usize,
     row: [NodeSet; MAX_FUNCTIONS],
 ) -> [NodeSet; MAX_FUNCTIONS]
-    requires fact_1 { k ≤ firsts.count }
-    requires fact_2 { firsts.count ≤ max_functions }
+    requires there { k ≤ firsts.count }
+    requires few { firsts.count ≤ max_functions }
     ensures { masks_in result ≡ begun firsts.count (masks_in first) k (masks_in row) }
 {
     let mut next = row;
@@ -149,9 +149,9 @@ pub fn next_row(
     first: [NodeSet; MAX_FUNCTIONS],
     row: [NodeSet; MAX_FUNCTIONS],
 ) -> Stepped
-    requires fact_1 { Faced es.now ns.now firsts }
-    requires fact_2 { masks_in row ∈ rows_of es.now ns.now firsts }
-    requires fact_3 { place_of (rows_of es.now ns.now firsts) ≡ at (masks_in first) }
+    requires faced { Faced es.now ns.now firsts }
+    requires row { masks_in row ∈ rows_of es.now ns.now firsts }
+    requires first_row { place_of (rows_of es.now ns.now firsts) ≡ at (masks_in first) }
     ensures { StepsFrom es.now ns.now firsts (masks_in row) result.more (masks_in result.row) }
 {
     let k = stepping(firsts, row);

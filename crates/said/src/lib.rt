@@ -6,7 +6,7 @@ ghost use Rattle.said.specs.Said.{SaidBy};
 
 use metavariables::METAVARIABLES;
 
-#[derive(Drop)]
+#[derive(Clone, Copy)]
 pub struct Said {
     // The tag of a metavariable's field, "8 (value), 9 (body), 11 (open)", or 0 where the text has none.
     pub tags: [u8; METAVARIABLES as usize],

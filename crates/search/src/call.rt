@@ -34,8 +34,8 @@ fn from_row(
     fs: &[u64],
     scratch: &mut [u64],
 ) -> Searched
-    requires fact_1 { Callable ps.now es.now ns.now fs.now a firsts scratch.old }
-    requires fact_2 { RowThere es.now ns.now a firsts place }
+    requires callable { Callable ps.now es.now ns.now fs.now a firsts scratch.old }
+    requires row_there { RowThere es.now ns.now a firsts place }
     ensures { Sought ps.now es.now ns.now fs.now a firsts (masks_in place.sets) n result }
 {
     let p = a.patterns;

@@ -12,14 +12,14 @@ use places::Place;
 use rows::{begin_again, last_function, next_of, next_row, stepping};
 
 // What stays the same from row to row: the set of functions, the nodes of their faces, and the first row, which `begin_again` is lent.
-#[derive(Drop)]
+#[derive(Clone, Copy)]
 pub struct Fixed {
     pub first: [NodeSet; Place::MAX_FUNCTIONS],
     pub firsts: Firsts,
     pub functions: u32,
 }
 
-#[derive(Drop)]
+#[derive(Clone, Copy)]
 pub enum Answer {
     // "15 n is 0; 16 no such place", and 1 to 14, 25
     Refused(u8),
@@ -29,7 +29,7 @@ pub enum Answer {
 }
 
 // The answer, with the place that the call leaves, and the row of a Found beside it; no other answer's row means anything.
-#[derive(Drop)]
+#[derive(Clone, Copy)]
 pub struct Searched {
     pub row: [NodeSet; Place::MAX_FUNCTIONS],
     pub place: Place,

@@ -13,7 +13,7 @@ use fields::number::Variable;
 use tokens::token::{pair, token};
 
 // The bound names of the binders around a place, outermost first; the entries past `depth` are not used.
-#[derive(Drop)]
+#[derive(Clone, Copy)]
 pub struct Scope {
     pub names: [u16; MAX_DEPTH],
     pub depth: usize,
@@ -76,7 +76,7 @@ impl Scope {
     }
 }
 
-#[derive(Drop)]
+#[derive(Clone, Copy)]
 pub struct Site {
     pub context: Context,
     pub levels: usize,

@@ -15,13 +15,13 @@ use tokens::token::{payload, tag};
 pub const OPEN: usize = 65536;
 
 // For each metavariable the node that its value is copied from, or OPEN.
-#[derive(Drop)]
+#[derive(Clone, Copy)]
 pub struct Sources {
     pub nodes: [usize; METAVARIABLES as usize],
 }
 
 // Whether the demands agree; where they do not, the nodes are of no use.
-#[derive(Drop)]
+#[derive(Clone, Copy)]
 pub struct Agreed {
     pub ok: bool,
     pub sources: Sources,

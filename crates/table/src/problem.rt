@@ -10,7 +10,7 @@ use fields::field::{Parts, parts_of};
 use terms::term::{Term, read_expression, read_pattern};
 
 // A constraint's head: the length of its content, or 2, 3, 4, 11.
-#[derive(Drop)]
+#[derive(Clone, Copy)]
 enum Top {
     Content(usize),
     Refused(u8),
@@ -35,7 +35,7 @@ fn constraint_head(s: &[u8], left: usize) -> Top
     }
 }
 
-#[derive(Drop)]
+#[derive(Clone, Copy)]
 enum Pair {
     // The nodes of the pattern, and of the expression.
     Read(usize, usize),

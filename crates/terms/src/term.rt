@@ -11,14 +11,14 @@ use fields::node::{Due, Node, Opened, open_term};
 use sites::site::Site;
 
 // What reading a term answers: document 01's refusal by its number, or counts of what stands in the table.
-#[derive(Drop)]
+#[derive(Clone, Copy)]
 pub enum Term {
     // The bytes that the term takes, and its nodes.
     Took(usize, usize),
     Refused(u8),
 }
 
-#[derive(Drop)]
+#[derive(Clone, Copy)]
 enum Fields {
     // The nodes of all the fields, and how many fields.
     Read(usize, usize),
@@ -26,7 +26,7 @@ enum Fields {
 }
 
 // What is to be done where so many bytes are left.
-#[derive(Drop)]
+#[derive(Clone, Copy)]
 enum Next {
     Done,
     Refused(u8),

@@ -6,7 +6,7 @@ ghost use Rattle.tokens.specs.Key.{agree_under, compared_by, compared_across};
 use crate::token::{depth, payload, size, tag};
 
 // What a comparison answers: whether the two are equal, and how many pairs of nodes it compared.
-#[derive(Drop)]
+#[derive(Clone, Copy)]
 pub struct Compared {
     pub equal: bool,
     pub pairs: usize,
@@ -24,11 +24,11 @@ fn index(depth: u64, level: u64) -> u64
 
 // The key of a variable that is free, bound inside a root at depth d, or bound outside it.
 fn key_of_variable(d: u64, depth: u64, name: u64, level: u64) -> u64
-    requires fact_1 { depth < 256 }
-    requires fact_2 { name < 65536 }
-    requires fact_3 { level < 65536 }
-    ensures fact_1 { result ≡ key_of_variable d depth name level }
-    ensures fact_2 { result < 4294967296 }
+    requires depth_small { depth < 256 }
+    requires name_small { name < 65536 }
+    requires level_small { level < 65536 }
+    ensures key { result ≡ key_of_variable d depth name level }
+    ensures small { result < 4294967296 }
 {
     if level == 0 {
         return 4 * name;
@@ -41,10 +41,10 @@ fn key_of_variable(d: u64, depth: u64, name: u64, level: u64) -> u64
 
 // What counts of a payload: of a variable as above, of a binder all but its bound name, else the whole.
 fn key_of_payload(d: u64, tag: u64, depth: u64, load: u64) -> u64
-    requires fact_1 { depth < 256 }
-    requires fact_2 { load < 4294967296 }
-    ensures fact_1 { result ≡ key_of_payload d tag depth load }
-    ensures fact_2 { result < 4294967296 }
+    requires depth_small { depth < 256 }
+    requires load_small { load < 4294967296 }
+    ensures key { result ≡ key_of_payload d tag depth load }
+    ensures small { result < 4294967296 }
 {
     if tag == 2 {
         return key_of_variable(d, depth, load % 65536, load / 65536);
@@ -125,8 +125,8 @@ fn compare_nodes(xs: &[u64], d: u64, ys: &[u64], e: u64, s: u64) -> Compared
 // The subterms at node a of one table and at node b of another compared up to bound names, where s binders lie above both nodes: a variable
 // bound outside counts by its level, which is the same binder for both only where it is one of these.
 pub fn compare_across(t: &[u64], a: usize, u: &[u64], b: usize, s: u64) -> Compared
-    requires fact_1 { Inside t.now a }
-    requires fact_2 { Inside u.now b }
+    requires first_in { Inside t.now a }
+    requires second_in { Inside u.now b }
     ensures { result ≡ compared_across t.now a u.now b s }
 {
     let x = t[a];
@@ -138,8 +138,8 @@ pub fn compare_across(t: &[u64], a: usize, u: &[u64], b: usize, s: u64) -> Compa
 
 // Whether the two are equal, for one who knows that each binder outside them that they use lies above both: all are shared.
 pub fn same_across(t: &[u64], a: usize, u: &[u64], b: usize) -> bool
-    requires fact_1 { Inside t.now a }
-    requires fact_2 { Inside u.now b }
+    requires first_in { Inside t.now a }
+    requires second_in { Inside u.now b }
     ensures { result ≡ same_across t.now a u.now b }
 {
     let compared = compare_across(t, a, u, b, depth(t[a]));
