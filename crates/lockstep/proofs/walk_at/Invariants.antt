@@ -1,0 +1,17 @@
+-- `walk_at` meets its contract. The loop's invariant: the faces found so far and the walk of what is left make up the whole walk.
+-- The measure is the number of tokens left of the pattern.
+use mathlib.Core.Path.{sym, ◌∙◌}
+use Prim.Native.Nat.{◌-◌}
+use native.Mathlib.Omega.{arith}
+use borrow.Author.Tests.{not-true, not-false}
+use Rattle.lockstep.proofs.SpanLaws.{Walking, left_out, left_differs, walking_start, walking_same, walking_face, walked_disagree}
+use Rattle.lockstep.proofs.SpanLaws.{walked_end}
+use borrow.Author.Rules.{rules}
+use Rattle.lockstep.proofs.walk_at.Given as goal
+
+abbrev pub invariant-loop-i : goal.invariant-loop-i
+invariant-loop-i l =
+    Walking l.ps l.es l.initial.out l.out (record { from = l.initial.i; to = l.«to»; at = l.initial.j; d = l.d; e = l.e }) l.i l.j l.n
+
+abbrev pub decreases-loop-i : goal.decreases-loop-i
+decreases-loop-i l = l.«to» - l.i

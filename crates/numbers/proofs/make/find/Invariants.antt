@@ -1,0 +1,13 @@
+-- `make::find` meets its contract. The loop's invariant: no node past `at` is alike, and `at` is in the bucket; the measure is `at`.
+use mathlib.Core.Path.{◌≡◌, sym, ◌∙◌, subst}
+use Prim.Native.Nat.{◌-◌, ◌<◌}
+use native.Mathlib.Omega.{arith}
+use Rattle.numbers.proofs.Buckets.{Looking, looking_begins, looking_on, looking_found, looking_ends}
+use borrow.Author.Rules.{rules}
+use Rattle.numbers.proofs.make.find.Given as goal
+
+abbrev pub invariant-loop-at : goal.invariant-loop-at
+invariant-loop-at l = Looking l.t l.k l.at
+
+abbrev pub decreases-loop-at : goal.decreases-loop-at
+decreases-loop-at l = l.at

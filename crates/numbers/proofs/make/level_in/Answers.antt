@@ -1,0 +1,14 @@
+-- `make::level_in` meets its contract.
+use mathlib.Core.Path.{sym, ap, ◌∙◌}
+use Prim.Native.Nat.{ℕ, ◌/◌}
+use Rattle.numbers.proofs.KeyLevels.{reached_level, unreached_level}
+use borrow.Author.Rules.{rules}
+use Rattle.numbers.proofs.make.level_in.Goals as goal
+
+pub returns-then-reaches : goal.returns-then-reaches
+returns-then-reaches c =
+    ap (λ (p : ℕ). p / 65536) c.payload.ensures
+    ∙ reached_level c.args.d c.args.x (sym c.reaches.ensures ∙ c.if-reaches.true)
+
+pub returns : goal.returns
+returns c = unreached_level c.args.d c.args.x (sym c.reaches.ensures ∙ c.if-reaches.false)
