@@ -1,0 +1,8 @@
+-- `read_body` meets its contract: `read_term` where no term encloses it.
+use borrow.Author.Rules.{rules}
+use Rattle.terms.proofs.term.read_body.Goals as goal
+
+pub returns : goal.returns
+returns c =
+    let top = c.top.ensures in
+    rw (top.levels, top.context, top.names) at c.read_term.ensures
