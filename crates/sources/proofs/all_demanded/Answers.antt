@@ -16,23 +16,23 @@ pub demanded_at-next-requires : goal.demanded_at-next-requires
 demanded_at-next-requires c =
     (
       c.loop-k.invariant.nodes,
-      going_reads c.args.ps.now c.args.ns.now c.args.faces.now _ c.loop-k.k ?
+      going_reads c.args.ps.now c.args.ns.now c.args.faces.now _ c.loop-k.k c.loop-k.kept.nodes
           c.loop-k.invariant c.loop-k-test.true,
     )
 
 pub returns-then-not-next : goal.returns-then-not-next
 returns-then-not-next c =
     let n = c.demanded_at-next in
-    going_fails c.args.ps.now c.args.ns.now c.args.faces.now _ c.loop-k.k ? c.loop-k.invariant
+    going_fails c.args.ps.now c.args.ns.now c.args.faces.now _ c.loop-k.k c.loop-k.kept.nodes c.loop-k.invariant
     c.loop-k-test.true n.result n.ensures c.if-not-next.true
 
 pub loop-k-preserved : goal.loop-k-preserved
 loop-k-preserved c =
     let n = c.demanded_at-next in
-    going_on c.args.ps.now c.args.ns.now c.args.faces.now _ c.loop-k.k ? c.loop-k.invariant
+    going_on c.args.ps.now c.args.ns.now c.args.faces.now _ c.loop-k.k c.loop-k.kept.nodes c.loop-k.invariant
     c.loop-k-test.true n.result n.ensures c.if-not-next.false
 
 pub returns : goal.returns
 returns c =
-    going_ends c.args.ps.now c.args.ns.now c.args.faces.now _ c.loop-k.k ? c.loop-k.invariant
+    going_ends c.args.ps.now c.args.ns.now c.args.faces.now _ c.loop-k.k c.loop-k.kept.nodes c.loop-k.invariant
     c.loop-k-test.false
