@@ -41,7 +41,7 @@ returns-then-not-hole_fits c =
     hole_stops c.loop-i.invariant
     c.loop-i-test.true (omega arith)
     (sym c.has.ensures ∙ c.if-has.true)
-    (sym c.hole_fits.ensures ∙ not-true _ c.if-not-hole_fits.true-raw)
+    (sym c.hole_fits.ensures ∙ c.if-not-hole_fits.true)
 
 pub loop-i-smaller-then-has : goal.loop-i-smaller-then-has
 loop-i-smaller-then-has c =
@@ -59,21 +59,21 @@ loop-i-preserved-then-has c =
     hole_goes_on l.invariant c.loop-i-test.true (omega arith)
     (sym c.has.ensures ∙ c.if-has.true)
     c.size.result c.size-then-has.result c.size.ensures c.size-then-has.ensures
-    (sym c.hole_fits.ensures ∙ not-false _ c.if-not-hole_fits.false-raw)
+    (sym c.hole_fits.ensures ∙ c.if-not-hole_fits.false)
 
 pub returns-then-not-same_node : goal.returns-then-not-same_node
 returns-then-not-same_node c =
     node_stops c.loop-i.invariant
     c.loop-i-test.true (omega arith)
     (sym c.has.ensures ∙ c.if-has.false)
-    (sym c.same_node.ensures ∙ not-true _ c.if-not-same_node.true-raw)
+    (sym c.same_node.ensures ∙ c.if-not-same_node.true)
 
 pub loop-i-preserved : goal.loop-i-preserved
 loop-i-preserved c =
     node_goes_on c.loop-i.invariant
     c.loop-i-test.true (omega arith)
     (sym c.has.ensures ∙ c.if-has.false)
-    (sym c.same_node.ensures ∙ not-false _ c.if-not-same_node.false-raw)
+    (sym c.same_node.ensures ∙ c.if-not-same_node.false)
 
 pub returns : goal.returns
 returns c = suits_ends c.loop-i.invariant c.loop-i-test.false

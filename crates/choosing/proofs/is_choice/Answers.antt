@@ -30,7 +30,7 @@ returns-then-not-opens c =
     let size = c.size-n.ensures in
     let refused =
     tested_refused ns es root fits c.args.set at.walk at.met at.i (omega (arith, size)) (at.invariant.2 fits)
-    (sym c.has.ensures ∙ c.if-has.true) (sym c.opens.ensures ∙ not-true _ c.if-not-opens.true-raw) in
+    (sym c.has.ensures ∙ c.if-has.true) (sym c.opens.ensures ∙ c.if-not-opens.true) in
     (λ e. absurd (false≢true e), λ m. absurd (refused m))
 
 pub holed-walk-requires : goal.holed-walk-requires
@@ -53,7 +53,7 @@ loop-i-preserved-then-has c =
       λ fits. subst₂ (Tested ns es root fits c.args.set _) more one
           (tested_hole ns es root fits c.args.set at.walk at.met at.i (omega (arith, size)) (at.invariant.2 fits)
           (sym c.has.ensures ∙ c.if-has.true) _
-          (sym c.opens.ensures ∙ not-false _ c.if-not-opens.false-raw) c.holed-walk.ensures),
+          (sym c.opens.ensures ∙ c.if-not-opens.false) c.holed-walk.ensures),
     )
 
 pub loop-i-preserved : goal.loop-i-preserved

@@ -26,7 +26,7 @@ returns-then-not-body_closed c =
     (omega (arith, c.requires.fits.array, c.requires.fits.count))
     (omega (arith, c.requires.masks, c.requires.fits.count)) c.loop-k-test.true
     (ap not (sym (read_mask c.args.es.now c.args.firsts.nodes c.args.row c.loop-k.k c.body_closed.ensures))
-    ∙ c.if-not-body_closed.true-raw) ∙ c.loop-k.invariant
+    ∙ ap not c.if-not-body_closed.true) ∙ c.loop-k.invariant
 
 pub loop-k-preserved : goal.loop-k-preserved
 unfolding max_functions
@@ -35,7 +35,7 @@ loop-k-preserved c =
     (omega (arith, c.requires.fits.array, c.requires.fits.count))
     (omega (arith, c.requires.masks, c.requires.fits.count)) c.loop-k-test.true
     (ap not (sym (read_mask c.args.es.now c.args.firsts.nodes c.args.row c.loop-k.k c.body_closed.ensures))
-    ∙ c.if-not-body_closed.false-raw) ∙ c.loop-k.invariant
+    ∙ ap not c.if-not-body_closed.false) ∙ c.loop-k.invariant
 
 pub returns : goal.returns
 unfolding max_functions

@@ -10,14 +10,14 @@ pub returns-then-not-bodies_closed : goal.returns-then-not-bodies_closed
 returns-then-not-bodies_closed c =
     let a = c.args in
     judges_open a.ps.now a.es.now a.ns.now a.faces.now a.functions a.firsts (masks_in a.row)
-    (ap not (sym c.bodies_closed.ensures) ∙ c.if-not-bodies_closed.true-raw) _
+    (ap not (sym c.bodies_closed.ensures) ∙ ap not c.if-not-bodies_closed.true) _
 
 pub all_faces-end-requires : goal.all_faces-end-requires
 all_faces-end-requires c =
     let a = c.args in (
       c.requires,
       closed_all a.ps.now a.es.now a.ns.now a.faces.now a.functions a.firsts (masks_in a.row)
-          (ap not (sym c.bodies_closed.ensures) ∙ c.if-not-bodies_closed.false-raw),
+          (ap not (sym c.bodies_closed.ensures) ∙ ap not c.if-not-bodies_closed.false),
     )
 
 pub returns : goal.returns
@@ -27,4 +27,4 @@ returns c =
     judges_closed a.ps.now a.es.now a.ns.now a.faces.now a.functions a.firsts (masks_in a.row)
     (closed_all a.ps.now a.es.now a.ns.now a.faces.now a.functions a.firsts (masks_in a.row)
     (ap not (sym c.bodies_closed.ensures)
-    ∙ c.if-not-bodies_closed.false-raw)) r.result r.ensures
+    ∙ ap not c.if-not-bodies_closed.false)) r.result r.ensures

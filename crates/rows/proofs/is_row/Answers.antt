@@ -41,7 +41,7 @@ returns-then-not-is_choice_of c =
           (c.is_choice_of.ensures.1
           (subst (λ (x : ℕ). x ∈ choices_of es ns firsts at.k) (sym (masks_at c.args.row at.k))
           (row_choice es ns firsts c.args.row m at.k (omega arith))))
-          ∙ not-true _ c.if-not-is_choice_of.true-raw)),
+          ∙ c.if-not-is_choice_of.true)),
     )
 
 pub loop-k-smaller : goal.loop-k-smaller
@@ -58,7 +58,7 @@ loop-k-preserved c =
       omega arith,
       below_more _ _ at.invariant.1
           (subst (λ (x : ℕ). x ∈ choices_of es ns firsts at.k) (masks_at c.args.row at.k)
-          (c.is_choice_of.ensures.0 (not-false _ c.if-not-is_choice_of.false-raw))),
+          (c.is_choice_of.ensures.0 c.if-not-is_choice_of.false)),
     )
 
 pub returns : goal.returns

@@ -30,7 +30,7 @@ returns-then-not-is_empty c =
     let here = masks_at c.args.row (at.k - 1) in
     record {
       few = at.invariant.0;
-      moves = λ h. subst (λ (m : ℕ). 0 < m) here (above_zero _ (sym c.is_empty.ensures ∙ not-true _ c.if-not-is_empty.true-raw));
+      moves = λ h. subst (λ (m : ℕ). 0 < m) here (above_zero _ (sym c.is_empty.ensures ∙ c.if-not-is_empty.true));
       passed = at.invariant.1;
     }
 
@@ -39,7 +39,7 @@ loop-k-preserved c =
     let at = c.loop-k in
     let row = c.args.row in
     let none : get_or (masks_in row) (at.k - 1) 0 ≡ 0 =
-    sym (masks_at row (at.k - 1)) ∙ eqb-true _ 0 (sym c.is_empty.ensures ∙ not-false _ c.if-not-is_empty.false-raw) in (
+    sym (masks_at row (at.k - 1)) ∙ eqb-true _ 0 (sym c.is_empty.ensures ∙ c.if-not-is_empty.false) in (
       omega arith,
       λ j l h. ⊎_elim (λ (e : at.k - 1 ≡ j). subst (λ (i : ℕ). get_or (masks_in row) i 0 ≡ 0) e none)
           (λ (g : at.k - 1 < j). at.invariant.1 j (omega arith) h) (eq-or-lt_of_le l),
