@@ -1,0 +1,15 @@
+-- `fill`. The loop's invariant: the nodes before node i are as the first path has them.
+use borrow.Author.Rules.{rules}
+use mathlib.Core.Path.{◌≡◌, sym, ◌∙◌, subst}
+use native.Mathlib.Omega.{arith}
+use Prim.Native.Nat.{suc, ◌+◌, ◌-◌, ◌≤◌, ◌<◌}
+use Rattle.choosing.specs.FaceNodes.{size_from}
+use Rattle.choosing.proofs.FillLaws.{Filling, filling_begun, filling_opened, filling_passed, filling_done}
+use Rattle.choosing.proofs.fill.Given as goal
+
+abbrev pub invariant-loop-i : goal.invariant-loop-i
+invariant-loop-i l =
+    (l.from ≤ l.i) × (l.i ≤ l.n) × Filling l.ns l.es l.root l.initial.filled l.initial.at l.from l.filled l.at l.i
+
+abbrev pub decreases-loop-i : goal.decreases-loop-i
+decreases-loop-i l = l.n - l.i

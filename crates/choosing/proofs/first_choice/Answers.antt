@@ -1,0 +1,9 @@
+-- `first_choice`: filling from the first node on.
+use borrow.Author.Rules.{rules}
+use Rattle.choosing.proofs.FillLaws.{first_is}
+use Rattle.choosing.proofs.first_choice.Goals as goal
+
+pub returns : goal.returns
+returns c =
+    let s = c.args in
+    first_is s.ns.now s.es.now s.root _ _ _ c.none.ensures c.begun.ensures c.fill.ensures
