@@ -90,9 +90,9 @@ copied_choice ms t few places =
 pub node_in : {es : List ℕ} {node to n : ℕ} {u : Forest Named} {t : NamedTerm} → Stands n u t → Spans es node to u
     → (m : ℕ) → m ≡ node + n → TermIn es m t
 node_in {es} {node} {t} here h m e = let same : m ≡ node = omega arith in subst (λ (k : ℕ). TermIn es k t) (sym same) (span_first h)
-node_in {es} {node} (below g) h m e = node_in g (term_below (span_first h) (size_in (at es node)) refl) m (omega arith)
+node_in {es} {node} (below g) h m e = node_in {node = node + 1} g (term_below (span_first h) (size_in (at es node)) refl) m (omega arith)
 node_in {es} {node} (beside g d) h m e =
-    node_in g (span_later h (size_in (at es node)) refl) m (omega (arith, term_size (span_first h)))
+    node_in {node = node + size_in (at es node)} g (span_later h (size_in (at es node)) refl) m (omega (arith, term_size (span_first h)))
 
 -- and so does each term of a problem's expressions
 pub expression_in : (p : Problem) → WithinLimits p → (n : ℕ) (t : NamedTerm) → node_at n (named_expressions p) ≡ some t

@@ -1,0 +1,9 @@
+-- `body_of` meets its contract.
+-- src/entry.rt:39:17
+use borrow.Author.Rules.{rules}
+use Rattle.composing.proofs.EntryLaws.{body_returned}
+use Rattle.composing.proofs.entry.body_of.Goals as goal
+
+-- src/entry.rt:33:1
+pub returns : goal.returns
+returns c = body_returned _ _

@@ -1,0 +1,15 @@
+-- `text_length` meets its contract. The loop's invariant: what is counted and the fields left make up the whole. The measure is the number
+-- of metavariables left.
+use Prim.Native.Nat.{◌-◌, ◌≤◌}
+use native.Mathlib.Omega.{arith}
+use Rattle.meaning.specs.Limits.{metavariable_count}
+use Rattle.composing.proofs.TextLaws.{Counting, counting_begins, counting_ends, counting_goes_on, entry_at_there}
+use Rattle.composing.proofs.TextLaws.{entry_measured, sum_small}
+use borrow.Author.Rules.{rules}
+use Rattle.composing.proofs.text.text_length.Given as goal
+
+abbrev pub invariant-loop-m : goal.invariant-loop-m
+invariant-loop-m l = (l.m ≤ 32) × Counting l.es l.plan l.m l.n
+
+abbrev pub decreases-loop-m : goal.decreases-loop-m
+decreases-loop-m l = 32 - l.m

@@ -1,0 +1,9 @@
+-- `known` meets its contract.
+use Rattle.entries.proofs.FieldLaws.{known_returns}
+use borrow.Author.Rules.{rules}
+use Rattle.entries.proofs.known.Goals as goal
+
+pub returns : goal.returns
+returns c =
+    let a = c.args in
+    known_returns a.said a.occurring c.having.result c.within.result c.having.ensures c.within.ensures

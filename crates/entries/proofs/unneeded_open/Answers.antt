@@ -1,0 +1,10 @@
+-- `unneeded_open` meets its contract.
+use Rattle.entries.proofs.FieldLaws.{unneeded_returns}
+use borrow.Author.Rules.{rules}
+use Rattle.entries.proofs.unneeded_open.Goals as goal
+
+pub returns : goal.returns
+returns c =
+    let a = c.args in
+    unneeded_returns a.said a.needed c.having.result c.having.ensures a.plain c.within.result
+    c.within.ensures

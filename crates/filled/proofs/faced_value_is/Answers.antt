@@ -1,0 +1,15 @@
+-- `faced_value_is` meets its contract: the number is the slot's payload.
+use borrow.Author.Rules.{rules}
+use Rattle.filled.proofs.CodeLaws.{faced_asks, faced_answer}
+use Rattle.filled.proofs.faced_value_is.Goals as goal
+
+pub value_is-requires : goal.value_is-requires
+value_is-requires c =
+    let a = c.args in
+    faced_asks a.ps.now a.es.now a.ts.now a.said a.face c.payload.result c.payload.ensures c.requires
+
+pub returns : goal.returns
+returns c =
+    let a = c.args in
+    faced_answer a.ps.now a.es.now a.ts.now a.said a.face c.payload.result c.payload.ensures
+    c.value_is.result c.value_is.ensures
