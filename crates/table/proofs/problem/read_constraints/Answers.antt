@@ -1,5 +1,5 @@
 -- `read_constraints` meets its contract.
-use Rattle.std.proofs.Common.{◌≡◌, ◌<◌, ◌≤◌, ◌+◌, ◌-◌, ◌^◌, ℕ, List, length, take, drop, subst, arith}
+use Rattle.std.proofs.Common.{rules, ◌≡◌, ◌<◌, ◌≤◌, ◌+◌, ◌-◌, ◌^◌, ℕ, List, length, take, drop, subst, arith}
 use Rattle.meaning.specs.Basics.{Bytes}
 use Rattle.meaning.specs.Limits.{max_constraints}
 use Rattle.meaning.specs.Read.{read_pair}
