@@ -28,15 +28,15 @@ enum-told-3 c = search rules
 
 write-row-requires : tie.Need-write-row-requires
 write-row-requires c κs =
-    let Named-by = c.before.before.before.before in
-    let start = Named-by.before.before.before.before.before.before.before.before.before in
-    named_callable _ Named-by.Named-by.ensures c.before.before.enum-told3.given.1 start.requires
+    let named_by = c.before.before.before.before in
+    let start = named_by.before.before.before.before.before.before.before.before.before in
+    named_callable _ named_by.named_by.ensures c.before.before.enum-told3.given.1 start.requires
 
 returns : tie.Need-returns
-returns c = named_nothing _ c.before.before.Named-by.ensures c.enum_told.given.1
+returns c = named_nothing _ c.before.before.named_by.ensures c.enum_told.given.1
 
 returns-2 : tie.Need-returns-2
-returns-2 c = named_past _ c.before.before.Named-by.ensures c.enum-told2.given.1
+returns-2 c = named_past _ c.before.before.named_by.ensures c.enum-told2.given.1
 
 same_length : tie.Need-same-length
 same_length c = search rules
@@ -48,8 +48,8 @@ returns-3 : tie.Need-returns-3
 returns-3 c =
     let write-row = c.before.before.before.before in
     let enum-told3 = write-row.before.before.before in
-    let Named-by = enum-told3.before.before in
-    named_written _ Named-by.Named-by.ensures enum-told3.enum-told3.given.1 write-row.write-row.ensures
+    let named_by = enum-told3.before.before in
+    named_written _ named_by.named_by.ensures enum-told3.enum-told3.given.1 write-row.write-row.ensures
 
 pub write-named-spec : {M : Type 1} → statement M
 write-named-spec =
