@@ -2,11 +2,11 @@
 use borrow.Author.Rules.{rules}
 use native.Mathlib.Omega.{arith}
 use Rattle.accept.proofs.AcceptanceLaws.{are_bytes_lem}
-use Rattle.finding.proofs.FindingLaws.{nothing_found, text_found, never_refused, other_answer}
+use Rattle.finding.proofs.FindingLaws.{nothing_found, text_found, never_refused}
 use Rattle.finding.proofs.find.Goals as goal
 
 pub returns-in_default : goal.returns-in_default
-returns-in_default c = nothing_found c.search-searched.ensures (other_answer c.in_default.in_default-own.keys2)
+returns-in_default c = nothing_found c.search-searched.ensures c.in_default.not-Found
 
 pub returns-in-Wrote : goal.returns-in-Wrote
 returns-in-Wrote c =
