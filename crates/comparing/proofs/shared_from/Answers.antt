@@ -1,0 +1,40 @@
+-- `shared_from` meets its contract. The loop's invariant: the least depth of all nodes that it has passed. The measure is the number of nodes
+-- left up to b.
+use Prim.Native.Nat.{◌+◌, ◌-◌}
+use native.Mathlib.Omega.{arith}
+use Rattle.comparing.proofs.SharedLaws.{Passed, passed_first, passed_next, passed_none, passed_all}
+use borrow.Author.Rules.{rules}
+use Rattle.comparing.proofs.shared_from.Goals as goal
+
+pub overflow_add-next : goal.overflow_add-next
+overflow_add-next c = omega (arith, c.size.ensures, c.requires.nested.ends c.args.a (omega arith))
+
+pub loop-next-init : goal.loop-next-init
+loop-next-init c =
+    passed_first c.args.t.now c.requires.nested c.args.a c.args.b c.requires.in_order c.requires.second_in c.depth-shared.result c.size.result
+    c.depth-shared.ensures c.size.ensures
+
+pub returns-then-shared-eq0 : goal.returns-then-shared-eq0
+returns-then-shared-eq0 c =
+    let l = c.loop-next in
+    passed_none c.args.t.now c.requires.nested c.args.a c.args.b c.requires.in_order c.requires.second_in l.shared l.next l.invariant c.if-shared-eq0.true
+
+pub overflow_add-next-in-loop-next : goal.overflow_add-next-in-loop-next
+overflow_add-next-in-loop-next c =
+    omega (arith, c.size-in-loop-next.ensures, c.requires.nested.ends c.loop-next.next (omega arith), c.loop-next-test.true)
+
+pub loop-next-smaller : goal.loop-next-smaller
+loop-next-smaller c =
+    omega (arith, c.size-in-loop-next.ensures, c.requires.nested.counted c.loop-next.next (omega arith), c.loop-next-test.true)
+
+pub loop-next-preserved : goal.loop-next-preserved
+loop-next-preserved c =
+    let l = c.loop-next in
+    passed_next c.args.t.now c.requires.nested c.args.a c.args.b c.requires.in_order c.requires.second_in l.shared l.next l.invariant
+    c.least-shared.result c.depth-d.result c.size-in-loop-next.result c.loop-next-test.true
+    c.least-shared.ensures c.depth-d.ensures c.size-in-loop-next.ensures
+
+pub returns : goal.returns
+returns c =
+    let l = c.loop-next in
+    passed_all c.args.t.now c.requires.nested c.args.a c.args.b c.requires.in_order c.requires.second_in l.shared l.next l.invariant c.loop-next-test.false
