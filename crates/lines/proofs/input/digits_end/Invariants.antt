@@ -1,7 +1,6 @@
 -- `digits_end` stays in the line. The measure is what is left of it.
 use Prim.Native.Nat.{◌-◌, ◌≤◌}
 use lib.ListN.{length}
-use borrow.Author.Rules.{rules}
 use Rattle.lines.proofs.input.digits_end.Given as goal
 
 abbrev pub invariant-loop-i : goal.invariant-loop-i

@@ -1,7 +1,6 @@
 -- `line_end` stays in the input. The measure is what is left of it.
 use Prim.Native.Nat.{◌-◌, ◌≤◌}
 use lib.ListN.{length}
-use borrow.Author.Rules.{rules}
 use Rattle.lines.proofs.input.line_end.Given as goal
 
 abbrev pub invariant-loop-i : goal.invariant-loop-i

@@ -1,7 +1,5 @@
 -- `number_at` stays in the bytes. The measure is how many are left.
 use Prim.Native.Nat.{◌-◌}
-use native.Mathlib.Omega.{arith}
-use borrow.Author.Rules.{rules}
 use Rattle.lines.proofs.input.number_at.Given as goal
 
 abbrev pub invariant-loop-i : goal.invariant-loop-i

@@ -4,7 +4,6 @@ use mathlib.Core.List.{List}
 use Prim.Native.Nat.{ℕ, ◌+◌, ◌*◌, ◌<◌}
 use native.Mathlib.Omega.{arith}
 use lib.ListN.{length}
-use borrow.Author.Rules.{rules}
 use Rattle.io.specs.Counts.{IsPrefixLen}
 use Rattle.lines.proofs.PartLaws.{found}
 use Rattle.lines.proofs.input.read_line.Goals as goal
