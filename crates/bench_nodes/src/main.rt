@@ -13,10 +13,12 @@ ghost use Rattle.comparing.specs.Comparing.{Nested};
 
 use accept::{Verdict, accept};
 use comparing::compare;
-use libc::STDOUT_FILENO;
 use numbers::make::number;
 use table::TABLE_ROOM;
 use tokens::token::size;
+
+// The descriptor of standard output.
+const STDOUT: i32 = 1;
 
 const COMPARISONS: usize = 1000000;
 
@@ -164,6 +166,6 @@ fn main() {
         return;
     }
     let answer = measured(input[0], &input[1..n]);
-    io::print_decimal(STDOUT_FILENO, answer as u64);
-    io::write_all(STDOUT_FILENO, b"\n");
+    io::print_decimal(STDOUT, answer as u64);
+    io::write_all(STDOUT, b"\n");
 }

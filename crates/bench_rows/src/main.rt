@@ -12,11 +12,13 @@ ghost use Rattle.rows.specs.Rows.{Faced, rows_of};
 
 use accept::Verdict;
 use faces::first::Firsts;
-use libc::STDOUT_FILENO;
 use masks::NodeSet;
 use prepare::prepare;
 use rows::{begin_again, first_row, last_function, next_of, stepping};
 use table::TABLE_ROOM;
+
+// The descriptor of standard output.
+const STDOUT: i32 = 1;
 
 // More than there are rows in what is measured.
 const MOST: u64 = 1000000;
@@ -92,8 +94,8 @@ fn prepare_again(problem: &[u8]) -> usize {
 }
 
 fn print(n: u64, what: &[u8]) {
-    io::print_decimal(STDOUT_FILENO, n);
-    io::write_all(STDOUT_FILENO, what);
+    io::print_decimal(STDOUT, n);
+    io::write_all(STDOUT, what);
 }
 
 fn main() {

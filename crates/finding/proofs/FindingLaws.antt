@@ -44,15 +44,6 @@ found_written {s} {v} {row} {next} {n} {before} {after} {a} b room c w = go c re
         let (r, named, solution) = (reply_named p (subst (λ (y : HostReply). SearchOn p v n y) z on)).0 in
         let (k, gives, text) = when_large p row before (accept_accepted s p b e).0 r named solution room (write_on p e w) in (k, gives)
 
--- An answer with another key than a Found's
-pub other_answer : {a : Kind} → OneOf (0 ∷ 2 ∷ 3 ∷ []) (tag_of the_type a) → a ≡ answers.Found → ⊥
-other_answer k e = go (subst (λ (a : Kind). OneOf (0 ∷ 2 ∷ 3 ∷ []) (tag_of the_type a)) e k)
-  where
-    go : OneOf (0 ∷ 2 ∷ 3 ∷ []) 1 → ⊥
-    go (inl z) = absurd (omega arith)
-    go (inr (inl z)) = absurd (omega arith)
-    go (inr (inr z)) = absurd (omega arith)
-
 row_value_lem : {sets : List NodeSet} {row : Place} → AtRow sets row → value_of row ≡ row_value (masks_in sets)
 row_value_lem is = cc
 

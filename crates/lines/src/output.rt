@@ -3,14 +3,16 @@
 ghost use Rattle.std.specs.Prelude.{◌≤◌};
 
 use ascii::put_bytes;
-use libc::STDOUT_FILENO;
+
+// The descriptor of standard output.
+const STDOUT: i32 = 1;
 
 pub fn print(words: &[u8]) -> bool {
-    io::write_all(STDOUT_FILENO, words)
+    io::write_all(STDOUT, words)
 }
 
 pub fn print_number(n: u64) -> bool {
-    io::print_decimal(STDOUT_FILENO, n)
+    io::print_decimal(STDOUT, n)
 }
 
 pub fn end_line() -> bool {

@@ -15,7 +15,7 @@ pub use seeking::{Answer, Searched};
 pub use writing::write::write;
 
 // "A host keeps one open search and hands it to each call, which moves its place."
-#[derive(Drop)]
+#[derive(Clone, Copy)]
 pub struct OpenSearch {
     pub place: Place,
 }

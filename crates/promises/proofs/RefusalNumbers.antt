@@ -25,7 +25,7 @@ use Rattle.meaning.specs.Text.{in_order, numbers, or_twenty, read_items, read_te
 use Rattle.meaning.specs.Row.{Row}
 use Rattle.meaning.specs.Search.{found, end, paused, refused_call, Place, Reply, Keeps, finds, ends, pauses}
 use Rattle.meaning.specs.PlaceValue.{PlaceValue}
-use Rattle.meaning.specs.Entry.{HostReply, reply_value, start_call, SearchCall, not_accepted, on_accepted, no_allowance, no_such_place, searches}
+use Rattle.meaning.specs.Entry.{HostReply, WriteOn, reply_value, start_call, SearchCall, not_accepted, on_accepted, no_allowance, no_such_place, searches}
 use Rattle.meaning.specs.Entry.{WriteCall, check_call, check_on, no_such_row, no_solution_row, too_short, writes}
 use Rattle.meaning.specs.Longest.{length_of, longest_into}
 use Rattle.longest.proofs.IntoLaws.{into_by}
@@ -227,13 +227,17 @@ pub search_numbers : (s : Bytes) (v : PlaceValue) (n : ℕ) (reply : HostReply) 
 search_numbers s v n reply long call = in_row long reply (replied s v n reply call)
 
 -- `matcher_write`
+write_on_numbers : (p : Problem) (v : PlaceValue) (buffer : Bytes) {given : Answer ℕ} {after' : Bytes} → WriteOn p v buffer given after'
+    → Refuses given
+write_on_numbers p v buffer (no_such_row none) = refusal 16 refl
+write_on_numbers p v buffer (no_solution_row r names f) = refusal 17 refl
+write_on_numbers p v buffer (too_short r names t l) = refusal 18 refl
+write_on_numbers p v buffer (writes r names t l) = answer _
+
 pub write_numbers : (s : Bytes) (v : PlaceValue) (buffer after' : Bytes) (given : Answer ℕ) → WriteCall s v buffer given after'
     → Refuses given
 write_numbers s v buffer after' given (not_accepted r e) = refusal r (not_accepted_lem s r e)
-write_numbers s v buffer after' given (on_accepted p e (no_such_row none)) = refusal 16 refl
-write_numbers s v buffer after' given (on_accepted p e (no_solution_row r names f)) = refusal 17 refl
-write_numbers s v buffer after' given (on_accepted p e (too_short r names t l)) = refusal 18 refl
-write_numbers s v buffer after' given (on_accepted p e (writes r names t l)) = answer _
+write_numbers s v buffer after' given (on_accepted p e on) = write_on_numbers p v buffer on
 
 -- `matcher_check`
 pub check_numbers : (s t : Bytes) → Refuses (check_call s t)

@@ -7,7 +7,7 @@
 --   OpenContract   the same of `search_open`, and that what the page takes for its contract is what stands in the source
 --   Ends        each call ends, without a fault, and then its contract holds: the program logic's own statement of the compiled function
 use Rattle.std.specs.Prelude.{◌≡◌, List, ℕ}
-use Rattle.std.specs.Borrow.{GName, Bor}
+use Rattle.std.specs.Borrow.{GName, Bor, MutBor}
 use base.Logic.{SProp, emp}
 use contract.Lifetimes.{Lfts}
 use contract.Monad.{Fun, fact}
@@ -64,9 +64,12 @@ pub record Lent (references : ℕ) : Type 0 where
   pub pointer : ℕ → ℕ × ℕ
   pub name : ℕ → GName
 
--- What the k-th reference refers to
+-- What the k-th reference refers to, where it is lent to be read, and where it is lent to be written
 abbrev pub lent : {n : ℕ} {A : Type 0} → Lent n → ℕ → A → Bor A
-lent l k x = record { ref_ptr = l.pointer k; ghost_name = l.name k; now = x }
+lent l k x = record { ref_ptr = l.pointer k; now = x }
+
+abbrev pub lent_mut : {n : ℕ} {A : Type 0} → Lent n → ℕ → A → MutBor A
+lent_mut l k x = record { ref_ptr = l.pointer k; ghost_name = l.name k; now = x }
 
 -- In Rattle: places and open searches are made, and handed to the calls
 abbrev pub RowAtCalled : List NodeSet → Place → Type 0
@@ -87,10 +90,10 @@ SearchCalled s place n r =
 
 abbrev pub WriteCalled : Bytes → Place → Bytes → Written → Bytes → Type 0
 WriteCalled s row out r out' =
-    (l : Lent 2) × write.Learnt l.spans (lent l 0 s, (row, (lent l 1 out, tt))) r (lent l 0 s, (row, (lent l 1 out', tt)))
+    (l : Lent 2) × write.Learnt l.spans (lent l 0 s, (row, (lent_mut l 1 out, tt))) r (lent l 0 s, (row, (lent_mut l 1 out', tt)))
 
 abbrev pub LongestCalled : ℕ → Bytes → Written → Bytes → Type 0
-LongestCalled n out r out' = (l : Lent 1) × longest.Learnt l.spans (n, (lent l 0 out, tt)) r (n, (lent l 0 out', tt))
+LongestCalled n out r out' = (l : Lent 1) × longest.Learnt l.spans (n, (lent_mut l 0 out, tt)) r (n, (lent_mut l 0 out', tt))
 
 abbrev pub CheckCalled : Bytes → Bytes → Checked → Type 0
 CheckCalled s text r =
@@ -106,24 +109,24 @@ OpenCalled kept s n r kept' = OpenAnswers s kept.place n kept'.place r
 -- In C
 abbrev pub CStartCalled : Bytes → List ℕ → ℕ → List ℕ → Type 0
 CStartCalled s place r place' =
-    (l : Lent 2) × c-start.Learnt l.spans (lent l 0 s, (lent l 1 place, tt)) r (lent l 0 s, (lent l 1 place', tt))
+    (l : Lent 2) × c-start.Learnt l.spans (lent l 0 s, (lent_mut l 1 place, tt)) r (lent l 0 s, (lent_mut l 1 place', tt))
 
 abbrev pub CSearchCalled : Bytes → List ℕ → List ℕ → ℕ → ℕ → List ℕ → List ℕ → Type 0
 CSearchCalled s place row n r place' row' =
     (l : Lent 3)
-    × c-search.Learnt l.spans (lent l 0 s, (lent l 1 place, (lent l 2 row, (n, tt)))) r
-    (lent l 0 s, (lent l 1 place', (lent l 2 row', (n, tt))))
+    × c-search.Learnt l.spans (lent l 0 s, (lent_mut l 1 place, (lent_mut l 2 row, (n, tt)))) r
+    (lent l 0 s, (lent_mut l 1 place', (lent_mut l 2 row', (n, tt))))
 
 abbrev pub CWriteCalled : Bytes → List ℕ → Bytes → ℕ → ℕ → Bytes → ℕ → Type 0
 CWriteCalled s row out written r out' written' =
     (l : Lent 4)
-    × c-write.Learnt l.spans (lent l 0 s, (lent l 1 row, (lent l 2 out, (lent l 3 written, tt)))) r
-    (lent l 0 s, (lent l 1 row, (lent l 2 out', (lent l 3 written', tt))))
+    × c-write.Learnt l.spans (lent l 0 s, (lent l 1 row, (lent_mut l 2 out, (lent_mut l 3 written, tt)))) r
+    (lent l 0 s, (lent l 1 row, (lent_mut l 2 out', (lent_mut l 3 written', tt))))
 
 abbrev pub CLongestCalled : ℕ → Bytes → ℕ → ℕ → Bytes → ℕ → Type 0
 CLongestCalled n out written r out' written' =
     (l : Lent 2)
-    × c-longest.Learnt l.spans (n, (lent l 0 out, (lent l 1 written, tt))) r (n, (lent l 0 out', (lent l 1 written', tt)))
+    × c-longest.Learnt l.spans (n, (lent_mut l 0 out, (lent_mut l 1 written, tt))) r (n, (lent_mut l 0 out', (lent_mut l 1 written', tt)))
 
 abbrev pub CCheckCalled : Bytes → Bytes → ℕ → Type 0
 CCheckCalled s text r =

@@ -1,5 +1,4 @@
 -- `ended` meets its contract: the item where the term takes all that is left, and else a refusal.
-use borrow.Author.Rules.{rules}
 use borrow.Author.Tests.{eq-eqb, ne_eqb}
 use Rattle.items.proofs.ended.Goals as goal
 

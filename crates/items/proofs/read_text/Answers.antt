@@ -1,16 +1,8 @@
 -- `read_text` meets its contract: a law for each return.
--- Once the fields are read, the text is known not to be too long
-use mathlib.Core.Path.{refl}
-use Prim.Native.Nat.{◌≤◌}
-use lib.ListN.{length}
-use borrow.Author.Rules.{rules}
+use Rattle.std.proofs.Common.{refl}
 use Rattle.meaning.specs.Limits.{largest_text}
 use Rattle.items.proofs.TextLaws.{text_falls, text_got, text_over, text_malformed}
 use Rattle.items.proofs.read_text.Goals as goal
-use Rattle.items.proofs.read_text.Goals.{After-read_fields-found}
-
-short : (c : After-read_fields-found) → length c.args.text.now ≤ 8192
-short c = c.if-text-gt-LARGEST_TEXT.false
 
 pub returns-then-text-gt-LARGEST_TEXT : goal.returns-then-text-gt-LARGEST_TEXT
 returns-then-text-gt-LARGEST_TEXT c = text_over _ _ _ c.if-text-gt-LARGEST_TEXT.true c.refused.ensures
@@ -21,12 +13,14 @@ read_fields-found-requires c = record { short = c.if-text-gt-LARGEST_TEXT.false;
 
 pub returns-then-not-found : goal.returns-then-not-found
 returns-then-not-found c =
-    text_malformed _ _ (short c.before.before.before.before.before.before.before.before.before.before.before.before) _ c.read_fields-found.ensures _ c.if-not-found.true c.refused-then-not-found.ensures
+    text_malformed _ _ c.if-text-gt-LARGEST_TEXT.false _ c.read_fields-found.ensures _ c.if-not-found.true
+    c.refused-then-not-found.ensures
 
 pub returns-then-not-found-2 : goal.returns-then-not-found-2
 returns-then-not-found-2 c =
-    text_falls _ _ (short c.before.before.before.before.before.before.before.before.before.before.before.before.before.before) _ c.read_fields-found.ensures c.if-not-found.false _ c.if-not-found-2.true c.refused-then-not-found-2.ensures
+    text_falls _ _ c.if-text-gt-LARGEST_TEXT.false _ c.read_fields-found.ensures c.if-not-found.false _ c.if-not-found-2.true
+    c.refused-then-not-found-2.ensures
 
 pub returns : goal.returns
 returns c =
-    text_got _ _ (short c.before.before.before.before.before.before.before.before.before.before.before.before.before.before) _ c.read_fields-found.ensures c.if-not-found.false _ c.if-not-found-2.false refl
+    text_got _ _ c.if-text-gt-LARGEST_TEXT.false _ c.read_fields-found.ensures c.if-not-found.false _ c.if-not-found-2.false refl

@@ -1,0 +1,7 @@
+-- `Listing::start`.
+use borrow.Author.Rules.{rules}
+use Rattle.listing.proofs.LineLaws.{begins}
+use Rattle.listing.proofs.Listing.start.Goals as goal
+
+pub returns : goal.returns
+returns c = begins _ _ c.start-started.ensures

@@ -1,0 +1,19 @@
+-- `all_empty`. The loop's invariant: each set looked at is empty.
+use borrow.Author.Rules.{rules}
+use borrow.Author.Count.{below_more}
+use borrow.Author.Tests.{not-true, not-false}
+use native.Mathlib.Omega.{arith}
+use Prim.Native.Nat.{ℕ, ◌-◌, ◌≤◌, ◌<◌}
+use mathlib.Core.Path.{◌≡◌, refl, ◌∙◌}
+use mathlib.Core.Bool.{false≢true}
+use lib.ListN.{length, get_or, length-map}
+use Rattle.meaning.specs.Limits.{max_functions}
+use Rattle.masks.specs.Sets.{mask, masks_in}
+use Rattle.places.proofs.PlaceLaws.{zeros, empty_at, filled_at}
+use Rattle.places.proofs.all_empty.Given as goal
+
+abbrev pub invariant-loop-k : goal.invariant-loop-k
+invariant-loop-k l = (l.k ≤ max_functions) × ((j : ℕ) → j < l.k → get_or (masks_in l.sets) j 0 ≡ 0)
+
+abbrev pub decreases-loop-k : goal.decreases-loop-k
+decreases-loop-k l = max_functions - l.k

@@ -1,0 +1,18 @@
+-- `sets_in` meets its contract. The loop's invariant: the masks of the first k sets are read.
+use mathlib.Core.Path.{◌≡◌, refl, ◌∙◌}
+use Prim.Native.Nat.{◌-◌, ◌≤◌}
+use native.Mathlib.Omega.{arith}
+use lib.ListN.{length, take, length-set}
+use Rattle.meaning.specs.Limits.{max_functions}
+use Rattle.masks.specs.Sets.{masks_in}
+use Rattle.words.specs.Words.{masks_from}
+use Rattle.words.proofs.WordLaws.{read_more, read_all}
+use borrow.Author.Rules.{rules}
+use Rattle.words.proofs.sets_in.Given as goal
+
+abbrev pub invariant-loop-k : goal.invariant-loop-k
+invariant-loop-k l =
+    (l.k ≤ max_functions) × (length l.sets ≡ max_functions) × (take l.k (masks_in l.sets) ≡ masks_from l.k l.words)
+
+abbrev pub decreases-loop-k : goal.decreases-loop-k
+decreases-loop-k l = max_functions - l.k
