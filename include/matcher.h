@@ -16,7 +16,7 @@
  *
  * host/examples/list.c is a whole program. For x86-64 Linux:
  *
- *     rt staticlib tivagyesz
+ *     tools/staticlib
  *     cc -Iinclude program.c target/staticlib/libtivagyesz.a
  *
  * Every function takes any bytes, words and buffers, and answers a number: MATCHER_OK, an answer of 256 or more, or a refusal. Of several

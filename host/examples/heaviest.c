@@ -1,7 +1,7 @@
 /*
  * Counts the solutions of the problem with the longest list for a number of nodes, and has each one checked:
  *
- *     rt staticlib tivagyesz
+ *     tools/staticlib
  *     cc -Iinclude -o target/heaviest host/examples/heaviest.c target/staticlib/libtivagyesz.a
  *     target/heaviest 12
  */

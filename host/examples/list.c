@@ -1,7 +1,7 @@
 /*
  * Lists the solutions of the problem on standard input, as document 01's program `readings` does, but goes on after a pause:
  *
- *     rt staticlib tivagyesz
+ *     tools/staticlib
  *     cc -Iinclude -o target/list host/examples/list.c target/staticlib/libtivagyesz.a
  *     target/list < crates/readings/stdin
  */

@@ -1,5 +1,6 @@
 // The matcher for programs in C, declared in include/matcher.h. A place is words that the caller keeps; every function takes any bytes, any
-// words and any buffers, and answers a number: a refusal of document 01 or of its change requests, or what the call found.
+// words and any buffers, and answers a number: a refusal of document 01 or of its change requests, or what the call found. This is a library,
+// on which `promises` stands; `tivagyesz_c` puts the same functions into an archive.
 #![tactic(auto)]
 
 pub mod codes;

@@ -4,22 +4,22 @@ use std::io::Write;
 use std::path::{Path, PathBuf};
 use std::process::{Command, Stdio};
 
-/// Proves the program, unless that is done, and says where it is.
+/// Proves the program, unless that is done, and says where it is. `rt` runs it too, here on no input.
 pub fn proved() -> PathBuf {
-    let root = Path::new(env!("CARGO_MANIFEST_DIR")).join("../..");
-    let proved = Command::new("rt")
-        .args(["check", "vectors_texts"])
-        .current_dir(&root)
+    let folder = Path::new(env!("CARGO_MANIFEST_DIR")).join("../../crates/vectors_texts");
+    let ran = Command::new("rt")
+        .arg("run")
+        .current_dir(&folder)
         .stdin(Stdio::null())
         .output()
         .unwrap_or_else(|e| panic!("the Rattle toolchain is needed to build the program, and `rt` does not run: {e}"));
     assert!(
-        proved.status.success(),
-        "`rt check vectors_texts` failed:\n{}{}",
-        String::from_utf8_lossy(&proved.stdout),
-        String::from_utf8_lossy(&proved.stderr)
+        ran.status.success(),
+        "`rt run` in crates/vectors_texts failed:\n{}{}",
+        String::from_utf8_lossy(&ran.stdout),
+        String::from_utf8_lossy(&ran.stderr)
     );
-    root.join("target/bin/vectors_texts")
+    folder.join("out/vectors_texts")
 }
 
 /// What the program prints. The input is written by another thread, so that neither pipe can block the other.
