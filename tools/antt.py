@@ -1,4 +1,4 @@
-"""What the scripts of this folder know of Rattle and antt sources: the files, their words, and what they declare."""
+"""What the scripts of this folder know of Rattle and antt sources: the files, their words, what they import and what they declare."""
 import collections
 import pathlib
 import re
@@ -8,13 +8,17 @@ import signal
 signal.signal(signal.SIGPIPE, signal.SIG_DFL)
 
 ROOT = pathlib.Path(__file__).resolve().parent.parent
-WORD = re.compile(r"[^\s(){}\[\];,.`\"]+")
-DECLARED = re.compile(r"^(?:abbrev |unfoldable )*(?:pub )?(?:data |record )?([^\s(){}:]+)\s*:\s")
+# What a crate is made of; beside them stands out/, where `rt` keeps copies.
+PARTS = ("src", "specs", "proofs")
+WORD = re.compile(r"[^\s(){}\[\],;.`\"«»]+")
+DECLARED = re.compile(r"(?:abbrev |unfoldable )*(?:pub )?(?:data |record )?([^\s(){}:]+)\s*:\s")
+SECTION = re.compile(r" *module _")
 
 
 def sources(*suffixes):
     """The files of all crates with these suffixes, in order."""
-    return sorted(p for p in (ROOT / "crates").rglob("*") if p.suffix in suffixes and p.is_file())
+    files = (p for crate in (ROOT / "crates").iterdir() for part in PARTS for p in (crate / part).rglob("*"))
+    return sorted(p for p in files if p.suffix in suffixes and p.is_file())
 
 
 def shown(path):
@@ -27,14 +31,37 @@ def code(path, line):
     return re.split(r"(?:^|\s)" + mark + r"(?:\s|$)", line)[0]
 
 
+def parts(word):
+    """A word and, where Rust writes several as one, as `!is_hole` or `crate::proofs::Laws::law`, the words in it."""
+    return {word, *re.findall(r"\w+|[^\w]+", word)}
+
+
 def words(path, text):
     """How often each word stands in the text, comments aside."""
-    return collections.Counter(w for line in text.splitlines() for w in WORD.findall(code(path, line)))
+    found = [w for line in text.splitlines() for w in WORD.findall(code(path, line))]
+    return collections.Counter(found if path.suffix == ".antt" else (p for w in found for p in parts(w)))
+
+
+def blocks(text):
+    """(line number, lines) of each declaration or clause of an antt file, at the top or in a section, with what is indented below it."""
+    depth, number, block = 0, 0, []
+    for at, line in enumerate(text.splitlines(), 1):
+        indent = len(line) - len(line.lstrip())
+        if not line.strip() or line.lstrip().startswith("--"):
+            continue
+        if block and indent > depth:
+            block.append(line)
+            continue
+        if block:
+            yield number, block
+        depth = indent + 2 if SECTION.match(line) else indent
+        number, block = at, [line]
+    if block:
+        yield number, block
 
 
 def declarations(text):
-    """(line number, name) of each top-level declaration of an antt file."""
-    for number, line in enumerate(text.splitlines(), 1):
-        found = DECLARED.match(line)
-        if found and not line.startswith((" ", "use ", "--")):
+    """(line number, name) of each declaration of an antt file, at the top or in a section."""
+    for number, block in blocks(text):
+        if found := DECLARED.match(block[0].strip()):
             yield number, found.group(1)
