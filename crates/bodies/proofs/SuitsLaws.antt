@@ -16,7 +16,7 @@ use Rattle.meaning.specs.Basics.{join}
 use Rattle.tokens.specs.Token.{depth_in, size_in, Table}
 use Rattle.tokens.specs.Key.{key_of, at, part, Inside}
 use Rattle.numbers.specs.Tests.{Tests}
-use Rattle.masks.specs.Mask.{marks, first}
+use Rattle.masks.specs.Mask.{marks}
 use Rattle.masks.specs.Sets.{width}
 use Rattle.masks.proofs.Marks.{length_marks}
 use Rattle.masks.proofs.Nodes.{first_min}

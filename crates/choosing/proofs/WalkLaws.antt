@@ -13,7 +13,6 @@ use Rattle.meaning.specs.Choice.{Marks}
 use Rattle.tokens.specs.Token.{depth_in}
 use Rattle.tokens.specs.Key.{at}
 use Rattle.numbers.specs.Tests.{told}
-use Rattle.masks.specs.Sets.{nodes}
 use Rattle.paths.specs.Paths.{Node, first_path, one_place, takes}
 use Rattle.paths.proofs.OnePlace.{first_at_below, first_at_hole, first_at_none}
 use Rattle.choosing.specs.FaceNodes.{size_from, class_from, nodes_from}

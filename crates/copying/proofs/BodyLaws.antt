@@ -12,7 +12,6 @@ use Rattle.masks.specs.Sets.{width}
 use Rattle.meaning.specs.Limits.{max_face_nodes}
 use Rattle.meaning.specs.Term.{NamedTerm, one, size}
 use Rattle.meaning.specs.Scope.{enter, nameless_label}
-use Rattle.meaning.specs.Field.{encode}
 use Rattle.meaning.specs.Choice.{set_size}
 use Rattle.meaning.proofs.ShiftLaws.{relabel_size}
 use Rattle.meaning.proofs.NodeReading.{encode_long}

@@ -1,12 +1,8 @@
 -- The row of a Found is written, since there is room for any text.
 use mathlib.Core.Path.{◌≡◌, refl, ap, sym, ◌∙◌, subst}
-use mathlib.Core.Logic.{inl, inr}
-use mathlib.Core.List.{List, [], ◌∷◌}
+use mathlib.Core.List.{List}
 use Prim.Native.Nat.{ℕ, ◌≤◌}
-use native.Mathlib.Omega.{arith}
 use lib.ListN.{length}
-use denote.Enum.Declared.{tag_of}
-use types.Run.{OneOf}
 use Rattle.meaning.specs.Limits.{largest_written}
 use Rattle.meaning.specs.Basics.{All, Byte, Bytes}
 use Rattle.meaning.specs.Read.{Answer, got}
@@ -24,7 +20,6 @@ use Rattle.places.specs.Places.{AtRow, value_of}
 use Rattle.places.specs.declared.Place.{Place}
 use Rattle.seeking.specs.declared.Answer.{Answer as Kind}
 use Rattle.seeking.specs.declared.Answer.TheVariants as answers
-use Rattle.seeking.specs.contracts.Answer.{the_type}
 use Rattle.seeking.specs.declared.Searched.{Searched}
 use Rattle.search.specs.Calling.{Answers, host_reply, reply_with, row_value}
 use Rattle.copying.specs.Answered.{answer_of}

@@ -12,7 +12,7 @@ use Rattle.meaning.specs.Basics.{All, Byte, Bytes, choose}
 use Rattle.meaning.specs.Problem.{Problem}
 use Rattle.meaning.specs.Read.{Answer, after, got}
 use Rattle.meaning.specs.Readable.{Accepted}
-use Rattle.meaning.specs.Search.{end, found, start}
+use Rattle.meaning.specs.Search.{found, start}
 use Rattle.meaning.specs.PlaceValue.{PlaceValue, place_value}
 use Rattle.meaning.specs.Entry.{HostReply, SearchCall, SearchOn, WriteCall, WriteOn, no_solution_row, no_such_row, not_accepted, on_accepted, row_text}
 use Rattle.meaning.specs.Entry.{start_call, too_short, writes}

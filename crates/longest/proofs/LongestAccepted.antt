@@ -7,7 +7,7 @@ use native.Mathlib.Omega.{arith}
 use lib.ListN.{length}
 use lib.Dec.{ltb}
 use Rattle.meaning.specs.Limits.{largest_problem, max_constraints, max_depth, max_face_nodes, max_functions, metavariable_count}
-use Rattle.meaning.specs.Basics.{choose, every, is_some}
+use Rattle.meaning.specs.Basics.{every, is_some}
 use Rattle.meaning.specs.Term.{NamedTerm, Term, one, own, size, trees}
 use Rattle.meaning.specs.Scope.{enter, nameless_label}
 use Rattle.meaning.specs.Problem.{Problem, functions}

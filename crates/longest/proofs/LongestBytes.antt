@@ -2,7 +2,7 @@
 --   symbol_more      one symbol more, five bytes
 --   application_is   an application of symbols: its head, and the symbols
 --   problem_is       the problem: its head, P(X), and the expression
-use mathlib.Core.Path.{◌≡◌, refl, ap, sym, ◌∙◌}
+use mathlib.Core.Path.{◌≡◌, refl, ap, ◌∙◌}
 use Prim.Native.Nat.{ℕ, zero, suc, ◌+◌, ◌-◌, ◌*◌, ◌≤◌}
 use mathlib.Core.List.{[], ◌∷◌, ◌++◌, append-nil}
 use native.Mathlib.Omega.{arith}

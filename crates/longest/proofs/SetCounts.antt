@@ -12,7 +12,7 @@ use native.Mathlib.Omega.{arith}
 use lib.ListN.{length, length-append, length-map}
 use lib.Seq.{take_all}
 use Rattle.meaning.specs.Basics.{Distinct, ◌∈◌}
-use Rattle.meaning.specs.Term.{Term, one, size}
+use Rattle.meaning.specs.Term.{Term, size}
 use Rattle.meaning.specs.Choice.{Choice, Earlier, Mark, Marks}
 use Rattle.meaning.specs.Choices.{all_marks, choices}
 use Rattle.meaning.proofs.Lists.{distinct_within, mem_all, mem_at, mem_map}

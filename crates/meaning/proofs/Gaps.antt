@@ -8,7 +8,7 @@ use Rattle.meaning.specs.Basics.{◌∈◌}
 use Rattle.meaning.specs.Term.{IsExpression, Nameless, Slot, Term, Terms, cons, function, hole, metavariable, nil, one, own, slot}
 use Rattle.meaning.specs.Problem.{Problem, Standing, Where, alone, applied, argument_of, both_ways, expressions, in_arguments, patterns}
 use Rattle.meaning.specs.Problem.{places_of, plain, standings}
-use Rattle.meaning.specs.Filling.{Entry, Filling, IsBody, absent, argument, body, body_or, fill, fill_handler, filled, plug, value}
+use Rattle.meaning.specs.Filling.{Entry, Filling, IsBody, absent, argument, body, body_or, fill, fill_handler, plug, value}
 use Rattle.meaning.specs.Solution.{has_hole, needs}
 use Rattle.meaning.proofs.Lists.{never}
 use Rattle.meaning.proofs.OneWay.{one_way_means}

@@ -19,7 +19,7 @@ use Rattle.meaning.specs.Filling.{Entry, absent, left_open, value, body, Filling
 use Rattle.meaning.specs.Solution.{needs, Idle}
 use Rattle.meaning.specs.Text.{Item, numbers, said, Passes}
 use Rattle.meaning.specs.Passing.{is_body_label, is_body, is_whole, is_body_entry, is_value_entry, is_open, is_absent, is_needed}
-use Rattle.meaning.specs.Passing.{known, kinds, open_unneeded, unneeded_open, meets, passes}
+use Rattle.meaning.specs.Passing.{known, kinds, open_unneeded, unneeded_open, passes}
 use Rattle.meaning.proofs.Lists.{never, T_true, true_T, or-false, and_T, T_and, or_cases, or_left, or_right, eqb_self, eqb_eq}
 use Rattle.meaning.proofs.Lists.{by_test, is_in_mem, mem_is_in, all_mem, mem_all, every_all, all_every}
 use Rattle.meaning.proofs.ShiftLaws.{test_closed, closed_test}

@@ -32,7 +32,7 @@ use Rattle.words.specs.Words.{has_place, place_of_words, placed}
 use Rattle.words.proofs.WordLaws.{Small, place_small, placed_back}
 use Rattle.tivagyesz.specs.Exported.{SearchExport, StartExport, Told, place_after, place_into, reply_code, row_after, start_after, start_code, with_row}
 use Rattle.promises.specs.Lists.{CCall, CEnd, CRun, c_allowed, c_found}
-use Rattle.promises.specs.Numbers.{Refuses, RefusesReply, answer, refusal}
+use Rattle.promises.specs.Numbers.{Refuses, RefusesReply, refusal}
 use Rattle.promises.proofs.RefusalNumbers.{search_numbers, small, start_numbers}
 
 -- Values that a call answers have a mask for each function, small enough for its words, so that the words are read back

@@ -1,7 +1,7 @@
 -- T-13, for any way in which a host calls its writer.
 use mathlib.Core.Path.{◌≡◌, ap, ap₂, sym, ◌∙◌, subst}
 use Prim.Native.Nat.{ℕ, ◌+◌, ◌-◌, ◌^◌}
-use mathlib.Core.List.{List, map}
+use mathlib.Core.List.{List}
 use lib.ListN.{length, length-map, take}
 use Rattle.meaning.specs.Basics.{Bytes, ◌∈◌}
 use Rattle.meaning.specs.Problem.{Problem}

@@ -102,7 +102,7 @@ CheckCalled s text r =
 abbrev pub OwnedCalled : OpenSearch → Bytes → ℕ → Moved → Type 0
 OwnedCalled kept s n r = (l : Lent 1) × owned.Learnt l.spans (kept, (lent l 0 s, (n, tt))) r (kept, (lent l 0 s, (n, tt)))
 
--- `search_open` is walked by hand, so that its contract is not read off for us: `OpenContract` says that this is it
+-- What the page takes for the contract of `search_open`: `OpenContract` says that it is what stands in the source
 abbrev pub OpenCalled : OpenSearch → Bytes → ℕ → Reply → OpenSearch → Type 0
 OpenCalled kept s n r kept' = OpenAnswers s kept.place n kept'.place r
 

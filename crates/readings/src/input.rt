@@ -1,7 +1,7 @@
 // Standard input, up to the room that there is for it.
 ghost use Rattle.readings.specs.Input.{Within};
 
-use libc::STDIN_FILENO;
+use std::io::Read;
 
 #[derive(Clone, Copy)]
 pub enum Input {
@@ -11,20 +11,21 @@ pub enum Input {
 }
 
 // Reads until the buffer is full or the input ends; io::read_full does not tell the end of the input from a read that fails.
-pub fn read_input(buffer: &mut [u8]) -> Input
+pub fn read_input<R: Read>(from: &mut R, buffer: &mut [u8]) -> Input
     ensures { Within result buffer.new }
 {
     let mut done = 0;
     while done < buffer.len() {
-        let got = libc::read(STDIN_FILENO, &mut buffer[done..]);
-        if got < 0 {
-            return Input::Failed;
+        let got = from.read(&mut buffer[done..]);
+        match got {
+            Err(_) => return Input::Failed,
+            Ok(more) => {
+                if more == 0 {
+                    return Input::Read(done);
+                }
+                done += more;
+            }
         }
-        let more = io::count(got, &buffer[done..]);
-        if more == 0 {
-            return Input::Read(done);
-        }
-        done += more;
     }
     Input::Read(done)
 }

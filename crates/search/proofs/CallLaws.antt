@@ -18,7 +18,7 @@ use Rattle.meaning.specs.Rows.{rows}
 use Rattle.meaning.specs.Candidate.{solves}
 use Rattle.meaning.specs.Read.{refused}
 use Rattle.meaning.specs.Accept.{accept}
-use Rattle.meaning.specs.Search.{Place, at, past, place_of, Reply, found, end, refused_call, Keeps, finds, ends, pauses}
+use Rattle.meaning.specs.Search.{Place, at, past, place_of, Reply, end, refused_call, Keeps, finds, ends, pauses}
 use Rattle.meaning.specs.PlaceValue.{PlaceValue, masks_of, place_value}
 use Rattle.meaning.specs.Entry.{HostReply, reply_value, SearchCall, not_accepted, on_accepted, no_allowance, no_such_place, searches}
 use Rattle.meaning.specs.Calls.{left}

@@ -7,7 +7,7 @@ use Prim.Native.Nat.{ℕ, suc, ◌<◌}
 use native.Mathlib.Omega.{arith}
 use lib.ListN.{length}
 use Rattle.meaning.specs.Basics.{choose, ◌∈◌}
-use Rattle.meaning.specs.Search.{Place, at, past, place_of, found, end, paused, Keeps, finds, ends, pauses}
+use Rattle.meaning.specs.Search.{at, past, place_of, found, end, paused, Keeps, finds, ends, pauses}
 use Rattle.meaning.proofs.Lists.{mem_split, never}
 use Rattle.meaning.proofs.OneCall.{one_before}
 use Rattle.masks.specs.Sets.{masks_in}

@@ -20,7 +20,6 @@ use Rattle.meaning.specs.Face.{Face}
 use Rattle.meaning.specs.Field.{tag_of}
 use Rattle.meaning.specs.Value.{Source, source_at, source_of}
 use Rattle.tokens.specs.Token.{payload_of}
-use Rattle.tokens.specs.Key.{at}
 use Rattle.lockstep.specs.Walk.{pattern_node, expression_node}
 use Rattle.lockstep.specs.Recorded.{Records, RecordedBy}
 use Rattle.faces.proofs.NodeTokens.{AtNode, node_inside, node_tag, node_payload}

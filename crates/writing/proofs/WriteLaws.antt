@@ -16,7 +16,7 @@ use Rattle.meaning.specs.Rows.{rows}
 use Rattle.meaning.specs.Candidate.{solves}
 use Rattle.meaning.specs.Read.{got, refused}
 use Rattle.meaning.specs.Accept.{accept}
-use Rattle.meaning.specs.Search.{at, past}
+use Rattle.meaning.specs.Search.{at}
 use Rattle.meaning.specs.PlaceValue.{Names, masks_of}
 use Rattle.meaning.specs.Entry.{WriteCall, no_solution_row, no_such_row, not_accepted, on_accepted, row_text, too_short, writes}
 use Rattle.meaning.proofs.Proper.{accepted_proper}

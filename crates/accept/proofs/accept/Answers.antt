@@ -1,10 +1,7 @@
 -- `accept` meets its contract. A problem is read: the bytes s, the tables of patterns o and p before and after, those of expressions x and y,
 -- and counts of nodes; each answer below cites what is known then.
-use Rattle.std.proofs.Common.{◌≡◌, ◌≤◌, ℕ, List, length, sym, arith, rules}
+use Rattle.std.proofs.Common.{sym, arith}
 use lib.Seq.{length-take-le}
-use Rattle.meaning.specs.Read.{read_problem}
-use Rattle.table.specs.Whole.{ProblemDone}
-use Rattle.table.specs.declared.answer.Read.TheVariants as answers
 use Rattle.accept.proofs.AcceptanceLaws.{AreBytes, are_bytes_lem, pattern_ready, expression_ready, few_tokens, patterns_inside_lem}
 use Rattle.accept.proofs.AcceptanceLaws.{expressions_inside_lem, accepts_refused, accepts_checked}
 use Rattle.accept.proofs.accept.Goals as goal

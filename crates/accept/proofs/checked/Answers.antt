@@ -1,5 +1,4 @@
 -- `checked` meets its contract: what `check` answers, with the survey and the counts beside it.
-use borrow.Author.Rules.{rules}
 use Rattle.accept.proofs.AcceptanceLaws.{checks_refused, checks_none, checks_faces}
 use Rattle.accept.proofs.checked.Goals as goal
 

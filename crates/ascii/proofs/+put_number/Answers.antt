@@ -4,7 +4,7 @@ use native.Mathlib.Omega.{arith}
 use mathlib.Core.Path.{refl, sym}
 use Rattle.ascii.proofs.PutLaws.{put_none, put_one, put_till}
 use Rattle.ascii.proofs.DecimalLaws.{decimal_last, decimal_more, last_length, more_length}
-use Prim.Native.Nat.{ℕ, ◌+◌, ◌%◌, ◌<◌}
+use Prim.Native.Nat.{◌+◌, ◌%◌}
 use Rattle.ascii.proofs.+put_number.Goals as goal
 
 pub bounds-out-at : goal.bounds-out-at

@@ -1,5 +1,4 @@
 -- `hex_digit`.
-use borrow.Author.Rules.{rules}
 use borrow.Author.Tests.{lt-ltb, le-ltb}
 use mathlib.Core.Path.{sym}
 use Rattle.meaning.proofs.Lists.{choose_true, choose_false}

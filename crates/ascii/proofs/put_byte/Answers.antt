@@ -1,5 +1,4 @@
 -- `put_byte`.
-use borrow.Author.Rules.{rules}
 use native.Mathlib.Omega.{arith}
 use Prim.Native.Nat.{◌+◌, ◌<◌}
 use lib.ListN.{length, set, length-set}

@@ -1,13 +1,9 @@
 -- `put_bytes`. The loop's invariant: the digits of the first i bytes are put.
-use borrow.Author.Rules.{rules}
-use native.Mathlib.Omega.{arith}
-use Prim.Native.Nat.{ℕ, ◌+◌, ◌-◌, ◌*◌, ◌≤◌}
-use mathlib.Core.Path.{◌≡◌, refl, ap, ◌∙◌}
-use mathlib.Core.List.{[], ◌∷◌}
-use lib.ListN.{length, get_or, take}
+use Prim.Native.Nat.{◌+◌, ◌-◌, ◌*◌, ◌≤◌}
+use mathlib.Core.Path.{◌≡◌}
+use lib.ListN.{length, take}
 use Rattle.meaning.specs.Program.{hexadecimal}
 use Rattle.ascii.specs.Put.{Put}
-use Rattle.ascii.proofs.PutLaws.{put_none, put_till, bytes_more, hexadecimal_none, hexadecimal_length}
 use Rattle.ascii.proofs.put_bytes.Given as goal
 
 abbrev pub invariant-loop-i : goal.invariant-loop-i

@@ -1,11 +1,9 @@
 -- `put_word`. The loop's invariant: the first i bytes of the word are put.
-use borrow.Author.Rules.{rules}
 use native.Mathlib.Omega.{arith}
-use Prim.Native.Nat.{ℕ, ◌+◌, ◌-◌, ◌≤◌}
+use Prim.Native.Nat.{ℕ, ◌+◌}
 use mathlib.Core.Path.{◌≡◌, refl, ap, ◌∙◌}
 use lib.ListN.{length, get_or, take, length-set}
 use lib.Seq.{take-length}
-use Rattle.ascii.specs.Put.{Put}
 use Rattle.ascii.proofs.PutLaws.{put_none, put_till, word_more}
 use Rattle.ascii.proofs.put_word.Goals as goal
 

@@ -1,10 +1,7 @@
 -- `bodies::body_closed` meets its contract. The loop's invariant is `Testing`; the measure is the number of nodes left of the face.
-use mathlib.Core.Path.{sym, ◌∙◌}
 use Prim.Native.Nat.{◌-◌}
-use native.Mathlib.Omega.{arith}
 use Rattle.masks.specs.Sets.{mask}
-use Rattle.bodies.proofs.ClosedLaws.{Testing, size_counted, closed_begins, closed_ends, closed_passes, closed_goes_on, closed_stops}
-use borrow.Author.Rules.{rules}
+use Rattle.bodies.proofs.ClosedLaws.{Testing}
 use Rattle.bodies.proofs.body_closed.Given as goal
 
 abbrev pub invariant-loop-i : goal.invariant-loop-i

@@ -2,7 +2,6 @@
 use mathlib.Core.Path.{sym, ◌∙◌}
 use Rattle.numbers.specs.Tests.{told}
 use Rattle.bodies.proofs.SuitsLaws.{hole_uses, hole_same}
-use borrow.Author.Rules.{rules}
 use Rattle.bodies.proofs.hole_fits.Goals as goal
 
 pub returns-then-uses : goal.returns-then-uses

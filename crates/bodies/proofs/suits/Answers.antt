@@ -1,13 +1,9 @@
 -- `bodies::suits` meets its contract. The loop's invariant is `Walking`; the measure is the number of nodes left of the face.
 use mathlib.Core.Path.{sym, ◌∙◌}
-use Prim.Native.Nat.{◌-◌}
 use native.Mathlib.Omega.{arith}
-use borrow.Author.Tests.{not-true, not-false}
-use Rattle.numbers.specs.Tests.{told}
 use Rattle.masks.specs.Sets.{mask}
-use Rattle.bodies.proofs.SuitsLaws.{lowest_room, Walking, suits_begins, suits_ends, suits_out, node_counted, lowest_inside}
+use Rattle.bodies.proofs.SuitsLaws.{lowest_room, suits_begins, suits_ends, suits_out, node_counted, lowest_inside}
 use Rattle.bodies.proofs.SuitsLaws.{hole_stops, hole_goes_on, node_stops, node_goes_on}
-use borrow.Author.Rules.{rules}
 use Rattle.bodies.proofs.suits.Goals as goal
 
 pub overflow_add-low : goal.overflow_add-low
@@ -32,8 +28,8 @@ hole_fits-requires c =
     lowest_inside l.invariant c.loop-i-test.true (omega arith)
     (sym c.has.ensures ∙ c.if-has.true) in
     record {
-        lowest_in = omega (arith, low, c.requires.numbered);
-        node_in = omega (arith, c.requires.numbered);
+      lowest_in = omega (arith, low, c.requires.numbered);
+      node_in = omega (arith, c.requires.numbered);
     }
 
 pub returns-then-not-hole_fits : goal.returns-then-not-hole_fits

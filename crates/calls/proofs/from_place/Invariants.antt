@@ -1,13 +1,8 @@
 -- `from_place` meets its contract. The loop's invariant: the calls for the allowances so far have been made, and are told.
-use mathlib.Core.Path.{◌≡◌, refl, ◌∙◌}
+use mathlib.Core.Path.{◌≡◌}
 use Prim.Native.Nat.{◌-◌, ◌≤◌}
-use native.Mathlib.Omega.{arith}
 use lib.ListN.{length, take}
-use lib.Seq.{length-take-le}
-use borrow.Author.Rules.{rules}
-use Rattle.meaning.specs.Limits.{max_functions}
 use Rattle.calls.specs.Running.{FromPlace}
-use Rattle.calls.proofs.RunLaws.{no_calls, few_found, next_call, all_calls}
 use Rattle.calls.proofs.from_place.Given as goal
 
 abbrev pub invariant-loop-i : goal.invariant-loop-i

@@ -1,7 +1,6 @@
 -- `run` meets its contract: the start is asked for, and the calls are made from there on.
 use mathlib.Core.Path.{refl}
 use native.Mathlib.Omega.{arith}
-use borrow.Author.Rules.{rules}
 use Rattle.accept.proofs.AcceptanceLaws.{are_bytes_lem}
 use Rattle.calls.proofs.RunLaws.{run_refused, run_begins}
 use Rattle.calls.proofs.run.Goals as goal

@@ -1,8 +1,7 @@
 -- `fill`. The loop's invariant: the nodes before node i are as the first path has them.
-use borrow.Author.Rules.{rules}
 use mathlib.Core.Path.{◌≡◌, sym, ◌∙◌, subst}
 use native.Mathlib.Omega.{arith}
-use Prim.Native.Nat.{suc, ◌+◌, ◌-◌, ◌≤◌, ◌<◌}
+use Prim.Native.Nat.{suc, ◌+◌, ◌<◌}
 use Rattle.choosing.specs.FaceNodes.{size_from}
 use Rattle.choosing.proofs.FillLaws.{Filling, filling_begun, filling_opened, filling_passed, filling_done}
 use Rattle.choosing.proofs.fill.Goals as goal

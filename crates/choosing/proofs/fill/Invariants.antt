@@ -1,10 +1,6 @@
 -- `fill`. The loop's invariant: the nodes before node i are as the first path has them.
-use borrow.Author.Rules.{rules}
-use mathlib.Core.Path.{◌≡◌, sym, ◌∙◌, subst}
-use native.Mathlib.Omega.{arith}
-use Prim.Native.Nat.{suc, ◌+◌, ◌-◌, ◌≤◌, ◌<◌}
-use Rattle.choosing.specs.FaceNodes.{size_from}
-use Rattle.choosing.proofs.FillLaws.{Filling, filling_begun, filling_opened, filling_passed, filling_done}
+use Prim.Native.Nat.{◌-◌, ◌≤◌}
+use Rattle.choosing.proofs.FillLaws.{Filling}
 use Rattle.choosing.proofs.fill.Given as goal
 
 abbrev pub invariant-loop-i : goal.invariant-loop-i

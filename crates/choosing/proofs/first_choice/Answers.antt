@@ -1,5 +1,4 @@
 -- `first_choice`: filling from the first node on.
-use borrow.Author.Rules.{rules}
 use Rattle.choosing.proofs.FillLaws.{first_is}
 use Rattle.choosing.proofs.first_choice.Goals as goal
 

@@ -1,12 +1,8 @@
 -- `is_choice`. The loop's invariant: the nodes before node i are passed as a path passes them.
-use borrow.Author.Rules.{rules}
 use mathlib.Core.Path.{◌≡◌, sym, ◌∙◌, subst, subst₂}
 use mathlib.Core.Bool.{false≢true}
 use native.Mathlib.Omega.{arith}
-use borrow.Author.Tests.{not-true, not-false}
-use Prim.Native.Nat.{suc, ◌+◌, ◌-◌, ◌≤◌}
-use Rattle.meaning.specs.Limits.{max_face_nodes}
-use Rattle.choosing.specs.FaceNodes.{size_from}
+use Prim.Native.Nat.{suc, ◌+◌}
 use Rattle.choosing.proofs.TestLaws.{Tested, tested_begun, tested_done, tested_hole, tested_none, tested_refused}
 use Rattle.choosing.proofs.is_choice.Goals as goal
 

@@ -1,10 +1,6 @@
 -- `last`. The loop's invariant: the set has no node from node i on.
-use borrow.Author.Rules.{rules}
-use mathlib.Core.Path.{◌≡◌, sym, ◌∙◌}
-use mathlib.Core.Bool.{false}
+use mathlib.Core.Path.{sym, ◌∙◌}
 use native.Mathlib.Omega.{arith}
-use Prim.Native.Nat.{ℕ, ◌≤◌}
-use lib.ListN.{get_or}
 use Rattle.masks.specs.Sets.{nodes}
 use Rattle.choosing.proofs.NextLaws.{none_down, some_node}
 use Rattle.choosing.proofs.last.Goals as goal

@@ -1,12 +1,9 @@
 -- `last`. The loop's invariant: the set has no node from node i on.
-use borrow.Author.Rules.{rules}
-use mathlib.Core.Path.{◌≡◌, sym, ◌∙◌}
+use mathlib.Core.Path.{◌≡◌}
 use mathlib.Core.Bool.{false}
-use native.Mathlib.Omega.{arith}
 use Prim.Native.Nat.{ℕ, ◌≤◌}
 use lib.ListN.{get_or}
 use Rattle.masks.specs.Sets.{nodes}
-use Rattle.choosing.proofs.NextLaws.{none_down, some_node}
 use Rattle.choosing.proofs.last.Given as goal
 
 abbrev pub invariant-loop-i : goal.invariant-loop-i

@@ -1,5 +1,4 @@
 -- `left_at`: a law for each answer.
-use borrow.Author.Rules.{rules}
 use mathlib.Core.Path.{refl, sym, ◌∙◌}
 use Rattle.choosing.proofs.NextLaws.{left_alone, left_other}
 use Rattle.choosing.proofs.left_at.Goals as goal

@@ -1,5 +1,4 @@
 -- `next_choice`: the last node gives way.
-use borrow.Author.Rules.{rules}
 use native.Mathlib.Omega.{arith}
 use Prim.Native.Nat.{◌<◌}
 use Rattle.choosing.specs.FaceNodes.{size_from}

@@ -1,5 +1,4 @@
 -- `opens`: a law for each answer.
-use borrow.Author.Rules.{rules}
 use mathlib.Core.Path.{sym, ◌∙◌}
 use Prim.Native.Nat.{◌+◌}
 use Rattle.choosing.proofs.WalkLaws.{used, opens_below, opens_bound, opens_equal, opens_first}

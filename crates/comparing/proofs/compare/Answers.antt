@@ -1,12 +1,11 @@
 -- `compare` meets its contract.
-use borrow.Author.Rules.{rules}
 use Rattle.comparing.proofs.compare.Goals as goal
 
 pub compare_across-requires : goal.compare_across-requires
 compare_across-requires c =
     record {
-        first_in = record { starts = c.requires.first_in; ends = c.requires.nested.ends c.args.a c.requires.first_in };
-        second_in = record { starts = c.requires.second_in; ends = c.requires.nested.ends c.args.b c.requires.second_in };
+      first_in = record { starts = c.requires.first_in; ends = c.requires.nested.ends c.args.a c.requires.first_in };
+      second_in = record { starts = c.requires.second_in; ends = c.requires.nested.ends c.args.b c.requires.second_in };
     }
 
 pub returns : goal.returns

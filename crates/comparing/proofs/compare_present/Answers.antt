@@ -21,9 +21,9 @@ pub compare-requires : goal.compare-requires
 compare-requires c =
     let n = length-take-le c.args.n c.args.es.now c.requires.front in
     record {
-        nested = c.requires.nested;
-        first_in = omega arith;
-        second_in = omega arith;
+      nested = c.requires.nested;
+      first_in = omega arith;
+      second_in = omega arith;
     }
 
 pub returns : goal.returns

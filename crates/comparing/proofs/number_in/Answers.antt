@@ -6,7 +6,6 @@ use native.Mathlib.Omega.{arith}
 use Rattle.meaning.specs.Basics.{All}
 use Rattle.accept.proofs.AcceptanceLaws.{are_bytes_lem}
 use Rattle.comparing.proofs.Answering.{numbers_refused, table_inside, table_numbers, table_short, answers_numbered}
-use borrow.Author.Rules.{rules}
 use Rattle.comparing.proofs.number_in.Goals as goal
 
 pub number_present-requires : goal.number_present-requires
@@ -14,9 +13,9 @@ number_present-requires c =
     let s : List ℕ = c.args.problem.now in
     let bytes : All (λ b. b < 256) s = are_bytes_lem s (λ i. omega (arith, c.type_inv.problem i)) in
     let short = table_short s _ _ _ _ _ bytes _ c.accept.ensures c.in-Accepted.standing c.in-Accepted.is in record {
-        front = table_inside s _ _ _ _ _ bytes _ c.accept.ensures c.in-Accepted.standing c.in-Accepted.is;
-        numerable = table_numbers s _ _ _ _ _ bytes _ c.accept.ensures c.in-Accepted.standing c.in-Accepted.is;
-        room = (short, omega (arith, c.requires));
+      front = table_inside s _ _ _ _ _ bytes _ c.accept.ensures c.in-Accepted.standing c.in-Accepted.is;
+      numerable = table_numbers s _ _ _ _ _ bytes _ c.accept.ensures c.in-Accepted.standing c.in-Accepted.is;
+      room = (short, omega (arith, c.requires));
     }
 
 pub returns-in-Refused : goal.returns-in-Refused

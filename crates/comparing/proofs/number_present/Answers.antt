@@ -5,7 +5,6 @@ use Prim.Native.Nat.{ℕ}
 use lib.ListN.{length-replicate}
 use lib.Seq.{length-take-le}
 use Rattle.table.specs.Whole.{table_room}
-use borrow.Author.Rules.{rules}
 use Rattle.comparing.proofs.number_present.Goals as goal
 
 pub slice_bounds-number-end : goal.slice_bounds-number-end

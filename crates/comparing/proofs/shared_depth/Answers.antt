@@ -1,6 +1,5 @@
 -- `shared_depth` meets its contract.
 use Rattle.comparing.proofs.SharedLaws.{shared_turned}
-use borrow.Author.Rules.{rules}
 use Rattle.comparing.proofs.shared_depth.Goals as goal
 
 pub returns : goal.returns

@@ -1,9 +1,7 @@
 -- `shared_from` meets its contract. The loop's invariant: the least depth of all nodes that it has passed. The measure is the number of nodes
 -- left up to b.
-use Prim.Native.Nat.{◌+◌, ◌-◌}
 use native.Mathlib.Omega.{arith}
-use Rattle.comparing.proofs.SharedLaws.{Passed, passed_first, passed_next, passed_none, passed_all}
-use borrow.Author.Rules.{rules}
+use Rattle.comparing.proofs.SharedLaws.{passed_first, passed_next, passed_none, passed_all}
 use Rattle.comparing.proofs.shared_from.Goals as goal
 
 pub overflow_add-next : goal.overflow_add-next

@@ -1,6 +1,5 @@
 -- `copying::copy` meets its contract: it is `copy_term` at the copied term itself.
 use Rattle.copying.proofs.CopyLaws.{whole_copied, whole_copies}
-use borrow.Author.Rules.{rules}
 use Rattle.copying.proofs.copy.Goals as goal
 
 pub copy_term-requires : goal.copy_term-requires

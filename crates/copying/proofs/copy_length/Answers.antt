@@ -4,7 +4,6 @@ use native.Mathlib.Omega.{arith}
 use borrow.Author.Tests.{eqb-true, eqb-false}
 use Rattle.copying.proofs.SpanLaws.{term_inside}
 use Rattle.copying.proofs.BodyLaws.{body_measured, body_saved, empty_measured, hole_head, hole_measurable}
-use borrow.Author.Rules.{rules}
 use Rattle.copying.proofs.copy_length.Goals as goal
 
 pub returns-then-is_empty : goal.returns-then-is_empty

@@ -2,7 +2,6 @@
 use mathlib.Core.Path.{◌∙◌}
 use Rattle.copying.proofs.FixedLaws.{fixed_symbol, fixed_variable, fixed_binder, fixed_none, symbol_long, number_long, numbers_long}
 use Rattle.copying.proofs.FixedLaws.{none_long}
-use borrow.Author.Rules.{rules}
 use Rattle.copying.proofs.fixed_length.Goals as goal
 
 pub returns-in-1 : goal.returns-in-1

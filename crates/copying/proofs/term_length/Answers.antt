@@ -1,10 +1,10 @@
 -- `copying::term_length` meets its contract. The loop's invariant is `Measuring`; the measure is the number of nodes left of the term.
-use Prim.Native.Nat.{◌+◌, ◌-◌}
+use Prim.Native.Nat.{◌+◌}
 use native.Mathlib.Omega.{arith}
 use Rattle.tokens.specs.Key.{at}
 use Rattle.copying.proofs.FixedLaws.{fixed_short}
 use Rattle.copying.proofs.SpanLaws.{term_inside}
-use Rattle.copying.proofs.MeasureLaws.{Measuring, measure_begins, measure_ends, measure_goes_on}
+use Rattle.copying.proofs.MeasureLaws.{measure_begins, measure_ends, measure_goes_on}
 use borrow.Author.Rules.{rules}
 use Rattle.copying.proofs.term_length.Goals as goal
 

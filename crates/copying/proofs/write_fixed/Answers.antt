@@ -12,19 +12,17 @@ write_symbol-requires c =
     omega (arith, symbol_long _ _ fixed c.symbol.ensures, c.requires)
 
 pub write_word-requires : goal.write_word-requires
-write_word-requires c =
-    (
-      search rules,
-      omega (arith, number_long _ (fixed_variable _ _ c.tag.ensures c.in-2.is), c.requires),
-    )
+write_word-requires c = (
+  search rules,
+  omega (arith, number_long _ (fixed_variable _ _ c.tag.ensures c.in-2.is), c.requires),
+)
 
 pub write_words-requires : goal.write_words-requires
-write_words-requires c =
-    (
-      search rules,
-      search rules,
-      omega (arith, numbers_long _ (fixed_binder _ _ c.tag.ensures c.in-4.is), c.requires),
-    )
+write_words-requires c = (
+  search rules,
+  search rules,
+  omega (arith, numbers_long _ (fixed_binder _ _ c.tag.ensures c.in-4.is), c.requires),
+)
 
 pub returns-in-1 : goal.returns-in-1
 returns-in-1 c =

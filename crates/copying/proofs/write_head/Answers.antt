@@ -2,7 +2,6 @@
 use native.Mathlib.Omega.{arith}
 use lib.ListN.{length-set}
 use Rattle.copying.proofs.WriteLaws.{three_bytes}
-use borrow.Author.Rules.{rules}
 use Rattle.copying.proofs.write_head.Goals as goal
 
 pub bounds-out-1 : goal.bounds-out-1

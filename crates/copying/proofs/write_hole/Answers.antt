@@ -1,6 +1,5 @@
 -- `copying::write_hole` meets its contract: a head of no content.
 use Rattle.copying.proofs.WriteLaws.{hole_wrote}
-use borrow.Author.Rules.{rules}
 use Rattle.copying.proofs.write_hole.Goals as goal
 
 pub returns : goal.returns

@@ -1,6 +1,5 @@
 -- `copying::write_word` meets its contract: two stores at the front.
 use Rattle.copying.proofs.WriteLaws.{two_bytes}
-use borrow.Author.Rules.{rules}
 use Rattle.copying.proofs.write_word.Goals as goal
 
 pub returns : goal.returns

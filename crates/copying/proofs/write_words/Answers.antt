@@ -1,6 +1,5 @@
 -- `copying::write_words` meets its contract: the second number goes into the part after the first.
 use Rattle.copying.proofs.WriteLaws.{words_wrote}
-use borrow.Author.Rules.{rules}
 use Rattle.copying.proofs.write_words.Goals as goal
 
 pub returns : goal.returns

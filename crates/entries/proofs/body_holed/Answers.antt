@@ -1,7 +1,6 @@
 -- `body_holed` meets its contract: a body lies in the table, so that it can be searched for a hole.
 use Rattle.meaning.specs.Limits.{metavariable_count}
 use Rattle.entries.proofs.HoleLaws.{holed_none, holed_body}
-use borrow.Author.Rules.{rules}
 use Rattle.entries.proofs.body_holed.Goals as goal
 
 pub returns-then-tags-i-ne-BODY : goal.returns-then-tags-i-ne-BODY

@@ -1,7 +1,5 @@
 -- `has_hole` meets its contract. The loop's invariant is `Looking`; the measure is the number of nodes left.
-use Prim.Native.Nat.{◌-◌}
-use Rattle.entries.proofs.HoleLaws.{Looking, looking_begins, looking_ends, looking_stops, looking_goes_on}
-use borrow.Author.Rules.{rules}
+use Rattle.entries.proofs.HoleLaws.{looking_begins, looking_ends, looking_stops, looking_goes_on}
 use Rattle.entries.proofs.has_hole.Goals as goal
 
 pub loop-i-init : goal.loop-i-init

@@ -1,11 +1,9 @@
 -- `having` meets its contract. The loop's invariant: the set has the metavariables below m whose field has the tag. The measure is the
 -- number of metavariables left.
-use mathlib.Core.Path.{refl}
 use Prim.Native.Nat.{◌-◌}
 use lib.Dec.{eqb}
 use Rattle.tokens.specs.Key.{at}
-use Rattle.entries.proofs.SetLaws.{Gathered, gathered_none, gathered_more, gathered_all}
-use borrow.Author.Rules.{rules}
+use Rattle.entries.proofs.SetLaws.{Gathered}
 use Rattle.entries.proofs.having.Given as goal
 
 abbrev pub invariant-loop-m : goal.invariant-loop-m

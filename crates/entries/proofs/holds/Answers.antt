@@ -1,6 +1,5 @@
 -- `holds` meets its contract: no number past the last metavariable is in a set.
 use Rattle.entries.proofs.SetLaws.{holds_none}
-use borrow.Author.Rules.{rules}
 use Rattle.entries.proofs.holds.Goals as goal
 
 pub returns-else-m : goal.returns-else-m

@@ -1,9 +1,6 @@
 -- `holed` meets its contract. The loop's invariant: the set has the metavariables below m whose body has a hole. The measure is the
 -- number of metavariables left.
-use Prim.Native.Nat.{◌-◌}
-use Rattle.entries.specs.Holes.{holed_at}
-use Rattle.entries.proofs.SetLaws.{Gathered, gathered_none, gathered_more, gathered_all}
-use borrow.Author.Rules.{rules}
+use Rattle.entries.proofs.SetLaws.{gathered_none, gathered_more, gathered_all}
 use Rattle.entries.proofs.holed.Goals as goal
 
 pub loop-m-init : goal.loop-m-init

@@ -2,8 +2,7 @@
 -- number of metavariables left.
 use Prim.Native.Nat.{◌-◌}
 use Rattle.entries.specs.Holes.{holed_at}
-use Rattle.entries.proofs.SetLaws.{Gathered, gathered_none, gathered_more, gathered_all}
-use borrow.Author.Rules.{rules}
+use Rattle.entries.proofs.SetLaws.{Gathered}
 use Rattle.entries.proofs.holed.Given as goal
 
 abbrev pub invariant-loop-m : goal.invariant-loop-m

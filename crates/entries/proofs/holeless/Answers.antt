@@ -1,6 +1,5 @@
 -- `holeless` meets its contract: one law for each return.
 use Rattle.entries.proofs.NeededLaws.{holeless_other, holeless_function}
-use borrow.Author.Rules.{rules}
 use Rattle.entries.proofs.holeless.Goals as goal
 
 pub returns-then-tag-eq6 : goal.returns-then-tag-eq6

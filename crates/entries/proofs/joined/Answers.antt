@@ -1,6 +1,5 @@
 -- `joined` meets its contract: a 1 shifted to bit m is joined by `|`; a number past the last metavariable adds nothing.
 use Rattle.entries.proofs.SetLaws.{joined_no, joined_in, joined_out}
-use borrow.Author.Rules.{rules}
 use Rattle.entries.proofs.joined.Goals as goal
 
 pub returns-then-not-test : goal.returns-then-not-test

@@ -1,6 +1,5 @@
 -- `kinds` meets its contract: one law for each return.
 use Rattle.entries.proofs.FieldLaws.{kinds_refused, kinds_returns}
-use borrow.Author.Rules.{rules}
 use Rattle.entries.proofs.kinds.Goals as goal
 
 pub returns-then-not-within : goal.returns-then-not-within

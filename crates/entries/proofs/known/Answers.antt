@@ -1,6 +1,5 @@
 -- `known` meets its contract.
 use Rattle.entries.proofs.FieldLaws.{known_returns}
-use borrow.Author.Rules.{rules}
 use Rattle.entries.proofs.known.Goals as goal
 
 pub returns : goal.returns

@@ -1,10 +1,7 @@
 -- `needed` meets its contract. The loop's invariant is `Needing`; the measure is the number of tokens left.
-use mathlib.Core.Path.{sym, ◌∙◌}
 use Prim.Native.Nat.{◌-◌}
-use native.Mathlib.Omega.{arith}
 use lib.ListN.{length}
-use Rattle.entries.proofs.NeededLaws.{Needing, needing_begins, needing_ends, needing_passes, needing_goes_on}
-use borrow.Author.Rules.{rules}
+use Rattle.entries.proofs.NeededLaws.{Needing}
 use Rattle.entries.proofs.needed.Given as goal
 
 abbrev pub invariant-loop-i : goal.invariant-loop-i

@@ -1,6 +1,5 @@
 -- `unneeded_open` meets its contract.
 use Rattle.entries.proofs.FieldLaws.{unneeded_returns}
-use borrow.Author.Rules.{rules}
 use Rattle.entries.proofs.unneeded_open.Goals as goal
 
 pub returns : goal.returns

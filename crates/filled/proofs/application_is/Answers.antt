@@ -1,6 +1,5 @@
 -- `application_is` meets its contract: the function is the slot's payload, and one law for each return.
 use native.Mathlib.Omega.{arith}
-use borrow.Author.Rules.{rules}
 use Rattle.meaning.specs.Limits.{metavariable_count}
 use Rattle.filled.proofs.CodeLaws.{application_number, application_without, application_bodied, application_given}
 use Rattle.filled.proofs.application_is.Goals as goal

@@ -1,12 +1,7 @@
 -- `arguments_are` meets its contract. The loop's invariant: the holes that are left decide, and what is lent has kept its length. The
 -- measure is the number of holes left.
-use mathlib.Core.Path.{◌≡◌, refl, ◌∙◌}
-use Prim.Native.Nat.{◌-◌}
-use lib.ListN.{length}
-use borrow.Author.Rules.{rules}
-use Rattle.filled.specs.Filled.{hole_at}
-use Rattle.filled.specs.Ready.{ArguedAt}
-use Rattle.filled.proofs.CodeLaws.{Testing, testing_ready, testing_fails, testing_goes, testing_ends, problem_again}
+use mathlib.Core.Path.{refl, ◌∙◌}
+use Rattle.filled.proofs.CodeLaws.{testing_ready, testing_fails, testing_goes, testing_ends, problem_again}
 use Rattle.filled.proofs.arguments_are.Goals as goal
 
 pub loop-k-init : goal.loop-k-init
@@ -27,11 +22,10 @@ returns-then-not-argument_is c =
     testing_fails c.loop-k.invariant.1 c.loop-k-test.true c.argument_is.result c.argument_is.ensures c.if-not-argument_is.true-raw
 
 pub loop-k-preserved : goal.loop-k-preserved
-loop-k-preserved c =
-    (
-      c.argument_is.auto.scratch ∙ c.loop-k.invariant.0,
-      testing_goes c.loop-k.invariant.1 c.loop-k-test.true c.argument_is.result c.argument_is.ensures c.if-not-argument_is.false-raw,
-    )
+loop-k-preserved c = (
+  c.argument_is.auto.scratch ∙ c.loop-k.invariant.0,
+  testing_goes c.loop-k.invariant.1 c.loop-k-test.true c.argument_is.result c.argument_is.ensures c.if-not-argument_is.false-raw,
+)
 
 pub shape_of-scratch : goal.shape_of-scratch
 shape_of-scratch c = c.loop-k.invariant.0

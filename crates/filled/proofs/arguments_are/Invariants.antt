@@ -1,12 +1,11 @@
 -- `arguments_are` meets its contract. The loop's invariant: the holes that are left decide, and what is lent has kept its length. The
 -- measure is the number of holes left.
-use mathlib.Core.Path.{◌≡◌, refl, ◌∙◌}
+use mathlib.Core.Path.{◌≡◌}
 use Prim.Native.Nat.{◌-◌}
 use lib.ListN.{length}
-use borrow.Author.Rules.{rules}
 use Rattle.filled.specs.Filled.{hole_at}
 use Rattle.filled.specs.Ready.{ArguedAt}
-use Rattle.filled.proofs.CodeLaws.{Testing, testing_ready, testing_fails, testing_goes, testing_ends, problem_again}
+use Rattle.filled.proofs.CodeLaws.{Testing}
 use Rattle.filled.proofs.arguments_are.Given as goal
 
 abbrev pub invariant-loop-k : goal.invariant-loop-k

@@ -1,6 +1,5 @@
 -- `face_is` meets its contract: by the tag of the slot.
 use mathlib.Core.Path.{sym, ◌∙◌}
-use borrow.Author.Rules.{rules}
 use Rattle.filled.proofs.CodeLaws.{face_plain, face_applies}
 use Rattle.filled.proofs.face_is.Goals as goal
 

@@ -1,5 +1,4 @@
 -- `faced_value_is` meets its contract: the number is the slot's payload.
-use borrow.Author.Rules.{rules}
 use Rattle.filled.proofs.CodeLaws.{faced_asks, faced_answer}
 use Rattle.filled.proofs.faced_value_is.Goals as goal
 

@@ -1,12 +1,8 @@
 -- `filled` meets its contract. The loop's invariant: the faces that are left decide, and what is lent has kept its length. The measure is
 -- the number of faces left.
-use mathlib.Core.Path.{◌≡◌, refl, ◌∙◌}
-use Prim.Native.Nat.{◌-◌}
-use lib.ListN.{length}
-use borrow.Author.Rules.{rules}
-use Rattle.filled.specs.Filled.{face_at, filled_at}
-use Rattle.filled.specs.Ready.{Slotted}
-use Rattle.filled.proofs.CodeLaws.{Testing, testing_ready, testing_fails, testing_goes, testing_ends, problem_again, text_again}
+use mathlib.Core.Path.{refl, ◌∙◌}
+use Rattle.filled.specs.Filled.{filled_at}
+use Rattle.filled.proofs.CodeLaws.{testing_ready, testing_fails, testing_goes, testing_ends, problem_again, text_again}
 use Rattle.filled.proofs.Meaning.{grounded_tables, grounded_text, grounded_slots}
 use Rattle.filled.proofs.filled.Goals as goal
 

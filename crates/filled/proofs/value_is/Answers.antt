@@ -25,8 +25,8 @@ bounds-said-m-2 c = search rules
 pub same_across-requires : goal.same_across-requires
 same_across-requires c =
     record {
-        first_in = c.requires.0.value c.if-said-m-ne-VALUE.false;
-        second_in = c.requires.1;
+      first_in = c.requires.0.value c.if-said-m-ne-VALUE.false;
+      second_in = c.requires.1;
     }
 
 pub returns : goal.returns

@@ -1,11 +1,6 @@
 -- `values_are` meets its contract. The loop's invariant: the faces that are left decide. The measure is their number.
 use mathlib.Core.Path.{refl}
-use Prim.Native.Nat.{◌-◌}
-use lib.ListN.{length}
-use borrow.Author.Rules.{rules}
-use Rattle.filled.specs.Filled.{faced_value_at}
-use Rattle.filled.specs.Ready.{Faced}
-use Rattle.filled.proofs.CodeLaws.{Testing, testing_ready, testing_fails, testing_goes, testing_ends}
+use Rattle.filled.proofs.CodeLaws.{testing_ready, testing_fails, testing_goes, testing_ends}
 use Rattle.filled.proofs.values_are.Goals as goal
 
 pub loop-k-init : goal.loop-k-init

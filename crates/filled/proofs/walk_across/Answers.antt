@@ -1,5 +1,4 @@
 -- `walk_across` meets its contract: the span is made of the parts of the two tokens.
-use borrow.Author.Rules.{rules}
 use Rattle.filled.proofs.CodeLaws.{across_lent, across_walked}
 use Rattle.filled.proofs.walk_across.Goals as goal
 

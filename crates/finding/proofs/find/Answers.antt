@@ -1,5 +1,4 @@
 -- `find`.
-use borrow.Author.Rules.{rules}
 use native.Mathlib.Omega.{arith}
 use Rattle.accept.proofs.AcceptanceLaws.{are_bytes_lem}
 use Rattle.finding.proofs.FindingLaws.{nothing_found, text_found, never_refused}

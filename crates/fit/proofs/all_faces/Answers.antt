@@ -1,5 +1,4 @@
 -- `all_faces` meets its contract: the plain faces, and then the applications.
-use borrow.Author.Rules.{rules}
 use Rattle.masks.specs.Sets.{masks_in}
 use Rattle.fit.proofs.CodeLaws.{none_kept_lem, plain_fails, plain_stays, then_applied}
 use Rattle.fit.proofs.all_faces.Goals as goal

@@ -1,7 +1,6 @@
 -- `application_demanded` meets its contract: one law for each return.
 use mathlib.Core.Bool.{not}
 use mathlib.Core.Path.{ap, sym, ◌∙◌}
-use borrow.Author.Rules.{rules}
 use borrow.Author.Tests.{eqb-true, eqb-false}
 use Rattle.masks.specs.Sets.{mask}
 use Rattle.fit.proofs.CodeLaws.{application_unsuited, application_suited, application_open, application_filled}

@@ -4,7 +4,6 @@ use mathlib.Core.Path.{◌≡◌, sym, subst}
 use mathlib.Core.List.{List}
 use Prim.Native.Nat.{ℕ, ◌+◌}
 use lib.Seq.{length-take-le}
-use borrow.Author.Rules.{rules}
 use Rattle.masks.specs.Sets.{mask}
 use Rattle.tokens.specs.Token.{depth_in, size_in}
 use Rattle.tokens.specs.Key.{at}
@@ -13,7 +12,7 @@ use Rattle.lockstep.specs.Walk.{pattern_node, expression_node}
 use Rattle.lockstep.specs.Span.{span_walk, Lent, Walked}
 use Rattle.lockstep.specs.declared.Span.{Span}
 use Rattle.lockstep.specs.declared.Shapes.{Shapes}
-use Rattle.lockstep.proofs.Answers.{Found, found, disagreed}
+use Rattle.lockstep.proofs.Answers.{found, disagreed}
 use Rattle.fit.specs.Judging.{argument_span}
 use Rattle.fit.proofs.CodeLaws.{span_is, argument_lent, argument_reads, argument_disagrees, argument_demands}
 use Rattle.fit.proofs.argument_demanded.Goals as goal
@@ -46,8 +45,8 @@ pub slice_bounds-all_demanded-end : goal.slice_bounds-all_demanded-end
 slice_bounds-all_demanded-end c =
     let a = c.args in
     let w =
-        walked a.ps.now a.es.now a.scratch.now c.walk_at.new.out a.face (mask a.set) c.lowest.result c.size.result
-        c.depth.result c.depth-2.result c.walk_at.result c.lowest.ensures c.size.ensures c.depth.ensures c.depth-2.ensures c.walk_at.ensures in
+    walked a.ps.now a.es.now a.scratch.now c.walk_at.new.out a.face (mask a.set) c.lowest.result c.size.result
+    c.depth.result c.depth-2.result c.walk_at.result c.lowest.ensures c.size.ensures c.depth.ensures c.depth-2.ensures c.walk_at.ensures in
     let f = found _ a.scratch.now c.walk_at.new.out c.walk_at.result w c.in-Faces.n c.in-Faces.is in
     f.room
 
@@ -55,8 +54,8 @@ pub slice_bounds-all_demanded-end-in-Faces : goal.slice_bounds-all_demanded-end-
 slice_bounds-all_demanded-end-in-Faces c =
     let a = c.args in
     let w =
-        walked a.ps.now a.es.now a.scratch.now c.walk_at.new.out a.face (mask a.set) c.lowest.result c.size.result
-        c.depth.result c.depth-2.result c.walk_at.result c.lowest.ensures c.size.ensures c.depth.ensures c.depth-2.ensures c.walk_at.ensures in
+    walked a.ps.now a.es.now a.scratch.now c.walk_at.new.out a.face (mask a.set) c.lowest.result c.size.result
+    c.depth.result c.depth-2.result c.walk_at.result c.lowest.ensures c.size.ensures c.depth.ensures c.depth-2.ensures c.walk_at.ensures in
     let f = found _ a.scratch.now c.walk_at.new.out c.walk_at.result w c.in-Faces.n c.in-Faces.is in
     sym (length-take-le c.in-Faces.n c.walk_at.new.out f.room)
 
@@ -64,10 +63,9 @@ pub all_demanded-requires : goal.all_demanded-requires
 all_demanded-requires c =
     let a = c.args in
     let w =
-        walked a.ps.now a.es.now a.scratch.now c.walk_at.new.out a.face (mask a.set) c.lowest.result c.size.result
-        c.depth.result c.depth-2.result c.walk_at.result c.lowest.ensures c.size.ensures c.depth.ensures c.depth-2.ensures c.walk_at.ensures in
-    let f = found _ a.scratch.now c.walk_at.new.out c.walk_at.result w c.in-Faces.n c.in-Faces.is in
-    (
+    walked a.ps.now a.es.now a.scratch.now c.walk_at.new.out a.face (mask a.set) c.lowest.result c.size.result
+    c.depth.result c.depth-2.result c.walk_at.result c.lowest.ensures c.size.ensures c.depth.ensures c.depth-2.ensures c.walk_at.ensures in
+    let f = found _ a.scratch.now c.walk_at.new.out c.walk_at.result w c.in-Faces.n c.in-Faces.is in (
       c.requires.2,
       argument_reads a.ps.now a.es.now a.ns.now c.walk_at.new.out a.face (mask a.set) c.in-Faces.n c.requires.1 f,
     )
@@ -76,8 +74,8 @@ pub returns-in-Disagree : goal.returns-in-Disagree
 returns-in-Disagree c =
     let a = c.args in
     let w =
-        walked a.ps.now a.es.now a.scratch.now c.walk_at.new.out a.face (mask a.set) c.lowest.result c.size.result
-        c.depth.result c.depth-2.result c.walk_at.result c.lowest.ensures c.size.ensures c.depth.ensures c.depth-2.ensures c.walk_at.ensures in
+    walked a.ps.now a.es.now a.scratch.now c.walk_at.new.out a.face (mask a.set) c.lowest.result c.size.result
+    c.depth.result c.depth-2.result c.walk_at.result c.lowest.ensures c.size.ensures c.depth.ensures c.depth-2.ensures c.walk_at.ensures in
     let f = disagreed _ a.scratch.now c.walk_at.new.out c.walk_at.result w c.in-Disagree.is in
     argument_disagrees a.ps.now a.es.now a.ns.now a.face (mask a.set) a.kept.nodes f
 
@@ -85,8 +83,8 @@ pub returns-in-Faces : goal.returns-in-Faces
 returns-in-Faces c =
     let a = c.args in
     let w =
-        walked a.ps.now a.es.now a.scratch.now c.walk_at.new.out a.face (mask a.set) c.lowest.result c.size.result
-        c.depth.result c.depth-2.result c.walk_at.result c.lowest.ensures c.size.ensures c.depth.ensures c.depth-2.ensures c.walk_at.ensures in
+    walked a.ps.now a.es.now a.scratch.now c.walk_at.new.out a.face (mask a.set) c.lowest.result c.size.result
+    c.depth.result c.depth-2.result c.walk_at.result c.lowest.ensures c.size.ensures c.depth.ensures c.depth-2.ensures c.walk_at.ensures in
     let f = found _ a.scratch.now c.walk_at.new.out c.walk_at.result w c.in-Faces.n c.in-Faces.is in
     argument_demands a.ps.now a.es.now a.ns.now a.face (mask a.set) a.kept.nodes c.walk_at.new.out c.in-Faces.n f
     c.all_demanded.result c.all_demanded.ensures

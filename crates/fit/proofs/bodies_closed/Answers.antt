@@ -1,22 +1,18 @@
 -- `bodies_closed` meets its contract. The loop's invariant: the bodies from function k on are closed just when all are. The measure is the
 -- number of functions left.
-use mathlib.Core.Path.{◌≡◌, sym, ◌∙◌, ap}
+use mathlib.Core.Path.{sym, ◌∙◌, ap}
 use mathlib.Core.Bool.{not}
 use native.Mathlib.Omega.{arith}
-use Prim.Native.Nat.{◌-◌}
-use lib.ListN.{take, drop}
-use borrow.Author.Rules.{rules}
 use Rattle.meaning.specs.Limits.{max_functions}
 use Rattle.masks.specs.Sets.{masks_in}
-use Rattle.fit.specs.Judging.{bodies_closed}
 use Rattle.fit.proofs.CodeLaws.{read_mask, closed_ends, closed_fails, closed_next}
 use Rattle.fit.proofs.bodies_closed.Goals as goal
 
 pub body_closed-requires : goal.body_closed-requires
 body_closed-requires c =
     record {
-        table = c.requires.table;
-        inside = c.requires.inside c.loop-k.k c.loop-k-test.true;
+      table = c.requires.table;
+      inside = c.requires.inside c.loop-k.k c.loop-k-test.true;
     }
 
 pub returns-then-not-body_closed : goal.returns-then-not-body_closed

@@ -1,15 +1,10 @@
 -- `bodies_closed` meets its contract. The loop's invariant: the bodies from function k on are closed just when all are. The measure is the
 -- number of functions left.
-use mathlib.Core.Path.{◌≡◌, sym, ◌∙◌, ap}
-use mathlib.Core.Bool.{not}
-use native.Mathlib.Omega.{arith}
+use mathlib.Core.Path.{◌≡◌}
 use Prim.Native.Nat.{◌-◌}
 use lib.ListN.{take, drop}
-use borrow.Author.Rules.{rules}
-use Rattle.meaning.specs.Limits.{max_functions}
 use Rattle.masks.specs.Sets.{masks_in}
 use Rattle.fit.specs.Judging.{bodies_closed}
-use Rattle.fit.proofs.CodeLaws.{read_mask, closed_ends, closed_fails, closed_next}
 use Rattle.fit.proofs.bodies_closed.Given as goal
 
 abbrev pub invariant-loop-k : goal.invariant-loop-k

@@ -2,7 +2,6 @@
 use mathlib.Core.Path.{ap, sym, ◌∙◌, subst}
 use Prim.Native.Nat.{ℕ}
 use native.Mathlib.Omega.{arith}
-use borrow.Author.Rules.{rules}
 use Rattle.masks.specs.Sets.{masks_in}
 use Rattle.masks.proofs.Words.{masks_at}
 use Rattle.meaning.specs.Limits.{metavariable_count, max_functions}

@@ -1,14 +1,13 @@
 -- `faces_demanded` meets its contract. The loop's invariant: the faces that are left lead, from what is kept, where all of them lead from
 -- the
 -- start, and what is lent has kept its length. The measure is the number of faces left.
-use mathlib.Core.Path.{◌≡◌, refl, ◌∙◌}
+use mathlib.Core.Path.{◌≡◌}
 use Prim.Native.Nat.{◌-◌}
 use lib.ListN.{length}
-use borrow.Author.Rules.{rules}
 use Rattle.masks.specs.Sets.{masks_in}
 use Rattle.numbers.specs.Tests.{told}
 use Rattle.fit.specs.Judging.{faces_kept}
-use Rattle.fit.proofs.CodeLaws.{tables_again, Going, going_slots, going_on, going_fails, going_ends}
+use Rattle.fit.proofs.CodeLaws.{Going}
 use Rattle.fit.proofs.faces_demanded.Given as goal
 
 abbrev pub invariant-loop-k : goal.invariant-loop-k

@@ -1,7 +1,6 @@
 -- `judge` meets its contract: one law for each return.
 use mathlib.Core.Path.{ap, sym, ◌∙◌}
 use mathlib.Core.Bool.{not}
-use borrow.Author.Rules.{rules}
 use Rattle.masks.specs.Sets.{masks_in}
 use Rattle.fit.proofs.CodeLaws.{judges_open, closed_all, judges_closed}
 use Rattle.fit.proofs.judge.Goals as goal

@@ -1,5 +1,4 @@
 -- `count_line`.
-use borrow.Author.Rules.{rules}
 use native.Mathlib.Omega.{arith}
 use Rattle.listing.proofs.LineLaws.{count_put}
 use Rattle.listing.proofs.count_line.Goals as goal

@@ -1,5 +1,4 @@
 -- `found_line`.
-use borrow.Author.Rules.{rules}
 use mathlib.Core.Path.{refl}
 use Rattle.listing.proofs.LineLaws.{more_line, next_line}
 use Rattle.listing.proofs.found_line.Goals as goal

@@ -1,5 +1,4 @@
 -- `next_line`.
-use borrow.Author.Rules.{rules}
 use native.Mathlib.Omega.{arith}
 use Rattle.accept.proofs.AcceptanceLaws.{are_bytes_lem}
 use Rattle.listing.proofs.LineLaws.{text_room_lem, text_fits, found_next, end_next, paused_next, refused_next}

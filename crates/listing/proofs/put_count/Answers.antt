@@ -1,5 +1,4 @@
 -- `put_count`.
-use borrow.Author.Rules.{rules}
 use native.Mathlib.Omega.{arith}
 use Rattle.ascii.proofs.PutLaws.{put_both}
 use Rattle.ascii.proofs.DecimalLaws.{decimal_short}

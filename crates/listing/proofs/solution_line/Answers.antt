@@ -1,5 +1,4 @@
 -- `solution_line`.
-use borrow.Author.Rules.{rules}
 use native.Mathlib.Omega.{arith}
 use Rattle.meaning.specs.Program.{ascii}
 use Rattle.ascii.proofs.PutLaws.{put_both}

@@ -1,6 +1,5 @@
 -- `is_slot` meets its contract: whether the tag is above 4.
 use Rattle.lockstep.proofs.SpanLaws.{slot_tag_lem}
-use borrow.Author.Rules.{rules}
 use Rattle.lockstep.proofs.is_slot.Goals as goal
 
 pub returns : goal.returns

@@ -1,12 +1,7 @@
 -- `walk_at` meets its contract. The loop's invariant: the faces found so far and the walk of what is left make up the whole walk.
 -- The measure is the number of tokens left of the pattern.
-use mathlib.Core.Path.{sym, ◌∙◌}
 use Prim.Native.Nat.{◌-◌}
-use native.Mathlib.Omega.{arith}
-use borrow.Author.Tests.{not-true, not-false}
-use Rattle.lockstep.proofs.SpanLaws.{Walking, left_out, left_differs, walking_start, walking_same, walking_face, walked_disagree}
-use Rattle.lockstep.proofs.SpanLaws.{walked_end}
-use borrow.Author.Rules.{rules}
+use Rattle.lockstep.proofs.SpanLaws.{Walking}
 use Rattle.lockstep.proofs.walk_at.Given as goal
 
 abbrev pub invariant-loop-i : goal.invariant-loop-i

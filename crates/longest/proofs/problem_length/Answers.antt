@@ -1,5 +1,4 @@
 -- `problem_length` meets its contract.
-use borrow.Author.Rules.{rules}
 use Rattle.longest.proofs.WriteLaws.{length_one, length_several}
 use Rattle.longest.proofs.problem_length.Goals as goal
 

@@ -1,9 +1,8 @@
 -- `put` meets its contract. The loop's invariant: the first i bytes stand at the front, and the others are the buffer's.
-use borrow.Author.Rules.{rules}
 use native.Mathlib.Omega.{arith}
 use mathlib.Core.Path.{◌≡◌, refl, ap, ◌∙◌}
 use mathlib.Core.List.{◌++◌}
-use Prim.Native.Nat.{ℕ, ◌-◌, ◌≤◌}
+use Prim.Native.Nat.{ℕ}
 use lib.ListN.{length, drop, take, get_or, length-set}
 use lib.Seq.{take-length}
 use Rattle.meaning.specs.Basics.{Bytes}

@@ -1,13 +1,8 @@
 -- `put` meets its contract. The loop's invariant: the first i bytes stand at the front, and the others are the buffer's.
-use borrow.Author.Rules.{rules}
-use native.Mathlib.Omega.{arith}
-use mathlib.Core.Path.{◌≡◌, refl, ap, ◌∙◌}
+use mathlib.Core.Path.{◌≡◌}
 use mathlib.Core.List.{◌++◌}
-use Prim.Native.Nat.{ℕ, ◌-◌, ◌≤◌}
-use lib.ListN.{length, drop, take, get_or, length-set}
-use lib.Seq.{take-length}
-use Rattle.meaning.specs.Basics.{Bytes}
-use Rattle.longest.proofs.WriteLaws.{put_next}
+use Prim.Native.Nat.{◌-◌, ◌≤◌}
+use lib.ListN.{length, drop, take}
 use Rattle.longest.proofs.put.Given as goal
 
 abbrev pub invariant-loop-i : goal.invariant-loop-i

@@ -1,5 +1,4 @@
 -- `write_expression` meets its contract: a symbol alone, or symbols and then the head before them.
-use borrow.Author.Rules.{rules}
 use native.Mathlib.Omega.{arith}
 use Rattle.longest.proofs.WriteLaws.{application_counted, application_head, application_long, application_wrote}
 use Rattle.longest.proofs.WriteLaws.{symbol_room_one, symbol_wrote, symbols_fit}

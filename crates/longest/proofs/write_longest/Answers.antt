@@ -1,5 +1,4 @@
 -- `write_longest` meets its contract: 28, 29, or the problem.
-use borrow.Author.Rules.{rules}
 use Rattle.longest.proofs.WriteLaws.{longest_written, outside_refused, problem_room, short_refused}
 use Rattle.longest.proofs.write_longest.Goals as goal
 

@@ -1,6 +1,5 @@
 -- `write_problem` meets its contract: the terms, and then the head before them.
 use Rattle.longest.proofs.WriteLaws.{constraint_head_lem, constraint_long, problem_long, problem_wrote, terms_room}
-use borrow.Author.Rules.{rules}
 use Rattle.longest.proofs.write_problem.Goals as goal
 
 pub slice_bounds-write_terms-count : goal.slice_bounds-write_terms-count

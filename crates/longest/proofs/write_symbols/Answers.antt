@@ -1,8 +1,6 @@
 -- `write_symbols` meets its contract. The loop's invariant: i symbols are written.
-use borrow.Author.Rules.{rules}
 use native.Mathlib.Omega.{arith}
-use Prim.Native.Nat.{◌-◌}
-use Rattle.longest.proofs.WriteLaws.{Symbols, symbol_fits, symbol_room, symbol_start, symbols_begin, symbols_end, symbols_go}
+use Rattle.longest.proofs.WriteLaws.{symbol_fits, symbol_room, symbol_start, symbols_begin, symbols_end, symbols_go}
 use Rattle.longest.proofs.write_symbols.Goals as goal
 
 pub loop-i-init : goal.loop-i-init

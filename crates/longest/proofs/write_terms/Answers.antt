@@ -1,6 +1,5 @@
 -- `write_terms` meets its contract: the pattern before the expression.
 use Rattle.longest.proofs.WriteLaws.{terms_wrote}
-use borrow.Author.Rules.{rules}
 use Rattle.longest.proofs.write_terms.Goals as goal
 
 pub returns : goal.returns

@@ -1,5 +1,4 @@
 -- `masks::bit`: a 1 that is shifted to node k's place.
-use borrow.Author.Rules.{rules}
 use Rattle.masks.specs.Sets.{word_nodes}
 use Rattle.masks.proofs.Nodes.{shift_only}
 use Rattle.masks.proofs.bit.Goals as goal

@@ -1,5 +1,4 @@
 -- `masks::in_word`: the digit at node k's place is its mark.
-use borrow.Author.Rules.{rules}
 use Rattle.masks.specs.Sets.{word_nodes}
 use Rattle.masks.proofs.Nodes.{shift_test}
 use Rattle.masks.proofs.in_word.Goals as goal

@@ -1,5 +1,4 @@
 -- `masks::word_with`: a node is added by `|`.
-use borrow.Author.Rules.{rules}
 use mathlib.Core.Path.{ap, ◌∙◌}
 use Prim.Native.Nat.{ℕ}
 use lib.Bits.{bit_or}

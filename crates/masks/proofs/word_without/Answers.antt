@@ -1,5 +1,4 @@
 -- `masks::word_without`: a node that is there is its bit, and is left out by `-`.
-use borrow.Author.Rules.{rules}
 use mathlib.Core.Path.{ap, sym, ◌∙◌}
 use native.Mathlib.Omega.{arith}
 use Prim.Native.Nat.{ℕ, ◌-◌}

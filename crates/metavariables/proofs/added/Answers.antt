@@ -1,6 +1,5 @@
 -- `survey::added` meets its contract: a 1 shifted to bit m is joined by `|`; a number past the last metavariable adds nothing.
 use Rattle.metavariables.proofs.SurveyLaws.{added_in, added_out}
-use borrow.Author.Rules.{rules}
 use Rattle.metavariables.proofs.added.Goals as goal
 
 pub returns-then-m : goal.returns-then-m

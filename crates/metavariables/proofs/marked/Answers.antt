@@ -3,7 +3,6 @@ use mathlib.Core.Path.{subst, sym, ◌∙◌}
 use Prim.Native.Nat.{ℕ}
 use Rattle.metavariables.specs.Survey.{Added}
 use Rattle.metavariables.proofs.SurveyLaws.{marked_yes, marked_no}
-use borrow.Author.Rules.{rules}
 use Rattle.metavariables.proofs.marked.Goals as goal
 
 pub returns-then-tag-kind : goal.returns-then-tag-kind

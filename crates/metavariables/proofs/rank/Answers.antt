@@ -1,7 +1,6 @@
 -- `rank` meets its contract: the remainder by a 1 shifted to bit m has the bits below m.
 use native.Mathlib.Omega.{arith}
 use lib.Pow.{pow_pos}
-use borrow.Author.Rules.{rules}
 use Rattle.metavariables.proofs.SurveyLaws.{one_shifted, rank_small, rank_code}
 use Rattle.metavariables.proofs.rank.Goals as goal
 

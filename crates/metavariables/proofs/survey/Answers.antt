@@ -1,9 +1,6 @@
 -- `survey::survey` meets its contract. The loop's invariant: what is in the two sets and what is left of the tokens make up all numbers of
 -- the tag. The measure is the number of tokens left.
-use Prim.Native.Nat.{◌-◌}
-use lib.ListN.{length}
-use Rattle.metavariables.proofs.SurveyLaws.{Seen, seen_none, seen_more, seen_all}
-use borrow.Author.Rules.{rules}
+use Rattle.metavariables.proofs.SurveyLaws.{seen_none, seen_more, seen_all}
 use Rattle.metavariables.proofs.survey.Goals as goal
 
 pub loop-i-init : goal.loop-i-init

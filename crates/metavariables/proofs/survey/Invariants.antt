@@ -2,8 +2,7 @@
 -- the tag. The measure is the number of tokens left.
 use Prim.Native.Nat.{◌-◌}
 use lib.ListN.{length}
-use Rattle.metavariables.proofs.SurveyLaws.{Seen, seen_none, seen_more, seen_all}
-use borrow.Author.Rules.{rules}
+use Rattle.metavariables.proofs.SurveyLaws.{Seen}
 use Rattle.metavariables.proofs.survey.Given as goal
 
 abbrev pub invariant-loop-i : goal.invariant-loop-i

@@ -3,10 +3,9 @@ use borrow.Author.Rules.{rules}
 use borrow.Author.Count.{below_more}
 use borrow.Author.Tests.{not-true, not-false}
 use native.Mathlib.Omega.{arith}
-use Prim.Native.Nat.{ℕ, ◌-◌, ◌≤◌, ◌<◌}
 use mathlib.Core.Path.{◌≡◌, refl, ◌∙◌}
 use mathlib.Core.Bool.{false≢true}
-use lib.ListN.{length, get_or, length-map}
+use lib.ListN.{length, length-map}
 use Rattle.meaning.specs.Limits.{max_functions}
 use Rattle.masks.specs.Sets.{mask, masks_in}
 use Rattle.places.proofs.PlaceLaws.{zeros, empty_at, filled_at}

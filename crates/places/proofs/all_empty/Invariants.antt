@@ -1,15 +1,9 @@
 -- `all_empty`. The loop's invariant: each set looked at is empty.
-use borrow.Author.Rules.{rules}
-use borrow.Author.Count.{below_more}
-use borrow.Author.Tests.{not-true, not-false}
-use native.Mathlib.Omega.{arith}
 use Prim.Native.Nat.{ℕ, ◌-◌, ◌≤◌, ◌<◌}
-use mathlib.Core.Path.{◌≡◌, refl, ◌∙◌}
-use mathlib.Core.Bool.{false≢true}
-use lib.ListN.{length, get_or, length-map}
+use mathlib.Core.Path.{◌≡◌}
+use lib.ListN.{get_or}
 use Rattle.meaning.specs.Limits.{max_functions}
-use Rattle.masks.specs.Sets.{mask, masks_in}
-use Rattle.places.proofs.PlaceLaws.{zeros, empty_at, filled_at}
+use Rattle.masks.specs.Sets.{masks_in}
 use Rattle.places.proofs.all_empty.Given as goal
 
 abbrev pub invariant-loop-k : goal.invariant-loop-k

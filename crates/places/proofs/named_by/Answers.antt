@@ -1,7 +1,6 @@
 -- `named_by` meets its contract: a law for each answer.
 use mathlib.Core.Path.{sym, ◌∙◌}
 use mathlib.Core.Bool.{true≢false}
-use borrow.Author.Rules.{rules}
 use borrow.Author.Tests.{not-true, not-false}
 use Rattle.places.proofs.PlaceLaws.{tells_past, tells_row, tells_no_past, tells_no_rows, tells_no_row}
 use Rattle.places.proofs.named_by.Goals as goal

@@ -1,10 +1,5 @@
 -- src/lib.rt:40:9
-use borrow.Author.Rules.{rules}
 use Rattle.prepare.proofs.PreparedLaws.{nodes_looked_up, no_nodes_lem}
-use Rattle.prepare.proofs.nodes_of.Reads as reads
-use Rattle.prepare.proofs.nodes_of.Lts as lts
-use Rattle.faces.proofs.first.first_faces.Reads as first-faces-reads
-use Rattle.prepare.proofs.no_faces.Reads as no-faces-reads
 use Rattle.prepare.proofs.nodes_of.Goals as goal
 
 -- src/lib.rt:40:9

@@ -4,12 +4,10 @@ use mathlib.Core.Path.{refl, subst}
 use mathlib.Core.List.{List}
 use Prim.Native.Nat.{ℕ, ◌<◌}
 use native.Mathlib.Omega.{arith}
-use borrow.Author.Rules.{rules}
 use Rattle.meaning.specs.Basics.{All}
 use Rattle.meaning.specs.Accept.{accept}
 use Rattle.accept.specs.Acceptance.{Accepts}
 use Rattle.accept.specs.declared.Verdict.{Verdict}
-use Rattle.accept.specs.declared.Verdict.TheVariants as verdicts
 use Rattle.accept.proofs.AcceptanceLaws.{are_bytes_lem}
 use Rattle.prepare.proofs.PreparedLaws.{accepts_ground, prepares_refused, prepares_accepted}
 use Rattle.prepare.proofs.prepare.Goals as goal
@@ -22,8 +20,8 @@ with_numbers-requires c =
     let Accepted : Verdict → Type 0 = λ v. Accepts (accept s) c.args.ps.now after.0 c.args.es.now after.1 after.2 v in
     let accepted : Accepted c.accept-verdict.result = c.accept-verdict.ensures in
     record {
-        ground = accepts_ground s _ _ _ _ _ bytes c.in-Accepted.a (subst Accepted c.in-Accepted.is accepted);
-        room = c.requires.room;
+      ground = accepts_ground s _ _ _ _ _ bytes c.in-Accepted.a (subst Accepted c.in-Accepted.is accepted);
+      room = c.requires.room;
     }
 
 pub returns-in-Refused : goal.returns-in-Refused

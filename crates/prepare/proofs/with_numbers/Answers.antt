@@ -6,7 +6,6 @@ use native.Mathlib.Omega.{arith}
 use lib.ListN.{length, take}
 use lib.Seq.{length-take-le}
 use Rattle.table.specs.Whole.{table_room}
-use borrow.Author.Rules.{rules}
 use Rattle.numbers.proofs.AlikeLaws.{numbers_front}
 use Rattle.prepare.specs.Prepared.{Laid}
 use Rattle.prepare.proofs.PreparedLaws.{functions_few, table_numbers, table_few}

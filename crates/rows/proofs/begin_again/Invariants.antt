@@ -1,13 +1,8 @@
 -- `begin_again`. The loop's invariant: the functions from j on have begun again.
-use borrow.Author.Rules.{rules}
-use native.Mathlib.Omega.{arith}
-use Prim.Native.Nat.{ℕ, suc, ◌-◌, ◌≤◌}
-use mathlib.Core.Path.{◌≡◌, subst}
-use Rattle.meaning.specs.Limits.{max_functions}
+use Prim.Native.Nat.{◌≤◌}
+use mathlib.Core.Path.{◌≡◌}
 use Rattle.masks.specs.Sets.{masks_in}
-use Rattle.masks.proofs.Words.{masks_at}
 use Rattle.rows.specs.Rows.{begun}
-use Rattle.rows.proofs.RowLaws.{again_none, again_more}
 use Rattle.rows.proofs.begin_again.Given as goal
 
 abbrev pub invariant-loop-j : goal.invariant-loop-j

@@ -1,5 +1,4 @@
 -- `first_of`: the first choice of the face, or none.
-use borrow.Author.Rules.{rules}
 use native.Mathlib.Omega.{arith}
 use Rattle.meaning.specs.Limits.{max_functions}
 use Rattle.rows.proofs.RowLaws.{first_here, first_none}

@@ -1,7 +1,7 @@
 -- `first_row`. The loop's invariant: from function k on each set is its function's first choice.
 use borrow.Author.Rules.{rules}
 use native.Mathlib.Omega.{arith}
-use Prim.Native.Nat.{ℕ, suc, ◌-◌, ◌≤◌}
+use Prim.Native.Nat.{ℕ, suc, ◌-◌}
 use mathlib.Core.Path.{◌≡◌, refl, subst}
 use lib.ListN.{replicate}
 use Rattle.meaning.specs.Limits.{max_functions}
@@ -20,8 +20,8 @@ pub first_of-requires : goal.first_of-requires
 unfolding max_functions
 first_of-requires c =
     record {
-        faced = c.requires;
-        function = omega arith;
+      faced = c.requires;
+      function = omega arith;
     }
 
 pub offset_bounds-row-k : goal.offset_bounds-row-k

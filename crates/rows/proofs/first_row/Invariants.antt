@@ -1,11 +1,7 @@
 -- `first_row`. The loop's invariant: from function k on each set is its function's first choice.
-use borrow.Author.Rules.{rules}
-use native.Mathlib.Omega.{arith}
-use Prim.Native.Nat.{ℕ, suc, ◌-◌, ◌≤◌}
-use mathlib.Core.Path.{◌≡◌, refl, subst}
-use lib.ListN.{replicate}
+use Prim.Native.Nat.{◌≤◌}
 use Rattle.meaning.specs.Limits.{max_functions}
-use Rattle.rows.proofs.RowLaws.{Freshly, freshly_none, freshly_more, first_of_rows}
+use Rattle.rows.proofs.RowLaws.{Freshly}
 use Rattle.rows.proofs.first_row.Given as goal
 
 abbrev pub invariant-loop-k : goal.invariant-loop-k

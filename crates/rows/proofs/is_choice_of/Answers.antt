@@ -1,5 +1,4 @@
 -- `is_choice_of`: a choice of the face, or none.
-use borrow.Author.Rules.{rules}
 use native.Mathlib.Omega.{arith}
 use mathlib.Core.Path.{sym, ◌∙◌}
 use Rattle.meaning.specs.Limits.{max_functions}

@@ -1,15 +1,13 @@
 -- `is_row`. The loop's invariant: each set looked at is a choice of its function.
 use borrow.Author.Rules.{rules}
 use native.Mathlib.Omega.{arith}
-use Prim.Native.Nat.{ℕ, ◌-◌, ◌≤◌, ◌<◌}
+use Prim.Native.Nat.{ℕ}
 use mathlib.Core.Path.{◌≡◌, refl, sym, ◌∙◌, subst}
 use mathlib.Core.Bool.{false≢true, true≢false}
-use borrow.Author.Tests.{not-true, not-false}
 use borrow.Author.Count.{below_more}
-use lib.ListN.{length, get_or}
+use lib.ListN.{length}
 use Rattle.meaning.specs.Limits.{max_functions}
 use Rattle.meaning.specs.Basics.{◌∈◌}
-use Rattle.masks.specs.Sets.{masks_in}
 use Rattle.masks.proofs.Words.{masks_at}
 use Rattle.rows.specs.Rows.{choices_of}
 use Rattle.rows.proofs.RowLaws.{choice_row, row_choice}
@@ -23,8 +21,8 @@ pub is_choice_of-requires : goal.is_choice_of-requires
 unfolding max_functions
 is_choice_of-requires c =
     record {
-        faced = c.requires;
-        function = omega arith;
+      faced = c.requires;
+      function = omega arith;
     }
 
 pub returns-then-not-is_choice_of : goal.returns-then-not-is_choice_of

@@ -1,18 +1,10 @@
 -- `is_row`. The loop's invariant: each set looked at is a choice of its function.
-use borrow.Author.Rules.{rules}
-use native.Mathlib.Omega.{arith}
 use Prim.Native.Nat.{ℕ, ◌-◌, ◌≤◌, ◌<◌}
-use mathlib.Core.Path.{◌≡◌, refl, sym, ◌∙◌, subst}
-use mathlib.Core.Bool.{false≢true, true≢false}
-use borrow.Author.Tests.{not-true, not-false}
-use borrow.Author.Count.{below_more}
-use lib.ListN.{length, get_or}
+use lib.ListN.{get_or}
 use Rattle.meaning.specs.Limits.{max_functions}
 use Rattle.meaning.specs.Basics.{◌∈◌}
 use Rattle.masks.specs.Sets.{masks_in}
-use Rattle.masks.proofs.Words.{masks_at}
 use Rattle.rows.specs.Rows.{choices_of}
-use Rattle.rows.proofs.RowLaws.{choice_row, row_choice}
 use Rattle.rows.proofs.is_row.Given as goal
 
 abbrev pub invariant-loop-k : goal.invariant-loop-k

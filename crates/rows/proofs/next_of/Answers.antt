@@ -19,9 +19,9 @@ next_choice-requires c =
     let ns = c.args.ns.now in
     let firsts = c.args.firsts in
     let here = there es ns firsts c.args.k (mask c.args.set) c.requires.choice c.requires.more in record {
-        whole = (c.requires.faced.faces.whole c.args.k here, c.requires.faced.numbers);
-        choice = (there_choice es ns firsts c.args.k (mask c.args.set) here).1 c.requires.choice;
-        more = c.requires.more;
+      whole = (c.requires.faced.faces.whole c.args.k here, c.requires.faced.numbers);
+      choice = (there_choice es ns firsts c.args.k (mask c.args.set) here).1 c.requires.choice;
+      more = c.requires.more;
     }
 
 pub returns : goal.returns

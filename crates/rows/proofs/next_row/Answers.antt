@@ -1,6 +1,5 @@
 -- `next_row` meets its contract: the parts of a step, one after the other.
 use native.Mathlib.Omega.{arith}
-use Prim.Native.Nat.{◌<◌, ◌≤◌}
 use Rattle.meaning.specs.Limits.{max_functions}
 use Rattle.rows.proofs.RowLaws.{moved, moving_choice, steps_none}
 use Rattle.rows.proofs.next_row.Goals as goal
@@ -16,8 +15,8 @@ returns-then-k-eq0 c =
 pub begin_again-next-requires : goal.begin_again-next-requires
 begin_again-next-requires c =
     record {
-        there = c.stepping-k.ensures.few;
-        few = c.requires.faced.faces.few;
+      there = c.stepping-k.ensures.few;
+      few = c.requires.faced.faces.few;
     }
 
 pub overflow_sub-set : goal.overflow_sub-set
@@ -42,10 +41,10 @@ next_of-requires c =
     let choice = moving_choice _ _ _ c.requires.faced c.args.first c.args.row c.requires.first_row c.requires.row again.result step.result
     (record { steps = step.ensures; some = omega (arith, c.if-k-eq0.false); again = again.ensures }) in
     record {
-        faced = c.requires.faced;
-        function = omega (arith, c.if-k-eq0.false, step.ensures.few, c.requires.faced.faces.few);
-        choice = choice.0;
-        more = choice.1;
+      faced = c.requires.faced;
+      function = omega (arith, c.if-k-eq0.false, step.ensures.few, c.requires.faced.faces.few);
+      choice = choice.0;
+      more = choice.1;
     }
 
 pub overflow_sub-next : goal.overflow_sub-next

@@ -1,16 +1,8 @@
 -- `stepping`. The loop's invariant: the sets from k on are empty.
-use borrow.Author.Rules.{rules}
-use native.Mathlib.Omega.{arith}
-use Prim.Native.Nat.{ℕ, ◌-◌, ◌≤◌, ◌<◌}
-use native.Mathlib.Nat.{eq-or-lt_of_le}
-use mathlib.Core.Path.{◌≡◌, sym, ◌∙◌, subst}
-use mathlib.Core.Logic.{⊎_elim}
-use borrow.Author.Tests.{eqb-true, not-true, not-false}
+use Prim.Native.Nat.{ℕ, ◌≤◌, ◌<◌}
+use mathlib.Core.Path.{◌≡◌}
 use lib.ListN.{get_or}
-use Rattle.meaning.specs.Limits.{max_functions}
 use Rattle.masks.specs.Sets.{masks_in}
-use Rattle.masks.proofs.Words.{masks_at}
-use Rattle.rows.proofs.RowLaws.{above_zero}
 use Rattle.rows.proofs.stepping.Given as goal
 
 abbrev pub invariant-loop-k : goal.invariant-loop-k

@@ -1,15 +1,14 @@
 -- `found_at` meets its contract.
 use mathlib.Core.Path.{refl}
-use borrow.Author.Rules.{rules}
 use Rattle.seeking.proofs.SeekLaws.{passed_more, passed_last}
 use Rattle.seeking.proofs.found_at.Goals as goal
 
 pub next_row-stepped-requires : goal.next_row-stepped-requires
 next_row-stepped-requires c =
     let h = c.requires in record {
-        faced = h.faced;
-        row = h.is_row;
-        first_row = h.first;
+      faced = h.faced;
+      row = h.is_row;
+      first_row = h.first;
     }
 
 pub returns-then-stepped : goal.returns-then-stepped

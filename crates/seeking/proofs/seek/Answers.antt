@@ -1,11 +1,10 @@
 -- `seek` meets its contract.
-use Rattle.std.proofs.Common.{◌≡◌, refl, sym, ◌∙◌, subst, ℕ, ◌-◌, ◌<◌, ◌≤◌, List, [], length, get_or, arith}
+use Rattle.std.proofs.Common.{refl, sym, ◌∙◌, subst, ℕ, ◌<◌, [], get_or, arith}
 use mathlib.Core.Path.{subst₂}
 use Rattle.meaning.specs.Limits.{max_functions}
-use Rattle.masks.specs.Sets.{mask, masks_in}
-use Rattle.masks.specs.declared.NodeSet.{NodeSet}
+use Rattle.masks.specs.Sets.{mask}
 use Rattle.rows.proofs.RowLaws.{Moving, above_zero, last_moves, moved, moving_choice, nothing, steps_none}
-use Rattle.seeking.proofs.SeekLaws.{seeks_found, seeks_ended, seeks_paused, seeks_on, seekable_next, seekable_ready, seekable_steppable}
+use Rattle.seeking.proofs.SeekLaws.{seeks_found, seeks_ended, seeks_paused, seeks_on, seekable_next, seekable_ready}
 use Rattle.seeking.proofs.seek.Goals as goal
 use Rattle.seeking.proofs.seek.Goals.{After-row_known-1, then-is_empty+else-k-eq0, else-is_empty}
 
@@ -42,7 +41,7 @@ returns-then-k-eq0 c =
     let here = c.loop-left.invariant.0.is_row in
     let none = sym c.judge-judged.ensures.solves ∙ c.if-judged.false in
     let past =
-        steps_none _ _ _ ground.faced c.args.fixed.first c.loop-left.at ground.first here _ _ c.stepping-k.ensures c.if-k-eq0.true in
+    steps_none _ _ _ ground.faced c.args.fixed.first c.loop-left.at ground.first here _ _ c.stepping-k.ensures c.if-k-eq0.true in
     c.loop-left.invariant.2 _
     (seeks_ended _ _ _ _ _ _ none _ [] past _ _ (omega (arith, c.loop-left-test.true)) refl c.ended.ensures)
 
@@ -84,8 +83,8 @@ loop-left-preserved c =
     let here = c.loop-left.invariant.0.is_row in
     let none = sym c.judge-judged.ensures.solves ∙ c.if-judged.false in
     let on =
-        moved _ _ _ ground.faced c.args.fixed.first c.loop-left.at ground.first here c.if-is_empty.at c.if-is_empty.k
-        (moving (goal.at.loop-left-preserved c).After-row_known-1) _ c.next_of.ensures in
+    moved _ _ _ ground.faced c.args.fixed.first c.loop-left.at ground.first here c.if-is_empty.at c.if-is_empty.k
+    (moving (goal.at.loop-left-preserved c).After-row_known-1) _ c.next_of.ensures in
     let long = c.judge-judged.auto.scratch in (
       seekable_next _ _ _ _ _ _ none _ _ on _ _ c.loop-left.invariant.0 refl long,
       long ∙ c.loop-left.invariant.1,

@@ -1,24 +1,18 @@
 -- `all_demanded` meets its contract. The loop's invariant: the demands that are left lead, from what is kept, where all of them lead from
 -- the start. The measure is the number of faces left.
 use mathlib.Core.Path.{refl}
-use Prim.Native.Nat.{◌-◌}
-use lib.ListN.{length}
-use borrow.Author.Rules.{rules}
-use Rattle.numbers.specs.Tests.{told}
-use Rattle.sources.specs.Demand.{demands_in, kept_after}
-use Rattle.sources.proofs.KeptLaws.{Going, going_reads, going_on, going_fails, going_ends}
+use Rattle.sources.proofs.KeptLaws.{going_reads, going_on, going_fails, going_ends}
 use Rattle.sources.proofs.all_demanded.Goals as goal
 
 pub loop-k-init : goal.loop-k-init
 loop-k-init c = record { nodes = c.requires.0; reads = c.requires.1; leads = refl }
 
 pub demanded_at-next-requires : goal.demanded_at-next-requires
-demanded_at-next-requires c =
-    (
-      c.loop-k.invariant.nodes,
-      going_reads c.args.ps.now c.args.ns.now c.args.faces.now _ c.loop-k.k c.loop-k.kept.nodes
-          c.loop-k.invariant c.loop-k-test.true,
-    )
+demanded_at-next-requires c = (
+  c.loop-k.invariant.nodes,
+  going_reads c.args.ps.now c.args.ns.now c.args.faces.now _ c.loop-k.k c.loop-k.kept.nodes
+      c.loop-k.invariant c.loop-k-test.true,
+)
 
 pub returns-then-not-next : goal.returns-then-not-next
 returns-then-not-next c =

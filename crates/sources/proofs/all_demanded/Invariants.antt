@@ -1,12 +1,10 @@
 -- `all_demanded` meets its contract. The loop's invariant: the demands that are left lead, from what is kept, where all of them lead from
 -- the start. The measure is the number of faces left.
-use mathlib.Core.Path.{refl}
 use Prim.Native.Nat.{◌-◌}
 use lib.ListN.{length}
-use borrow.Author.Rules.{rules}
 use Rattle.numbers.specs.Tests.{told}
 use Rattle.sources.specs.Demand.{demands_in, kept_after}
-use Rattle.sources.proofs.KeptLaws.{Going, going_reads, going_on, going_fails, going_ends}
+use Rattle.sources.proofs.KeptLaws.{Going}
 use Rattle.sources.proofs.all_demanded.Given as goal
 
 abbrev pub invariant-loop-k : goal.invariant-loop-k

@@ -1,5 +1,4 @@
 -- `demanded_at` meets its contract: only the face of a metavariable alone makes a demand.
-use borrow.Author.Rules.{rules}
 use Rattle.sources.proofs.KeptLaws.{face_none, face_asks, face_one}
 use Rattle.sources.proofs.demanded_at.Goals as goal
 

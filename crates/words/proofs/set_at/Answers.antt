@@ -1,7 +1,6 @@
 -- `set_at` meets its contract.
 use mathlib.Core.Path.{refl}
 use Rattle.words.proofs.WordLaws.{set_read}
-use borrow.Author.Rules.{rules}
 use Rattle.words.proofs.set_at.Goals as goal
 
 pub returns : goal.returns

@@ -1,13 +1,10 @@
 -- `sets_in` meets its contract. The loop's invariant: the masks of the first k sets are read.
-use mathlib.Core.Path.{◌≡◌, refl, ◌∙◌}
+use mathlib.Core.Path.{◌≡◌}
 use Prim.Native.Nat.{◌-◌, ◌≤◌}
-use native.Mathlib.Omega.{arith}
-use lib.ListN.{length, take, length-set}
+use lib.ListN.{length, take}
 use Rattle.meaning.specs.Limits.{max_functions}
 use Rattle.masks.specs.Sets.{masks_in}
 use Rattle.words.specs.Words.{masks_from}
-use Rattle.words.proofs.WordLaws.{read_more, read_all}
-use borrow.Author.Rules.{rules}
 use Rattle.words.proofs.sets_in.Given as goal
 
 abbrev pub invariant-loop-k : goal.invariant-loop-k

@@ -1,6 +1,5 @@
 -- `body_of` meets its contract.
 -- src/entry.rt:39:17
-use borrow.Author.Rules.{rules}
 use Rattle.composing.proofs.EntryLaws.{body_returned}
 use Rattle.composing.proofs.entry.body_of.Goals as goal
 

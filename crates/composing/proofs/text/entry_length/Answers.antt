@@ -2,7 +2,6 @@
 use native.Mathlib.Omega.{arith}
 use Rattle.composing.proofs.TextLaws.{absent_length, body_length, body_measurable, measured_small, open_length}
 use Rattle.composing.proofs.TextLaws.{value_length, value_measurable}
-use borrow.Author.Rules.{rules}
 use Rattle.composing.proofs.text.entry_length.Goals as goal
 
 pub term_length-requires : goal.term_length-requires

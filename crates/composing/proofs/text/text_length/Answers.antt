@@ -1,9 +1,8 @@
 -- `text_length` meets its contract. The loop's invariant: what is counted and the fields left make up the whole. The measure is the number
 -- of metavariables left.
-use Prim.Native.Nat.{◌-◌, ◌≤◌}
 use native.Mathlib.Omega.{arith}
 use Rattle.meaning.specs.Limits.{metavariable_count}
-use Rattle.composing.proofs.TextLaws.{Counting, counting_begins, counting_ends, counting_goes_on, entry_at_there}
+use Rattle.composing.proofs.TextLaws.{counting_begins, counting_ends, counting_goes_on, entry_at_there}
 use Rattle.composing.proofs.TextLaws.{entry_measured, sum_small}
 use borrow.Author.Rules.{rules}
 use Rattle.composing.proofs.text.text_length.Goals as goal
@@ -29,8 +28,7 @@ overflow_add-n c =
 
 pub loop-m-preserved : goal.loop-m-preserved
 unfolding metavariable_count
-loop-m-preserved c =
-    (
+loop-m-preserved c = (
   search rules,
   counting_goes_on c.loop-m-test.true c.loop-m.invariant.1
       (entry_measured _ _ c.entry_of.ensures c.entry_length-n.ensures),

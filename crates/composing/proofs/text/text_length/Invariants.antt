@@ -1,11 +1,7 @@
 -- `text_length` meets its contract. The loop's invariant: what is counted and the fields left make up the whole. The measure is the number
 -- of metavariables left.
 use Prim.Native.Nat.{◌-◌, ◌≤◌}
-use native.Mathlib.Omega.{arith}
-use Rattle.meaning.specs.Limits.{metavariable_count}
-use Rattle.composing.proofs.TextLaws.{Counting, counting_begins, counting_ends, counting_goes_on, entry_at_there}
-use Rattle.composing.proofs.TextLaws.{entry_measured, sum_small}
-use borrow.Author.Rules.{rules}
+use Rattle.composing.proofs.TextLaws.{Counting}
 use Rattle.composing.proofs.text.text_length.Given as goal
 
 abbrev pub invariant-loop-m : goal.invariant-loop-m

@@ -2,7 +2,6 @@
 use mathlib.Core.Path.{◌∙◌}
 use native.Mathlib.Omega.{arith}
 use Rattle.composing.proofs.TextLaws.{copy_begins, copy_copies, copy_short, copy_written, kept_length, long_after, long_before}
-use borrow.Author.Rules.{rules}
 use Rattle.composing.proofs.text.write_copied.Goals as goal
 
 pub slice_bounds-copy-count : goal.slice_bounds-copy-count

@@ -1,6 +1,5 @@
 -- `write_entry` meets its contract: a law for each kind of entry.
 use Rattle.composing.proofs.TextLaws.{absent_written, body_room_lem, body_written, open_room, open_written, value_room, value_written}
-use borrow.Author.Rules.{rules}
 use Rattle.composing.proofs.text.write_entry.Goals as goal
 
 pub write_open-requires : goal.write_open-requires

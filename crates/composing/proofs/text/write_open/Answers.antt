@@ -3,7 +3,6 @@ use mathlib.Core.Path.{◌∙◌}
 use native.Mathlib.Omega.{arith}
 use lib.ListN.{length-set}
 use Rattle.composing.proofs.TextLaws.{open_field_lem}
-use borrow.Author.Rules.{rules}
 use Rattle.composing.proofs.text.write_open.Goals as goal
 
 pub write_head-requires : goal.write_head-requires

@@ -5,7 +5,6 @@ use lib.Seq.{length-take-le}
 use Rattle.lockstep.proofs.Answers.{found}
 use Rattle.faces.specs.FlatWalk.{flat_walk}
 use Rattle.faces.proofs.CheckLaws.{checked_both, checked_many, checked_none, checked_large, checked_faces}
-use borrow.Author.Rules.{rules}
 use Rattle.faces.proofs.check.check.Goals as goal
 
 pub returns-then-function_count-gt-MAX_FUNCTIONS : goal.returns-then-function_count-gt-MAX_FUNCTIONS

@@ -1,7 +1,6 @@
 -- `check::over_limit` meets its contract: what it calls says it.
 use mathlib.Core.Path.{ap, ◌∙◌}
 use Rattle.faces.specs.First.{any_large}
-use borrow.Author.Rules.{rules}
 use Rattle.faces.proofs.check.over_limit.Goals as goal
 
 pub returns : goal.returns

@@ -1,12 +1,9 @@
 -- `first::any_large` meets its contract. The loop's invariant: whether there is a large face among those left is whether there is one at
 -- all. The measure is the number of faces left.
-use mathlib.Core.Path.{◌≡◌, sym, ◌∙◌}
-use native.Mathlib.Omega.{arith}
-use Rattle.faces.proofs.FirstLaws.{large_end, large_here, large_next}
+use mathlib.Core.Path.{◌≡◌}
 use Prim.Native.Nat.{◌-◌}
 use lib.ListN.{take, drop}
 use Rattle.faces.specs.First.{any_large}
-use borrow.Author.Rules.{rules}
 use Rattle.faces.proofs.first.any_large.Given as goal
 
 abbrev pub invariant-loop-k : goal.invariant-loop-k

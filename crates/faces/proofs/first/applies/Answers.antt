@@ -1,6 +1,5 @@
 -- `first::applies` meets its contract: one law for each return.
 use Rattle.faces.proofs.FirstLaws.{applies_out, applies_six, applies_other}
-use borrow.Author.Rules.{rules}
 use Rattle.faces.proofs.first.applies.Goals as goal
 
 pub returns-then-i-ps : goal.returns-then-i-ps

@@ -1,11 +1,7 @@
 -- `first::first_face` meets its contract. The loop's invariant: the first face among those left is the first of all. The measure is the
 -- number of faces left.
-use mathlib.Core.Path.{◌≡◌, sym, ◌∙◌}
+use mathlib.Core.Path.{sym, ◌∙◌}
 use Rattle.faces.proofs.FirstLaws.{first_none, first_found, first_next}
-use Prim.Native.Nat.{◌-◌}
-use lib.ListN.{length, drop}
-use Rattle.faces.specs.First.{first_node}
-use borrow.Author.Rules.{rules}
 use Rattle.faces.proofs.first.first_face.Goals as goal
 
 pub returns-then-applies : goal.returns-then-applies

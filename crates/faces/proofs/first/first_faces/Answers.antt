@@ -3,8 +3,6 @@
 use mathlib.Core.Path.{refl}
 use native.Mathlib.Omega.{arith}
 use Rattle.faces.proofs.FirstLaws.{listing_start, listing_end, firsts_count}
-use Prim.Native.Nat.{◌-◌}
-use Rattle.faces.specs.First.{Listing}
 use borrow.Author.Rules.{rules}
 use Rattle.faces.proofs.first.first_faces.Goals as goal
 

@@ -1,11 +1,7 @@
 -- `first::first_faces` meets its contract. The loop's invariant: the functions below m have been looked up. The measure is the number of
 -- metavariables left.
-use mathlib.Core.Path.{refl}
-use native.Mathlib.Omega.{arith}
-use Rattle.faces.proofs.FirstLaws.{listing_start, listing_end, firsts_count}
 use Prim.Native.Nat.{◌-◌}
 use Rattle.faces.specs.First.{Listing}
-use borrow.Author.Rules.{rules}
 use Rattle.faces.proofs.first.first_faces.Given as goal
 
 abbrev pub invariant-loop-m : goal.invariant-loop-m

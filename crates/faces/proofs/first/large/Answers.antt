@@ -1,6 +1,5 @@
 -- `first::large` meets its contract: a number that is no node's is not that of a large face.
 use Rattle.faces.proofs.FirstLaws.{large_in_lem, large_out}
-use borrow.Author.Rules.{rules}
 use Rattle.faces.proofs.first.large.Goals as goal
 
 pub returns-then-node-es : goal.returns-then-node-es

@@ -3,7 +3,6 @@ use mathlib.Core.Path.{subst, sym, ◌∙◌}
 use Prim.Native.Nat.{ℕ}
 use Rattle.faces.specs.First.{Pushed}
 use Rattle.faces.proofs.FirstLaws.{listing_skip, listing_room, listing_push}
-use borrow.Author.Rules.{rules}
 use Rattle.faces.proofs.first.looked_up.Goals as goal
 
 pub pushed-requires : goal.pushed-requires

@@ -5,7 +5,6 @@ use mathlib.Core.List.{List}
 use Prim.Native.Nat.{ℕ}
 use Rattle.lockstep.specs.Span.{Walked}
 use Rattle.faces.proofs.WalkMeaning.{whole_walk}
-use borrow.Author.Rules.{rules}
 use Rattle.faces.proofs.walk.walk.Goals as goal
 
 pub returns : goal.returns

@@ -1,6 +1,5 @@
 -- `head_of` meets its contract: 7, what `parts_of` says, what `rule_of` says.
 use Rattle.fields.proofs.HeadLaws.{head_none, head_cut, head_misplaced, head_field}
-use borrow.Author.Rules.{rules}
 use Rattle.fields.proofs.field.head_of.Goals as goal
 
 pub returns-then-s-eq0 : goal.returns-then-s-eq0

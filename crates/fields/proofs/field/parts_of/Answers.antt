@@ -1,7 +1,6 @@
 -- `parts_of` meets its contract: 2, 3, or the parts of the field; two bytes make a length below 65,536.
 use native.Mathlib.Omega.{arith}
 use Rattle.fields.proofs.HeadLaws.{parts_short, parts_past, parts_field}
-use borrow.Author.Rules.{rules}
 use Rattle.fields.proofs.field.parts_of.Goals as goal
 
 pub returns-then-s-lt3 : goal.returns-then-s-lt3

@@ -1,7 +1,6 @@
 -- `rule_of` meets its contract: the table of tags, one return for each tag and context.
 use borrow.Author.Tests.{ne_eqb}
 use Rattle.meaning.specs.Read.{kind_of, metavariable_in, function_in, hole_in}
-use borrow.Author.Rules.{rules}
 use Rattle.fields.proofs.field.rule_of.Goals as goal
 
 pub returns-in-1 : goal.returns-in-1

@@ -1,7 +1,6 @@
 -- `word` meets its contract: two bytes make a number below 65,536.
 use Prim.Native.Nat.{◌+◌}
 use native.Mathlib.Omega.{arith}
-use borrow.Author.Rules.{rules}
 use Rattle.fields.proofs.field.word.Goals as goal
 
 pub overflow_cast-result : goal.overflow_cast-result

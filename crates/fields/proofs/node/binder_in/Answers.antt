@@ -2,7 +2,6 @@
 use borrow.Author.Tests.{lt-ltb, le-ltb}
 use Rattle.meaning.specs.Read.{content_of}
 use Rattle.fields.specs.Heads.{content_with}
-use borrow.Author.Rules.{rules}
 use Rattle.fields.proofs.node.binder_in.Goals as goal
 
 pub returns-then-c-lt4 : goal.returns-then-c-lt4

@@ -1,5 +1,4 @@
 -- `content_of` meets its contract: each kind by its own content rule.
-use borrow.Author.Rules.{rules}
 use Rattle.fields.proofs.node.content_of.Goals as goal
 
 pub returns-in-Symbol : goal.returns-in-Symbol

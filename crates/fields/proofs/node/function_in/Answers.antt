@@ -4,7 +4,6 @@ use Rattle.meaning.specs.Limits.{metavariable_count}
 use Rattle.meaning.specs.Read.{content_of}
 use Rattle.fields.specs.Heads.{content_with}
 use Rattle.slices.proofs.Slices.{positive}
-use borrow.Author.Rules.{rules}
 use Rattle.fields.proofs.node.function_in.Goals as goal
 
 pub returns-then-c-eq0 : goal.returns-then-c-eq0

@@ -3,7 +3,6 @@ use borrow.Author.Tests.{ne_eqb, eq-eqb, lt-ltb, le-ltb}
 use Rattle.meaning.specs.Limits.{metavariable_count}
 use Rattle.meaning.specs.Read.{content_of}
 use Rattle.fields.specs.Heads.{content_with}
-use borrow.Author.Rules.{rules}
 use Rattle.fields.proofs.node.metavariable_in.Goals as goal
 
 pub returns-then-c-ne1 : goal.returns-then-c-ne1

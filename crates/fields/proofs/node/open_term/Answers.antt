@@ -1,7 +1,6 @@
 -- `open_term` meets its contract: the head, 5, the content.
 use native.Mathlib.Omega.{arith}
 use Rattle.fields.proofs.HeadLaws.{open_refused, open_deep, open_broken, open_node_lem}
-use borrow.Author.Rules.{rules}
 use Rattle.fields.proofs.node.open_term.Goals as goal
 
 pub returns-then-levels-eq0 : goal.returns-then-levels-eq0

@@ -2,7 +2,6 @@
 use borrow.Author.Tests.{ne_eqb, eq-eqb}
 use Rattle.meaning.specs.Read.{content_of}
 use Rattle.fields.specs.Heads.{content_with}
-use borrow.Author.Rules.{rules}
 use Rattle.fields.proofs.node.variable_in.Goals as goal
 
 pub returns-then-c-eq2 : goal.returns-then-c-eq2

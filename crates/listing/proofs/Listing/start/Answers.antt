@@ -1,5 +1,4 @@
 -- `Listing::start`.
-use borrow.Author.Rules.{rules}
 use Rattle.listing.proofs.LineLaws.{begins}
 use Rattle.listing.proofs.Listing.start.Goals as goal
 

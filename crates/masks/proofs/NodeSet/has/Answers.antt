@@ -1,5 +1,4 @@
 -- `NodeSet::has`: a node is asked for in its word; past the last node there is no mark.
-use borrow.Author.Rules.{rules}
 use mathlib.Core.Path.{ap, sym, ◌∙◌}
 use mathlib.Core.Bool.{false}
 use native.Mathlib.Omega.{arith}

@@ -1,5 +1,4 @@
 -- `NodeSet::holes`: ones are counted over all words.
-use borrow.Author.Rules.{rules}
 use native.Mathlib.Omega.{arith}
 use Rattle.masks.proofs.Words.{few_ones, ones_words}
 use Rattle.masks.proofs.NodeSet.holes.Goals as goal

@@ -1,5 +1,4 @@
 -- `NodeSet::is_empty`: a set without a lowest node is the mask 0.
-use borrow.Author.Rules.{rules}
 use Rattle.masks.proofs.Words.{empty_test}
 use Rattle.masks.proofs.NodeSet.is_empty.Goals as goal
 

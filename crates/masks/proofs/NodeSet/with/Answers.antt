@@ -1,5 +1,4 @@
 -- `NodeSet::with`: a node is changed in its word; past the last node nothing is.
-use borrow.Author.Rules.{rules}
 use mathlib.Core.Path.{ap, sym, ◌∙◌}
 use mathlib.Core.Bool.{true}
 use native.Mathlib.Omega.{arith}

@@ -1,7 +1,6 @@
 -- `ask::closed` meets its contract.
 use mathlib.Core.Path.{ap}
 use mathlib.Core.Bool.{not}
-use borrow.Author.Rules.{rules}
 use Rattle.numbers.proofs.ask.closed.Goals as goal
 
 pub returns : goal.returns

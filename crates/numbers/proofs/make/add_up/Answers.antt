@@ -1,13 +1,11 @@
 -- `make::add_up` meets its contract. The loop's invariant: the sums of the first k nodes and of fewer stand; the measure is what is left.
 use mathlib.Core.Path.{◌≡◌, refl, ap, ◌∙◌}
-use Prim.Native.Nat.{ℕ, ◌+◌, ◌-◌, ◌≤◌}
+use Prim.Native.Nat.{ℕ, ◌+◌}
 use native.Mathlib.Omega.{arith}
-use lib.ListN.{length, length-set}
-use Rattle.tokens.specs.Key.{at}
+use lib.ListN.{length-set}
 use Rattle.numbers.specs.Alike.{weight_of_key, sum_to}
 use Rattle.numbers.proofs.Sums.{sum_none, sum_next, sum_few}
 use Rattle.numbers.proofs.Passing.{summing_begins, summing_more}
-use borrow.Author.Rules.{rules}
 use Rattle.numbers.proofs.make.add_up.Goals as goal
 use Rattle.numbers.proofs.make.add_up.Goals.{After-weight-sum}
 
@@ -24,13 +22,12 @@ pub bounds-sums-0 : goal.bounds-sums-0
 bounds-sums-0 c = omega (arith, c.requires.1)
 
 pub loop-k-init : goal.loop-k-init
-loop-k-init c =
-    (
-      omega arith,
-      refl,
-      sum_none c.args.t.now,
-      summing_begins c.args.t.now c.args.sums.now (omega (arith, c.requires.1)),
-    )
+loop-k-init c = (
+  omega arith,
+  refl,
+  sum_none c.args.t.now,
+  summing_begins c.args.t.now c.args.sums.now (omega (arith, c.requires.1)),
+)
 
 pub overflow_add-sum : goal.overflow_add-sum
 overflow_add-sum c =

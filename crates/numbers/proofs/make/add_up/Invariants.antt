@@ -1,13 +1,9 @@
 -- `make::add_up` meets its contract. The loop's invariant: the sums of the first k nodes and of fewer stand; the measure is what is left.
-use mathlib.Core.Path.{◌≡◌, refl, ap, ◌∙◌}
-use Prim.Native.Nat.{ℕ, ◌+◌, ◌-◌, ◌≤◌}
-use native.Mathlib.Omega.{arith}
-use lib.ListN.{length, length-set}
+use mathlib.Core.Path.{◌≡◌}
+use Prim.Native.Nat.{ℕ, ◌-◌, ◌≤◌}
+use lib.ListN.{length}
 use Rattle.tokens.specs.Key.{at}
-use Rattle.numbers.specs.Alike.{weight_of_key, sum_to}
-use Rattle.numbers.proofs.Sums.{sum_none, sum_next, sum_few}
-use Rattle.numbers.proofs.Passing.{summing_begins, summing_more}
-use borrow.Author.Rules.{rules}
+use Rattle.numbers.specs.Alike.{sum_to}
 use Rattle.numbers.proofs.make.add_up.Given as goal
 
 abbrev pub invariant-loop-k : goal.invariant-loop-k

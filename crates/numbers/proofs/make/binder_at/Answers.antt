@@ -2,7 +2,6 @@
 use mathlib.Core.Path.{sym}
 use borrow.Author.Tests.{eq-eqb, ne_eqb}
 use Rattle.meaning.proofs.Lists.{choose_true, choose_false}
-use borrow.Author.Rules.{rules}
 use Rattle.numbers.proofs.make.binder_at.Goals as goal
 
 pub returns-then-level-eq0 : goal.returns-then-level-eq0

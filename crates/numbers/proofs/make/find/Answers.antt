@@ -3,7 +3,6 @@ use mathlib.Core.Path.{◌≡◌, sym, ◌∙◌, subst}
 use Prim.Native.Nat.{◌-◌, ◌<◌}
 use native.Mathlib.Omega.{arith}
 use Rattle.numbers.proofs.Buckets.{Looking, looking_begins, looking_on, looking_found, looking_ends}
-use borrow.Author.Rules.{rules}
 use Rattle.numbers.proofs.make.find.Goals as goal
 
 pub loop-at-init : goal.loop-at-init

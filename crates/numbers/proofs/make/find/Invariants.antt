@@ -1,9 +1,5 @@
 -- `make::find` meets its contract. The loop's invariant: no node past `at` is alike, and `at` is in the bucket; the measure is `at`.
-use mathlib.Core.Path.{◌≡◌, sym, ◌∙◌, subst}
-use Prim.Native.Nat.{◌-◌, ◌<◌}
-use native.Mathlib.Omega.{arith}
-use Rattle.numbers.proofs.Buckets.{Looking, looking_begins, looking_on, looking_found, looking_ends}
-use borrow.Author.Rules.{rules}
+use Rattle.numbers.proofs.Buckets.{Looking}
 use Rattle.numbers.proofs.make.find.Given as goal
 
 abbrev pub invariant-loop-at : goal.invariant-loop-at

@@ -1,10 +1,8 @@
 -- `make::innermost` meets its contract. The loop's invariant is `Scanning`; the measure is the number of nodes left.
 use mathlib.Core.Path.{ap, ◌∙◌}
-use Prim.Native.Nat.{◌-◌, max}
+use Prim.Native.Nat.{max}
 use native.Mathlib.Omega.{arith}
-use lib.ListN.{length}
-use Rattle.numbers.proofs.Scanning.{Scanning, scan_begins, scan_on, scan_stops, scan_ends}
-use borrow.Author.Rules.{rules}
+use Rattle.numbers.proofs.Scanning.{scan_begins, scan_on, scan_stops, scan_ends}
 use Rattle.numbers.proofs.make.innermost.Goals as goal
 
 pub loop-i-init : goal.loop-i-init

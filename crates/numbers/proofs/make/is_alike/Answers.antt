@@ -1,7 +1,6 @@
 -- `make::is_alike` meets its contract.
 use mathlib.Core.Path.{sym, ◌∙◌}
 use Rattle.numbers.proofs.Buckets.{unlike_label, unlike_size, alike_label}
-use borrow.Author.Rules.{rules}
 use Rattle.numbers.proofs.make.is_alike.Goals as goal
 
 pub returns-then-link-label : goal.returns-then-link-label

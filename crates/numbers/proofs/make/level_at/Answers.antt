@@ -3,7 +3,6 @@ use mathlib.Core.Path.{refl}
 use Prim.Native.Nat.{◌+◌}
 use Rattle.numbers.proofs.Sums.{light_level}
 use Rattle.numbers.proofs.Passing.{level_found}
-use borrow.Author.Rules.{rules}
 use Rattle.numbers.proofs.make.level_at.Goals as goal
 
 pub returns-then-sum-lt-HEAVY : goal.returns-then-sum-lt-HEAVY

@@ -2,7 +2,6 @@
 use mathlib.Core.Path.{sym, ap, ◌∙◌}
 use Prim.Native.Nat.{ℕ, ◌/◌}
 use Rattle.numbers.proofs.KeyLevels.{reached_level, unreached_level}
-use borrow.Author.Rules.{rules}
 use Rattle.numbers.proofs.make.level_in.Goals as goal
 
 pub returns-then-reaches : goal.returns-then-reaches

@@ -1,7 +1,6 @@
 -- `make::mix` meets its contract.
 use mathlib.Core.Path.{refl}
 use Rattle.numbers.specs.Alike.{mixed}
-use borrow.Author.Rules.{rules}
 use Rattle.numbers.proofs.make.mix.Goals as goal
 
 pub returns : goal.returns

@@ -3,7 +3,6 @@ use mathlib.Core.Path.{refl}
 use Prim.Native.Nat.{◌+◌}
 use native.Mathlib.Omega.{arith}
 use Rattle.numbers.proofs.Passing.{level_few, sums_rise, sum_found, node_known}
-use borrow.Author.Rules.{rules}
 use Rattle.numbers.proofs.make.node_at.Goals as goal
 
 pub overflow_sub-sum : goal.overflow_sub-sum
@@ -14,8 +13,8 @@ overflow_sub-sum c =
 pub level_at-level-requires : goal.level_at-level-requires
 level_at-level-requires c =
     record {
-        inside = c.requires.inside;
-        summed = sum_found c.args.t.now c.args.k c.requires.inside c.size.result (c.args.k + c.size.result) c.size.ensures refl
+      inside = c.requires.inside;
+      summed = sum_found c.args.t.now c.args.k c.requires.inside c.size.result (c.args.k + c.size.result) c.size.ensures refl
           c.args.sums.now c.requires.summed;
     }
 

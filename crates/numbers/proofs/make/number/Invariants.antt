@@ -1,12 +1,8 @@
 -- `make::number` meets its contract. The loop's invariant: the pass has made the numbers of the nodes before k.
-use mathlib.Core.Path.{◌≡◌, refl, sym, subst, ◌∙◌}
-use Prim.Native.Nat.{ℕ, ◌+◌, ◌-◌, ◌≤◌}
-use native.Mathlib.Omega.{arith}
-use lib.ListN.{length, set}
+use mathlib.Core.Path.{◌≡◌}
+use Prim.Native.Nat.{◌-◌, ◌≤◌}
+use lib.ListN.{length}
 use Rattle.numbers.specs.Numbering.{Lasts, Passed}
-use Rattle.numbers.proofs.Passing.{lasts_none, passed_none}
-use Rattle.numbers.proofs.Buckets.{lasts_more}
-use borrow.Author.Rules.{rules}
 use Rattle.numbers.proofs.make.number.Given as goal
 
 abbrev pub invariant-loop-k : goal.invariant-loop-k

@@ -9,7 +9,6 @@ use Rattle.numbers.specs.Alike.{label_at}
 use Rattle.numbers.specs.Numbering.{NumberOf, bucket_at, Points, Passed}
 use Rattle.numbers.proofs.Passing.{node_binder, node_hash, node_level, node_label, node_bucket, head_points, passed_more}
 use Rattle.numbers.proofs.Buckets.{number_found, number_new}
-use borrow.Author.Rules.{rules}
 use Rattle.numbers.proofs.make.number_next.Goals as goal
 use Rattle.numbers.proofs.make.number_next.Goals.{Start}
 
@@ -49,7 +48,6 @@ module _ (s : Start) where
       passed_more s.args.t.now s.requires.node.0 s.args.k s.requires.node.1 s.args.node s.requires.node.2 s.args.heads.now s.args.links.now s.args.ns.now s.requires.passed
       bucket _ n is-bucket (ap (λ (l : ℕ). at s.args.heads.now bucket + 65536 * l) label) own
 
-
 pub overflow_mul-label : goal.overflow_mul-label
 overflow_mul-label c = omega (arith, hash_small c.before.before.before.before.before.before)
 
@@ -64,8 +62,8 @@ bounds-heads-bucket c =
 pub find-earlier-requires : goal.find-earlier-requires
 find-earlier-requires c =
     record {
-        node = (c.requires.node.0, c.requires.node.1, omega (arith, c.requires.passed.links_long, c.requires.node.1));
-        bucket = (c.requires.passed.chained.linked, points c.before.before.before.before.before.before.before.before.before, label c.before.before.before.before.before.before.before.before.before);
+      node = (c.requires.node.0, c.requires.node.1, omega (arith, c.requires.passed.links_long, c.requires.node.1));
+      bucket = (c.requires.passed.chained.linked, points c.before.before.before.before.before.before.before.before.before, label c.before.before.before.before.before.before.before.before.before);
     }
 
 pub overflow_mul-links : goal.overflow_mul-links

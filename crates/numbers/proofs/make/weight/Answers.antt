@@ -3,7 +3,6 @@ use mathlib.Core.Path.{sym, ap, ◌∙◌}
 use native.Mathlib.Omega.{arith}
 use Rattle.numbers.specs.Alike.{spread}
 use Rattle.numbers.proofs.Sums.{mixed_small, weight_inside, weight_outside, weight_other}
-use borrow.Author.Rules.{rules}
 use Rattle.numbers.proofs.make.weight.Goals as goal
 
 pub returns-then-kind-eq258 : goal.returns-then-kind-eq258

@@ -1,5 +1,4 @@
 -- `first` meets its contract: the first row of the tables, or past the last.
-use borrow.Author.Rules.{rules}
 use Rattle.places.proofs.PlaceLaws.{begins_row, begins_past}
 use Rattle.places.proofs.Place.first.Goals as goal
 

@@ -6,7 +6,6 @@ use Prim.Native.Nat.{ℕ, ◌≤◌}
 use native.Mathlib.Omega.{arith}
 use lib.ListN.{length}
 use lib.Seq.{length-take-le}
-use borrow.Author.Rules.{rules}
 use Rattle.prepare.proofs.PreparedLaws.{fresh_rooms, fresh_room}
 use Rattle.places.proofs.Naming.{starts_refused, starts_inside, starts_open, starts_begins}
 use Rattle.places.proofs.Place.start.Goals as goal
@@ -14,8 +13,8 @@ use Rattle.places.proofs.Place.start.Goals as goal
 pub prepare-prepared-requires : goal.prepare-prepared-requires
 prepare-prepared-requires c =
     record {
-        rooms = fresh_rooms;
-        room = fresh_room;
+      rooms = fresh_rooms;
+      room = fresh_room;
     }
 
 pub slice_bounds-es-end : goal.slice_bounds-es-end

@@ -1,7 +1,6 @@
 -- `from_place` meets its contract: a law for each answer.
 use mathlib.Core.Path.{sym, subst}
 use lib.Seq.{length-take-le}
-use borrow.Author.Rules.{rules}
 use Rattle.places.specs.Places.{Tells}
 use Rattle.search.proofs.CallLaws.{callable_open, placed_zero, placed_nowhere, placed_past, placed_row, tells_is_row}
 use Rattle.search.proofs.call.from_place.Goals as goal
@@ -21,8 +20,8 @@ named_by-named-requires c = callable_open _ _ _ _ _ _ _ c.requires
 pub from_row-requires : goal.from_row-requires
 from_row-requires c =
     record {
-        callable = c.requires;
-        row_there = tells_is_row _ _ _ _ _ (subst (Tells _ _ _ _ _) c.in-Row.is c.named_by-named.ensures);
+      callable = c.requires;
+      row_there = tells_is_row _ _ _ _ _ (subst (Tells _ _ _ _ _) c.in-Row.is c.named_by-named.ensures);
     }
 
 pub returns-in-Nothing : goal.returns-in-Nothing

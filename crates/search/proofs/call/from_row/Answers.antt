@@ -1,7 +1,6 @@
 -- `from_row` meets its contract.
 use mathlib.Core.Path.{refl, sym}
 use lib.Seq.{length-take-le}
-use borrow.Author.Rules.{rules}
 use Rattle.search.proofs.CallLaws.{callable_open, callable_seekable}
 use Rattle.search.proofs.call.from_row.Goals as goal
 

@@ -7,8 +7,8 @@ use Rattle.search.proofs.call.search.Goals as goal
 pub prepare-prepared-requires : goal.prepare-prepared-requires
 prepare-prepared-requires c =
     record {
-        rooms = fresh_rooms;
-        room = fresh_room;
+      rooms = fresh_rooms;
+      room = fresh_room;
     }
 
 pub from_place-requires : goal.from_place-requires

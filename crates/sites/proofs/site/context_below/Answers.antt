@@ -1,6 +1,5 @@
 -- `context_below` meets its contract: by cases on the node.
 use Rattle.meaning.specs.Read.{context_below}
-use borrow.Author.Rules.{rules}
 use Rattle.sites.proofs.site.context_below.Goals as goal
 
 pub returns-in-Symbol : goal.returns-in-Symbol

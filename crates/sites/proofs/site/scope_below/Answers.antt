@@ -1,6 +1,5 @@
 -- `scope_below` meets its contract: only a binder adds a name.
 use native.Mathlib.Omega.{arith}
-use borrow.Author.Rules.{rules}
 use Rattle.sites.proofs.site.scope_below.Goals as goal
 
 pub returns-in-Symbol : goal.returns-in-Symbol

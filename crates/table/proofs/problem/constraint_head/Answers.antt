@@ -1,6 +1,5 @@
 -- `constraint_head` meets its contract: 2 and 3 of `parts_of`, 4, 11.
 use Rattle.table.proofs.ProblemLaws.{top_cut, top_over, top_content, top_misplaced}
-use borrow.Author.Rules.{rules}
 use Rattle.table.proofs.problem.constraint_head.Goals as goal
 
 pub returns-in-Refused : goal.returns-in-Refused

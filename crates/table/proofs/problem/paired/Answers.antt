@@ -1,7 +1,4 @@
 use borrow.Author.Tests.{eq-eqb, ne_eqb}
-use borrow.Author.Rules.{rules}
-use Rattle.table.proofs.problem.paired.Reads as reads
-use Rattle.table.proofs.problem.paired.Lts as lts
 use Rattle.table.proofs.problem.paired.Goals as goal
 
 pub returns-in-Refused : goal.returns-in-Refused

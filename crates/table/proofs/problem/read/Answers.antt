@@ -1,6 +1,5 @@
 -- `table::problem::read` meets its contract: 1, and otherwise the constraints.
 use Rattle.table.proofs.ProblemLaws.{problem_over, problem_within}
-use borrow.Author.Rules.{rules}
 use Rattle.table.proofs.problem.read.Goals as goal
 
 pub returns-then-bytes-gt-LARGEST_PROBLEM : goal.returns-then-bytes-gt-LARGEST_PROBLEM

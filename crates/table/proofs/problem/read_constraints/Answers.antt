@@ -1,5 +1,5 @@
 -- `read_constraints` meets its contract.
-use Rattle.std.proofs.Common.{rules, ◌≡◌, ◌<◌, ◌≤◌, ◌+◌, ◌-◌, ◌^◌, ℕ, List, length, take, drop, subst, arith}
+use Rattle.std.proofs.Common.{rules, ◌<◌, ◌+◌, ◌-◌, ◌^◌, ℕ, List, length, take, drop}
 use Rattle.meaning.specs.Basics.{Bytes}
 use Rattle.meaning.specs.Limits.{max_constraints}
 use Rattle.meaning.specs.Read.{read_pair}
@@ -7,8 +7,7 @@ use Rattle.table.specs.Whole.{PairDone, TopDone}
 use Rattle.table.specs.declared.problem.Pair.{Pair}
 use Rattle.table.specs.declared.problem.Pair.TheVariants as pairs
 use Rattle.table.specs.declared.problem.Top.TheVariants as tops
-use Rattle.terms.proofs.Rows.{row_inside, row_same, row_scaled}
-use Rattle.table.proofs.ProblemLaws.{bytes_less, content_spaces, content_within, reading_begins, reading_cut, reading_ends}
+use Rattle.table.proofs.ProblemLaws.{reading_begins, reading_cut, reading_ends}
 use Rattle.table.proofs.ProblemLaws.{reading_goes, reading_refused, sums_fit}
 use Rattle.table.proofs.problem.read_constraints.Goals as goal
 use Rattle.table.proofs.problem.read_constraints.Goals.{In-Read}

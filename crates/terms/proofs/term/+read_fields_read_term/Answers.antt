@@ -1,5 +1,5 @@
 -- `read_term` and `read_fields`, which call each other, meet their contracts.
-use Rattle.std.proofs.Common.{◌≡◌, ◌∙◌, sym, subst, ℕ, ◌+◌, ◌-◌, ◌*◌, ◌^◌, ◌≤◌, ◌<◌, List, length, take, drop}
+use Rattle.std.proofs.Common.{◌≡◌, ◌∙◌, sym, subst, ℕ, ◌+◌, ◌-◌, ◌^◌, ◌≤◌, ◌<◌, List, length, take, drop}
 use Rattle.meaning.specs.Basics.{Bytes}
 use Rattle.meaning.specs.Read.{Reader, read_term}
 use Rattle.fields.specs.Heads.{OpenFits, OpenDone}
@@ -82,9 +82,9 @@ pub read_term-returns-in-Node : goal.read_term-returns-in-Node
 read_term-returns-in-Node t c =
     let site = c.args.site in
     let opened : OpenDone site.levels (site_context site) c.args.s.now (opens.Node c.in-Node.node c.in-Node.end) =
-        rw c.in-Node.is at c.open_term.ensures in
+    rw c.in-Node.is at c.open_term.ensures in
     let inside : OpenFits site.levels (length c.args.s.now) c.fixed-at.result c.in-Node.end =
-        subst (λ (k : ℕ). OpenFits site.levels (length c.args.s.now) k c.in-Node.end) (sym c.fixed-at.ensures) opened.fits in
+    subst (λ (k : ℕ). OpenFits site.levels (length c.args.s.now) k c.in-Node.end) (sym c.fixed-at.ensures) opened.fits in
     let has_room : 1 ≤ length c.args.out.now = open_room c.args.s.now c.args.out.now inside c.requires.space in
     term_closed site _ _ _ _ _ _ _ _ _ _ opened has_room c.below.ensures.levels c.below.ensures.context c.below.ensures.names
     (rw (c.fixed-at.ensures, c.due.ensures) at c.read_fields-inner.ensures)

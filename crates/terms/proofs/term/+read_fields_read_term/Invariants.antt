@@ -1,7 +1,7 @@
 -- `read_term` and `read_fields`, which call each other. The measure is the number of levels that may still be opened: the inner fields of a
 -- term have one less, and each of them is a term with as many as the list. The loop's invariant: the fields before `at` are read, and with
 -- those that are left they are all.
-use Rattle.std.proofs.Common.{ℕ, ◌+◌, ◌-◌, ◌*◌, length}
+use Rattle.std.proofs.Common.{◌+◌, ◌-◌, ◌*◌, length}
 use Rattle.meaning.specs.Read.{read_term}
 use Rattle.sites.specs.Site.{site_context, site_scope}
 use Rattle.terms.proofs.TermLaws.{Reading}

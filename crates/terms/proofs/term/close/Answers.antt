@@ -1,6 +1,5 @@
 -- `close` meets its contract: the head is put before the inner fields, or their refusal is passed on.
 use native.Mathlib.Omega.{arith}
-use borrow.Author.Rules.{rules}
 use Rattle.terms.proofs.term.close.Goals as goal
 
 pub overflow_add-nodes : goal.overflow_add-nodes

@@ -1,6 +1,5 @@
 -- `next_due` meets its contract: what is due, by the number of fields and of bytes.
 use borrow.Author.Tests.{eq-eqb, ne_eqb}
-use borrow.Author.Rules.{rules}
 use Rattle.terms.proofs.term.next_due.Goals as goal
 
 pub returns-then-left-eq0 : goal.returns-then-left-eq0

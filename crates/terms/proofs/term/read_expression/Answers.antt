@@ -1,5 +1,4 @@
 -- `read_expression` meets its contract: `read_term` where no term encloses it.
-use borrow.Author.Rules.{rules}
 use Rattle.terms.proofs.term.read_expression.Goals as goal
 
 pub returns : goal.returns

@@ -1,6 +1,5 @@
 -- `same::agree` meets its contract.
 use Rattle.tokens.proofs.same.Laws.{agree_refused, agree_judged}
-use borrow.Author.Rules.{rules}
 use Rattle.tokens.proofs.same.agree.Goals as goal
 
 pub returns-then-not-same_node : goal.returns-then-not-same_node

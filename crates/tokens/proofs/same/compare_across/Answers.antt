@@ -2,7 +2,6 @@
 use Prim.Native.Nat.{◌+◌, ◌-◌}
 use native.Mathlib.Omega.{arith}
 use Rattle.tokens.proofs.same.Laws.{across_judged}
-use borrow.Author.Rules.{rules}
 use Rattle.tokens.proofs.same.compare_across.Goals as goal
 
 pub returns : goal.returns

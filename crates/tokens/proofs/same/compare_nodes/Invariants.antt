@@ -1,14 +1,12 @@
 -- `same::compare_nodes` meets its contract. The loop's invariant: all pairs before k agree, so that the nodes from k on tell whether the lists
 -- are alike, and the pairs compared there are those that are missing. The measure is the number of pairs left.
-use mathlib.Core.Path.{◌≡◌, refl, ◌∙◌}
+use mathlib.Core.Path.{◌≡◌}
 use Prim.Native.Nat.{◌+◌, ◌-◌, ◌≤◌, min}
-use native.Mathlib.Omega.{arith}
 use lib.ListN.{length}
 use Rattle.meaning.specs.Same.{all_alike}
 use Rattle.meaning.specs.Compare.{pairs}
 use Rattle.tokens.specs.Key.{agree_under}
-use Rattle.tokens.proofs.same.Laws.{alike_from, pairs_from, compared_is, compare_goes_on, compare_stops, compare_ends}
-use borrow.Author.Rules.{rules}
+use Rattle.tokens.proofs.same.Laws.{alike_from, pairs_from}
 use Rattle.tokens.proofs.same.compare_nodes.Given as goal
 
 abbrev pub invariant-loop-k : goal.invariant-loop-k

@@ -1,6 +1,5 @@
 -- `same::key_of` meets its contract: the parts that it calls make up `key_of`.
 use Rattle.tokens.proofs.same.Laws.{key_judged}
-use borrow.Author.Rules.{rules}
 use Rattle.tokens.proofs.same.key_of.Goals as goal
 
 pub returns : goal.returns

@@ -2,7 +2,6 @@
 use mathlib.Core.Path.{sym, ap, ◌∙◌}
 use Rattle.tokens.specs.Key.{upper_half}
 use Rattle.tokens.proofs.same.Laws.{reaches_no_variable, reaches_above, reaches_below}
-use borrow.Author.Rules.{rules}
 use Rattle.tokens.proofs.same.reaches.Goals as goal
 
 pub returns-then-tag-ne2 : goal.returns-then-tag-ne2

@@ -1,6 +1,5 @@
 -- `same::same_across` meets its contract: with all binders shared a comparison is by keys.
 use Rattle.tokens.proofs.same.Laws.{same_judged}
-use borrow.Author.Rules.{rules}
 use Rattle.tokens.proofs.same.same_across.Goals as goal
 
 pub returns : goal.returns

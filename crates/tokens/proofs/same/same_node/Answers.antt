@@ -1,7 +1,6 @@
 -- `same::same_node` meets its contract.
 use mathlib.Core.Path.{ap₂}
 use lib.Dec.{eqb}
-use borrow.Author.Rules.{rules}
 use Rattle.tokens.proofs.same.same_node.Goals as goal
 
 pub returns : goal.returns

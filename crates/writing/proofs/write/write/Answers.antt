@@ -8,8 +8,8 @@ use Rattle.writing.proofs.write.write.Goals as goal
 pub prepare-prepared-requires : goal.prepare-prepared-requires
 prepare-prepared-requires c =
     record {
-        rooms = fresh_rooms;
-        room = fresh_room;
+      rooms = fresh_rooms;
+      room = fresh_room;
     }
 
 pub write_named-requires : goal.write_named-requires

@@ -3,7 +3,6 @@ use mathlib.Core.Path.{sym}
 use lib.Seq.{length-take-le}
 use Rattle.search.proofs.CallLaws.{callable_open}
 use Rattle.writing.proofs.WriteLaws.{named_callable, named_nothing, named_past, named_written}
-use borrow.Author.Rules.{rules}
 use Rattle.writing.proofs.write.write_named.Goals as goal
 
 pub slice_bounds-named_by-end : goal.slice_bounds-named_by-end

@@ -2,7 +2,6 @@
 use mathlib.Core.Path.{sym}
 use lib.Seq.{length-take-le}
 use Rattle.writing.proofs.WriteLaws.{row_judgeable, row_planned, row_seventeen, row_text_lem}
-use borrow.Author.Rules.{rules}
 use Rattle.writing.proofs.write.write_row.Goals as goal
 
 pub slice_bounds-judge-end : goal.slice_bounds-judge-end

@@ -1,7 +1,6 @@
 -- `write_text` meets its contract: the length first, and the text where it fits.
 use Rattle.composing.proofs.TextLaws.{text_room_lem}
 use Rattle.writing.proofs.WriteLaws.{text_short, text_written}
-use borrow.Author.Rules.{rules}
 use Rattle.writing.proofs.write.write_text.Goals as goal
 
 pub text_length-n-requires : goal.text_length-n-requires

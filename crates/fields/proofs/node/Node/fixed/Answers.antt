@@ -1,5 +1,4 @@
 -- `Node::fixed` meets its contract: a symbol by its width, every other node by its kind.
-use borrow.Author.Rules.{rules}
 use Rattle.fields.proofs.node.Node.fixed.Goals as goal
 
 pub returns-in-Symbol : goal.returns-in-Symbol

@@ -1,11 +1,8 @@
 -- `level` meets its contract: the loop goes outwards; the names that are left have the level that all of them have.
 use Prim.Native.Nat.{◌≤◌}
-use mathlib.Core.Path.{◌≡◌, refl, ◌∙◌}
-use native.Mathlib.Omega.{arith}
+use mathlib.Core.Path.{◌≡◌}
 use Rattle.tokens.specs.Token.{level_of}
 use Rattle.sites.specs.Site.{names_in}
-use Rattle.sites.proofs.SiteLaws.{level_step, level_here, level_none}
-use borrow.Author.Rules.{rules}
 use Rattle.sites.proofs.site.Scope.level.Given as goal
 
 abbrev pub invariant-loop-i : goal.invariant-loop-i

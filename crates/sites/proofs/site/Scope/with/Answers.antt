@@ -3,7 +3,6 @@ use mathlib.Core.Path.{refl, ◌∙◌}
 use native.Mathlib.Omega.{arith}
 use lib.ListN.{length-set}
 use Rattle.sites.proofs.SiteLaws.{names_with}
-use borrow.Author.Rules.{rules}
 use Rattle.sites.proofs.site.Scope.with.Goals as goal
 
 pub returns : goal.returns

@@ -1,6 +1,5 @@
 -- `token` meets its contract: the tag, the depth, the size and the payload of the node.
 use mathlib.Core.Path.{◌∙◌}
-use borrow.Author.Rules.{rules}
 use Rattle.sites.proofs.SiteLaws.{label_tag}
 use Rattle.sites.proofs.site.Site.token.Goals as goal
 

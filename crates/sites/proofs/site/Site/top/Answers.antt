@@ -3,7 +3,6 @@ use mathlib.Core.Path.{refl}
 use native.Mathlib.Omega.{arith}
 use Rattle.meaning.specs.Limits.{max_depth}
 use Rattle.sites.proofs.SiteLaws.{names_none}
-use borrow.Author.Rules.{rules}
 use Rattle.sites.proofs.site.Site.top.Goals as goal
 
 pub returns : goal.returns
