@@ -1,7 +1,6 @@
 -- `give_row` meets its contract.
 use Rattle.places.specs.Places.{value_of}
 use Rattle.tivagyesz.proofs.ExportLaws.{row_given_lem, no_row_given}
-use borrow.Author.Rules.{rules}
 use Rattle.tivagyesz.proofs.give_row.Goals as goal
 
 pub returns-then-code-ne-FOUND : goal.returns-then-code-ne-FOUND

@@ -1,7 +1,6 @@
 -- `matcher_check` meets its contract.
 use mathlib.Core.Path.{◌∙◌, ap}
 use Rattle.tivagyesz.specs.Exported.{check_code}
-use borrow.Author.Rules.{rules}
 use Rattle.tivagyesz.proofs.matcher_check.Goals as goal
 
 pub returns : goal.returns

@@ -1,7 +1,6 @@
 -- `matcher_search` meets its contract: a refusal changes nothing, and any other answer moves the place.
 use native.Mathlib.Omega.{arith}
 use Rattle.tivagyesz.proofs.ExportLaws.{search_refused, place_long, row_long, search_answered}
-use borrow.Author.Rules.{rules}
 use Rattle.tivagyesz.proofs.matcher_search.Goals as goal
 
 pub returns-then-code-lt-FOUND : goal.returns-then-code-lt-FOUND

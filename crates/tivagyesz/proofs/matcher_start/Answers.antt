@@ -1,6 +1,5 @@
 -- `matcher_start` meets its contract: the start is refused, or given.
 use Rattle.tivagyesz.proofs.ExportLaws.{start_refused, start_begins}
-use borrow.Author.Rules.{rules}
 use Rattle.tivagyesz.proofs.matcher_start.Goals as goal
 
 pub returns-in-Refused : goal.returns-in-Refused

@@ -1,6 +1,5 @@
 -- `matcher_write` meets its contract.
 use Rattle.tivagyesz.proofs.ExportLaws.{written}
-use borrow.Author.Rules.{rules}
 use Rattle.tivagyesz.proofs.matcher_write.Goals as goal
 
 pub returns : goal.returns

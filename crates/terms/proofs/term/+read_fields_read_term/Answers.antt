@@ -14,7 +14,7 @@ use Rattle.terms.proofs.Bounds.{Fine, term_fine}
 use Rattle.terms.proofs.TermLaws.{bytes_less, open_room, reading_begins, reading_cut, reading_ends, reading_goes, reading_refused, sums_fit}
 use Rattle.terms.proofs.TermLaws.{term_closed, term_refused}
 use Rattle.terms.proofs.term.+read_fields_read_term.Goals as goal
-use Rattle.terms.proofs.term.+read_fields_read_term.Goals.{read_fields-In-Field, read_fields-In-Took}
+use Rattle.terms.proofs.term.+read_fields_read_term.Goals.{read_fields-In-Took}
 
 -- The reader of the inner fields
 abbrev inner : Site → Reader

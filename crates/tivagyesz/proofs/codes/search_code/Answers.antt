@@ -1,7 +1,6 @@
 -- `search_code` meets its contract: a law for each answer.
 use native.Mathlib.Omega.{arith}
 use Rattle.tivagyesz.proofs.ExportLaws.{coded_refused, coded_found, coded_paused, coded_end}
-use borrow.Author.Rules.{rules}
 use Rattle.tivagyesz.proofs.codes.search_code.Goals as goal
 
 pub returns-in-Refused : goal.returns-in-Refused
