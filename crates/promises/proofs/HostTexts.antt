@@ -18,7 +18,7 @@ use Rattle.meaning.specs.PlaceValue.{Names, PlaceValue, place_value}
 use Rattle.meaning.specs.Entry.{WriteCall, WriteOn, check_call}
 use Rattle.meaning.specs.Calls.{ThirdDemand, given_row}
 use Rattle.meaning.specs.Given.{TextsGiven, named_by}
-use Rattle.meaning.specs.Given as goal
+use Rattle.meaning.specs.Given as given
 use Rattle.meaning.proofs.Proper.{accepted_proper}
 use Rattle.meaning.proofs.Lists.{mem_map}
 use Rattle.meaning.proofs.ProblemReading.{accept_accepted}
@@ -94,7 +94,7 @@ module _ (host : Interface) (lawful : Lawful host) where
     written_on row out out' a w = write_on p e (lawful.writes s row out out' a w)
 
     texts_on : (rows : List host.Held) (ts : List Bytes) → Pairwise (TextOf host s) rows ts
-        → Pairwise (goal.TextOf p) (map host.value rows) ts
+        → Pairwise (given.TextOf p) (map host.value rows) ts
     texts_on [] [] t = tt
     texts_on [] (x ∷ ts) t = absurd t
     texts_on (row ∷ rows) [] t = absurd t

@@ -1,5 +1,4 @@
 -- `bench_nodes::numbers_of`: what reading and checking leaves is what is measured.
--- After reading and checking: the bytes
 use Rattle.std.proofs.Common.{ℕ, ◌<◌, List, arith}
 use Rattle.meaning.specs.Basics.{All}
 use Rattle.accept.proofs.AcceptanceLaws.{are_bytes_lem}

@@ -1,5 +1,4 @@
 -- `bench_rows::rows_of`: what preparing leaves is what is counted.
--- Of an accepted problem: its expressions' nodes lie inside the tables
 use mathlib.Core.Path.{sym}
 use lib.Seq.{length-take-le}
 use Rattle.prepare.proofs.PreparedLaws.{fresh_rooms, fresh_room}

@@ -1,5 +1,4 @@
 -- `compare_in` meets its contract.
--- After reading and checking: the bytes
 use Prim.Native.Nat.{ℕ, ◌<◌}
 use mathlib.Core.List.{List}
 use native.Mathlib.Omega.{arith}

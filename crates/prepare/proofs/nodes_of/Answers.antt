@@ -1,4 +1,3 @@
--- src/lib.rt:40:9
 use Rattle.prepare.proofs.PreparedLaws.{nodes_looked_up, no_nodes_lem}
 use Rattle.prepare.proofs.nodes_of.Goals as goal
 

@@ -1,5 +1,4 @@
 -- `prepare` meets its contract: what `accept` leaves is what the tables are made from.
--- After reading and checking: the bytes s, and the tables before and after
 use mathlib.Core.Path.{refl, subst}
 use mathlib.Core.List.{List}
 use Prim.Native.Nat.{ℕ, ◌<◌}

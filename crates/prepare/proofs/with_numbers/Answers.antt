@@ -1,5 +1,4 @@
 -- `with_numbers` meets its contract: the problem that stands in the tables gives what each call requires.
--- The problem and how it stands, from the entry on
 use mathlib.Core.Path.{◌≡◌, refl, sym}
 use Prim.Native.Nat.{◌<◌}
 use native.Mathlib.Omega.{arith}

@@ -1,5 +1,4 @@
 -- `body_of` meets its contract.
--- src/entry.rt:39:17
 use Rattle.composing.proofs.EntryLaws.{body_returned}
 use Rattle.composing.proofs.entry.body_of.Goals as goal
 

@@ -1,5 +1,4 @@
 -- `entry_of` meets its contract: a function, another metavariable, or none of the problem's.
--- src/entry.rt:62:8
 use Rattle.composing.proofs.EntryLaws.{entry_function, entry_plain, entry_absent, rank_small}
 use Rattle.composing.proofs.entry.entry_of.Goals as goal
 

@@ -1,5 +1,4 @@
 -- `value_of` meets its contract.
--- src/entry.rt:48:16
 use mathlib.Core.Path.{refl}
 use Rattle.composing.proofs.EntryLaws.{value_open, value_there}
 use Rattle.composing.proofs.entry.value_of.Goals as goal

@@ -1,5 +1,4 @@
 -- `read_line`: the digits of both parts lie in the line, and their bytes in the buffers.
--- After the first part is read: how many bytes it has, and the line
 use mathlib.Core.List.{List}
 use Prim.Native.Nat.{ℕ, ◌+◌, ◌*◌, ◌<◌}
 use native.Mathlib.Omega.{arith}

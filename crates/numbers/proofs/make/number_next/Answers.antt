@@ -1,5 +1,4 @@
 -- `make::number_next` meets its contract.
--- What is known of the node, from the entry on
 use mathlib.Core.Path.{◌≡◌, ap, sym, subst}
 use Prim.Native.Nat.{ℕ, ◌+◌, ◌*◌, ◌/◌, ◌<◌}
 use native.Mathlib.Omega.{arith}

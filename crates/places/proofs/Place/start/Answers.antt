@@ -1,5 +1,4 @@
 -- `start` meets its contract: a problem is prepared, and its first place is looked up.
--- Of an accepted problem: its expressions' nodes lie inside the tables
 use mathlib.Core.Path.{refl, sym}
 use mathlib.Core.List.{List}
 use Prim.Native.Nat.{ℕ, ◌≤◌}

@@ -1,5 +1,4 @@
 -- `show_kind`: the digits lie in the line, and the bytes in the buffer.
--- The part that is read, and the buffer after the call
 use Prim.Native.Nat.{◌+◌, ◌*◌, ◌<◌}
 use native.Mathlib.Omega.{arith}
 use lib.ListN.{length}

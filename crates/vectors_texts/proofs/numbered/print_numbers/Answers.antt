@@ -1,5 +1,4 @@
 -- `print_numbers`: the numbers lie in the buffer.
--- Where numbers are answered, they are no more than there is room for
 use mathlib.Core.Path.{◌≡◌, sym}
 use Prim.Native.Nat.{ℕ, ◌≤◌}
 use mathlib.Core.List.{List}
