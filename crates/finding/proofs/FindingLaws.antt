@@ -1,8 +1,12 @@
 -- The row of a Found is written, since there is room for any text.
 use mathlib.Core.Path.{◌≡◌, refl, ap, sym, ◌∙◌, subst}
-use mathlib.Core.List.{List}
+use mathlib.Core.Logic.{inl, inr}
+use mathlib.Core.List.{List, [], ◌∷◌}
 use Prim.Native.Nat.{ℕ, ◌≤◌}
+use native.Mathlib.Omega.{arith}
 use lib.ListN.{length}
+use denote.Enum.Declared.{tag_of}
+use types.Run.{OneOf}
 use Rattle.meaning.specs.Limits.{largest_written}
 use Rattle.meaning.specs.Basics.{All, Byte, Bytes}
 use Rattle.meaning.specs.Read.{Answer, got}
@@ -20,6 +24,7 @@ use Rattle.places.specs.Places.{AtRow, value_of}
 use Rattle.places.specs.declared.Place.{Place}
 use Rattle.seeking.specs.declared.Answer.{Answer as Kind}
 use Rattle.seeking.specs.declared.Answer.TheVariants as answers
+use Rattle.seeking.specs.contracts.Answer.{the_type}
 use Rattle.seeking.specs.declared.Searched.{Searched}
 use Rattle.search.specs.Calling.{Answers, host_reply, reply_with, row_value}
 use Rattle.copying.specs.Answered.{answer_of}
@@ -38,6 +43,15 @@ found_written {s} {v} {row} {next} {n} {before} {after} {a} b room c w = go c re
     go (on_accepted p e {reply} on) z =
         let (r, named, solution) = (reply_named p (subst (λ (y : HostReply). SearchOn p v n y) z on)).0 in
         let (k, gives, text) = when_large p row before (accept_accepted s p b e).0 r named solution room (write_on p e w) in (k, gives)
+
+-- An answer with another key than a Found's
+pub other_answer : {a : Kind} → OneOf (0 ∷ 2 ∷ 3 ∷ []) (tag_of the_type a) → a ≡ answers.Found → ⊥
+other_answer k e = go (subst (λ (a : Kind). OneOf (0 ∷ 2 ∷ 3 ∷ []) (tag_of the_type a)) e k)
+  where
+    go : OneOf (0 ∷ 2 ∷ 3 ∷ []) 1 → ⊥
+    go (inl z) = absurd (omega arith)
+    go (inr (inl z)) = absurd (omega arith)
+    go (inr (inr z)) = absurd (omega arith)
 
 row_value_lem : {sets : List NodeSet} {row : Place} → AtRow sets row → value_of row ≡ row_value (masks_in sets)
 row_value_lem is = cc
