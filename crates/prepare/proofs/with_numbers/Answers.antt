@@ -28,28 +28,28 @@ nodes_of-firsts-requires c =
 pub slice_bounds-number_nodes-end : goal.slice_bounds-number_nodes-end
 slice_bounds-number_nodes-end c =
     let laid : Laid c.requires.ground.0 c.args.ps.now c.args.es.now c.args.fs.now c.args.a = c.requires.ground.1 in
-    let expressions-long : length (take c.args.a.expressions c.args.es.now) ≡ c.args.a.expressions = length-take-le c.args.a.expressions c.args.es.now laid.expressions_inside in
-    sym expressions-long
+    let expressions_long : length (take c.args.a.expressions c.args.es.now) ≡ c.args.a.expressions = length-take-le c.args.a.expressions c.args.es.now laid.expressions_inside in
+    sym expressions_long
 
 pub number_nodes-requires : goal.number_nodes-requires
 number_nodes-requires c =
     let laid : Laid c.requires.ground.0 c.args.ps.now c.args.es.now c.args.fs.now c.args.a = c.requires.ground.1 in
-    let expressions-long : length (take c.args.a.expressions c.args.es.now) ≡ c.args.a.expressions = length-take-le c.args.a.expressions c.args.es.now laid.expressions_inside in
+    let expressions_long : length (take c.args.a.expressions c.args.es.now) ≡ c.args.a.expressions = length-take-le c.args.a.expressions c.args.es.now laid.expressions_inside in
     let few : c.args.a.expressions < table_room = table_few _ _ _ _ _ laid in
-    let n = expressions-long in
+    let n = expressions_long in
     (table_numbers _ _ _ _ _ laid, omega (arith, few), omega (arith, few, c.requires.room))
 
 pub returns : goal.returns
 returns c =
     let laid : Laid c.requires.ground.0 c.args.ps.now c.args.es.now c.args.fs.now c.args.a = c.requires.ground.1 in
-    let expressions-long : length (take c.args.a.expressions c.args.es.now) ≡ c.args.a.expressions = length-take-le c.args.a.expressions c.args.es.now laid.expressions_inside in
+    let expressions_long : length (take c.args.a.expressions c.args.es.now) ≡ c.args.a.expressions = length-take-le c.args.a.expressions c.args.es.now laid.expressions_inside in
     let few : c.args.a.expressions < table_room = table_few _ _ _ _ _ laid in
     let made = c.number_nodes in
     let room = made.auto.ns in
     record {
       verdict = refl;
       tabled = record {
-        numbers = numbers_front _ _ c.args.a.expressions (omega (arith, expressions-long)) made.ensures;
+        numbers = numbers_front _ _ c.args.a.expressions (omega (arith, expressions_long)) made.ensures;
         numbers_inside = omega (arith, few, c.requires.room);
         nodes = c.nodes_of-firsts.ensures;
       };

@@ -2,6 +2,5 @@
 use Rattle.composing.proofs.EntryLaws.{body_returned}
 use Rattle.composing.proofs.entry.body_of.Goals as goal
 
--- src/entry.rt:33:1
 pub returns : goal.returns
 returns c = body_returned _ _

@@ -3,10 +3,8 @@ use mathlib.Core.Path.{refl}
 use Rattle.composing.proofs.EntryLaws.{value_open, value_there}
 use Rattle.composing.proofs.entry.value_of.Goals as goal
 
--- src/entry.rt:43:1
 pub returns-then-node-eq-OPEN : goal.returns-then-node-eq-OPEN
 returns-then-node-eq-OPEN c = value_open _ _ _ refl c.if-node-eq-OPEN.true
 
--- src/entry.rt:43:1
 pub returns-else-node-eq-OPEN : goal.returns-else-node-eq-OPEN
 returns-else-node-eq-OPEN c = value_there _ _ _ refl c.if-node-eq-OPEN.false

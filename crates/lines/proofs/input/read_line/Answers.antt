@@ -26,24 +26,24 @@ overflow_mul-result c =
     let n : ℕ = c.in-Bytes.n in
     let line : List ℕ = c.args.line.now in
     let m : ℕ = c.in-Bytes-other.m in
-    let second-part : (3 + 2 * n + 2 * m < length line) × IsPrefixLen m c.read_part-other.new.bytes = found _ _ _ c.in-Bytes-other.is c.read_part-other.ensures in
-    omega (arith, second-part.0)
+    let second_part : (3 + 2 * n + 2 * m < length line) × IsPrefixLen m c.read_part-other.new.bytes = found _ _ _ c.in-Bytes-other.is c.read_part-other.ensures in
+    omega (arith, second_part.0)
 
 pub overflow_add-result : goal.overflow_add-result
 overflow_add-result c =
     let n : ℕ = c.in-Bytes.n in
     let line : List ℕ = c.args.line.now in
     let m : ℕ = c.in-Bytes-other.m in
-    let second-part : (3 + 2 * n + 2 * m < length line) × IsPrefixLen m c.read_part-other.new.bytes = found _ _ _ c.in-Bytes-other.is c.read_part-other.ensures in
-    omega (arith, second-part.0)
+    let second_part : (3 + 2 * n + 2 * m < length line) × IsPrefixLen m c.read_part-other.new.bytes = found _ _ _ c.in-Bytes-other.is c.read_part-other.ensures in
+    omega (arith, second_part.0)
 
 pub overflow_add-result-2 : goal.overflow_add-result-2
 overflow_add-result-2 c =
     let n : ℕ = c.in-Bytes.n in
     let line : List ℕ = c.args.line.now in
     let m : ℕ = c.in-Bytes-other.m in
-    let second-part : (3 + 2 * n + 2 * m < length line) × IsPrefixLen m c.read_part-other.new.bytes = found _ _ _ c.in-Bytes-other.is c.read_part-other.ensures in
-    omega (arith, second-part.0)
+    let second_part : (3 + 2 * n + 2 * m < length line) × IsPrefixLen m c.read_part-other.new.bytes = found _ _ _ c.in-Bytes-other.is c.read_part-other.ensures in
+    omega (arith, second_part.0)
 
 pub returns : goal.returns
 returns c =
@@ -51,5 +51,5 @@ returns c =
     let line : List ℕ = c.args.line.now in
     let first_part : (2 + 2 * n < length line) × IsPrefixLen n c.read_part-part.new.bytes = found _ _ _ c.in-Bytes.is c.read_part-part.ensures in
     let m : ℕ = c.in-Bytes-other.m in
-    let second-part : (3 + 2 * n + 2 * m < length line) × IsPrefixLen m c.read_part-other.new.bytes = found _ _ _ c.in-Bytes-other.is c.read_part-other.ensures in
-    (omega (arith, second-part.0), first_part.1, second-part.1)
+    let second_part : (3 + 2 * n + 2 * m < length line) × IsPrefixLen m c.read_part-other.new.bytes = found _ _ _ c.in-Bytes-other.is c.read_part-other.ensures in
+    (omega (arith, second_part.0), first_part.1, second_part.1)

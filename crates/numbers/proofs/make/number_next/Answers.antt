@@ -15,25 +15,25 @@ module _ (s : Start) where
   abbrev bucket : ℕ
   bucket = s.args.node.hash / 16777216
 
-  binder-small : s.args.node.binder < 65536
-  binder-small = node_binder s.args.t.now s.requires.node.0 s.args.k s.requires.node.1 s.args.node s.requires.node.2
+  binder_small : s.args.node.binder < 65536
+  binder_small = node_binder s.args.t.now s.requires.node.0 s.args.k s.requires.node.1 s.args.node s.requires.node.2
 
   hash_small : s.args.node.hash < 4294967296
   hash_small = node_hash s.args.t.now s.requires.node.0 s.args.k s.requires.node.1 s.args.node s.requires.node.2
 
-  level-small : s.args.node.level < 256
-  level-small = node_level s.args.t.now s.requires.node.0 s.args.k s.requires.node.1 s.args.node s.requires.node.2
+  level_small : s.args.node.level < 256
+  level_small = node_level s.args.t.now s.requires.node.0 s.args.k s.requires.node.1 s.args.node s.requires.node.2
 
   label : s.args.node.binder + 65536 * s.args.node.hash ≡ label_at s.args.t.now s.args.k
   label = node_label s.args.t.now s.requires.node.0 s.args.k s.requires.node.1 s.args.node s.requires.node.2
 
-  is-bucket : bucket ≡ bucket_at s.args.t.now s.args.k
-  is-bucket = node_bucket s.args.t.now s.requires.node.0 s.args.k s.requires.node.1 s.args.node s.requires.node.2
+  is_bucket : bucket ≡ bucket_at s.args.t.now s.args.k
+  is_bucket = node_bucket s.args.t.now s.requires.node.0 s.args.k s.requires.node.1 s.args.node s.requires.node.2
 
   points : Points s.args.t.now (bucket_at s.args.t.now s.args.k) s.args.k (at s.args.heads.now bucket)
   points =
       head_points s.args.t.now s.requires.node.0 s.args.k s.requires.node.1 s.args.node s.requires.node.2 s.args.heads.now s.args.links.now s.args.ns.now s.requires.passed
-      bucket is-bucket
+      bucket is_bucket
 
   small : s.args.k < 65536
   small = omega (arith, s.requires.node.0.small, s.requires.node.1)
@@ -45,14 +45,14 @@ module _ (s : Start) where
       (set s.args.ns.now s.args.k n)
   more n own =
       passed_more s.args.t.now s.requires.node.0 s.args.k s.requires.node.1 s.args.node s.requires.node.2 s.args.heads.now s.args.links.now s.args.ns.now s.requires.passed
-      bucket _ n is-bucket (ap (λ (l : ℕ). at s.args.heads.now bucket + 65536 * l) label) own
+      bucket _ n is_bucket (ap (λ (l : ℕ). at s.args.heads.now bucket + 65536 * l) label) own
 
 pub overflow_mul-label : goal.overflow_mul-label
 overflow_mul-label c = omega (arith, hash_small c.before.before.before.before.before.before)
 
 pub overflow_add-label : goal.overflow_add-label
 overflow_add-label c =
-    omega (arith, binder-small c.before.before.before.before.before.before.before, hash_small c.before.before.before.before.before.before.before)
+    omega (arith, binder_small c.before.before.before.before.before.before.before, hash_small c.before.before.before.before.before.before.before)
 
 pub bounds-heads-bucket : goal.bounds-heads-bucket
 bounds-heads-bucket c =
@@ -67,11 +67,11 @@ find-earlier-requires c =
 
 pub overflow_mul-links : goal.overflow_mul-links
 overflow_mul-links c =
-    omega (arith, binder-small c.before.before.before.before.before.before.before.before.before.before, hash_small c.before.before.before.before.before.before.before.before.before.before)
+    omega (arith, binder_small c.before.before.before.before.before.before.before.before.before.before, hash_small c.before.before.before.before.before.before.before.before.before.before)
 
 pub overflow_add-links : goal.overflow_add-links
 overflow_add-links c =
-    omega (arith, binder-small c.before.before.before.before.before.before.before.before.before.before, hash_small c.before.before.before.before.before.before.before.before.before.before, (points c.before.before.before.before.before.before.before.before.before.before).up_to, small c.before.before.before.before.before.before.before.before.before.before)
+    omega (arith, binder_small c.before.before.before.before.before.before.before.before.before.before, hash_small c.before.before.before.before.before.before.before.before.before.before, (points c.before.before.before.before.before.before.before.before.before.before).up_to, small c.before.before.before.before.before.before.before.before.before.before)
 
 pub bounds-heads-bucket-2 : goal.bounds-heads-bucket-2
 bounds-heads-bucket-2 c =
@@ -79,11 +79,11 @@ bounds-heads-bucket-2 c =
 
 pub overflow_mul-ns : goal.overflow_mul-ns
 overflow_mul-ns c =
-    omega (arith, level-small c.before.before.before.before.before.before.before.before.before.before.before.before)
+    omega (arith, level_small c.before.before.before.before.before.before.before.before.before.before.before.before)
 
 pub overflow_add-ns : goal.overflow_add-ns
 overflow_add-ns c =
-    omega (arith, level-small c.before.before.before.before.before.before.before.before.before.before.before.before, small c.before.before.before.before.before.before.before.before.before.before.before.before)
+    omega (arith, level_small c.before.before.before.before.before.before.before.before.before.before.before.before, small c.before.before.before.before.before.before.before.before.before.before.before.before)
 
 pub returns-then-earlier-k : goal.returns-then-earlier-k
 returns-then-earlier-k c =
