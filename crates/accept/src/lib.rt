@@ -4,66 +4,83 @@
 ghost use Rattle.std.specs.Prelude.{◌≤◌, length};
 ghost use Rattle.meaning.specs.Accept.{accept};
 ghost use Rattle.tokens.specs.Token.{Table};
-ghost use Rattle.accept.specs.Acceptance.{Checks, Rooms, Accepts};
+ghost use Rattle.accept.specs.Acceptance.{Checks, Rooms, Fills, Accepts};
 
-use faces::check::{Checked, check};
+use faces::check::check;
 use metavariables::{Occurring, survey};
-use table::Read;
+use refusal::Refusal;
 
-// What is known of an accepted problem, beside its two tables and the faces.
+// An accepted problem: the tokens of its patterns and of its expressions, the sets of its metavariables, and its faces.
 #[derive(Clone, Copy)]
-pub struct Standing {
-    // How many tokens stand at the front of the table of patterns, and of the table of expressions.
+pub struct Standing<'a> {
+    pub patterns: &'a [u64],
+    pub expressions: &'a [u64],
+    pub occurring: Occurring,
+    // None where the problem has no rows: a letter is used both ways, or a shape disagrees.
+    pub faces: Option<&'a [u64]>,
+}
+
+// The same in tables that are lent: how many entries stand at the front of each.
+#[derive(Clone, Copy)]
+pub struct Filled {
     pub patterns: usize,
     pub expressions: usize,
     pub occurring: Occurring,
-    // Whether the problem has rows: no letter is used both ways, and all shapes agree.
-    pub rows: bool,
-    // How many faces are recorded.
-    pub faces: usize,
-}
-
-#[derive(Clone, Copy)]
-pub enum Verdict {
-    Refused(u8),
-    Accepted(Standing),
+    pub faces: Option<usize>,
 }
 
 // The checks on the tables of a problem that is read.
-fn checked(ps: &[u64], es: &[u64], faces: &mut [u64]) -> Verdict
+fn checked(ps: &[u64], es: &[u64], faces: &mut [u64]) -> Result<Filled, Refusal>
     requires patterns { Table ps.now }
     requires expressions { Table es.now }
     requires room { length ps.now ≤ length faces.old }
     ensures { Checks ps.now es.now faces.old faces.new result }
 {
-    let found = check(ps, es, faces);
-    let mut standing = Standing {
+    let recorded = check(ps, es, faces)?;
+    Ok(Filled {
         patterns: ps.len(),
         expressions: es.len(),
         occurring: survey(ps),
-        rows: false,
-        faces: 0,
-    };
-    match found {
-        Checked::Refused(r) => Verdict::Refused(r),
-        Checked::NoRows => Verdict::Accepted(standing),
-        Checked::Faces(n) => {
-            standing.rows = true;
-            standing.faces = n;
-            Verdict::Accepted(standing)
-        }
-    }
+        faces: recorded,
+    })
 }
 
-// Any bytes: document 01's refusal, or the problem's tokens at the front of the two tables, its faces at the front of the third, and
-// what is known of it. After a refusal the tables may hold anything.
-pub fn accept(problem: &[u8], ps: &mut [u64], es: &mut [u64], faces: &mut [u64]) -> Verdict
+// Any bytes: document 01's refusal, or the problem's tokens at the front of the two tables, with no entry after them changed, and its faces at
+// the front of the third. After a refusal the tables may hold anything.
+pub fn fill(
+    problem: &[u8],
+    ps: &mut [u64],
+    es: &mut [u64],
+    faces: &mut [u64],
+) -> Result<Filled, Refusal>
     requires { Rooms ps.old es.old faces.old }
-    ensures { Accepts (accept problem.now) ps.old ps.new es.old es.new
+    ensures { Fills (accept problem.now) ps.old ps.new es.old es.new
         faces.new result }
 {
-    match table::read(problem, ps, es) {
-        Read::Refused(r) => Verdict::Refused(r),
-        Read::Problem(p, e, _) => checked(&ps[..p], &es[..e], faces),
-    }
+    let read = table::read(problem, ps, es)?;
+    checked(&ps[..read.patterns], &es[..read.expressions], faces)
+}
+
+// Any bytes: document 01's refusal, or the accepted problem, in the tables that are lent. What is after it in them, which `fill` leaves as it
+// was, is not reached through the answer.
+pub fn accept<'a>(
+    problem: &[u8],
+    ps: &'a mut [u64],
+    es: &'a mut [u64],
+    faces: &'a mut [u64],
+) -> Result<Standing<'a>, Refusal>
+    requires { Rooms ps.old es.old faces.old }
+    ensures { Accepts (accept problem.now) result }
+{
+    let filled = fill(problem, ps, es, faces)?;
+    Ok(Standing {
+        patterns: &ps[..filled.patterns],
+        expressions: &es[..filled.expressions],
+        occurring: filled.occurring,
+        // No `map`: its closure would have to know that n entries are there.
+        faces: match filled.faces {
+            Some(n) => Some(&faces[..n]),
+            None => None,
+        },
+    })
 }

@@ -33,7 +33,7 @@ module _ {at : ℕ} {bytes before after : Bytes} {r : ℕ} (put : Put at bytes b
   pub put_till : {bytes' : Bytes} {r' : ℕ} → bytes ≡ bytes' → r ≡ r' → Put at bytes' before after r'
   put_till {bytes'} {r'} e f = subst (λ (l : Bytes). Put at l before after r') e (subst (Put at bytes before after) f put)
 
--- One byte more of a word
+-- One byte more, and its digits
 module _ (word : Bytes) (i : ℕ) (h : i < length word) where
   abbrev byte : ℕ
   byte = get_or word i 0
@@ -41,12 +41,6 @@ module _ (word : Bytes) (i : ℕ) (h : i < length word) where
   next_byte : take i word ++ (byte ∷ []) ≡ take (i + 1) word
   next_byte = sym (ap (λ (n : ℕ). take n word) (add-one i) ∙ take-suc word i 0 h)
 
-  module _ {at : ℕ} {before out : Bytes} where
-    pub word_more : Put at (take i word) before out (at + i) → at + i < length out
-        → Put at (take (i + 1) word) before (set out (at + i) byte) (at + (i + 1))
-    word_more put l = put_till (put_one put byte l) next_byte (omega arith)
-
-  -- .. and of bytes in hexadecimal
   next_digits : hexadecimal (take i word) ++ hexadecimal (byte ∷ []) ≡ hexadecimal (take (i + 1) word)
   unfolding hexadecimal
   next_digits = sym (each_append (λ b. hex_digit (b / 16) ∷ hex_digit (b % 16) ∷ []) (take i word) (byte ∷ [])) ∙ ap hexadecimal next_byte

@@ -1,8 +1,8 @@
 // Words, numbers and bytes as they are printed, put into a buffer one after the other: each function writes at a place and answers the place
-// after what it wrote.
+// after what it wrote. By hand and not by `write!`, whose text a contract knows only in a String, on the heap.
 #![tactic(auto)]
 
-ghost use Rattle.std.specs.Prelude.{◌+◌, ◌*◌, ◌≤◌, ◌≡◌, [], ◌∷◌, length, take};
+ghost use Rattle.std.specs.Prelude.{◌+◌, ◌*◌, ◌≤◌, ◌≡◌, [], ◌∷◌, length};
 ghost use Rattle.meaning.specs.Program.{decimal, hex_digit, hexadecimal};
 ghost use Rattle.ascii.specs.Put.{Put};
 
@@ -10,12 +10,9 @@ pub fn put_word(word: &[u8], at: usize, out: &mut [u8]) -> usize
     requires { at + length word.now ≤ length out.old }
     ensures { Put at word.now out.old out.new result }
 {
-    let mut i = 0;
-    while i < word.len() {
-        out[at + i] = word[i];
-        i += 1;
-    }
-    at + i
+    let end = at + word.len();
+    out[at..end].copy_from_slice(word);
+    end
 }
 
 // A number in decimal: the digits before the last, and then the last.
@@ -23,12 +20,12 @@ pub fn put_number(n: u32, at: usize, out: &mut [u8]) -> usize
     requires { at + length (decimal n) ≤ length out.old }
     ensures { Put at (decimal n) out.old out.new result }
 {
-    let last = 48 + (n % 10) as u8;
-    if n < 10 {
-        out[at] = last;
-        return at + 1;
-    }
-    let end = put_number(n / 10, at, out);
+    let last = b'0' + (n % 10) as u8;
+    let end = if n < 10 {
+        at
+    } else {
+        put_number(n / 10, at, out)
+    };
     out[end] = last;
     end + 1
 }
@@ -38,7 +35,11 @@ fn hex_digit(value: u8) -> u8
     requires { value ≤ 15 }
     ensures { result ≡ hex_digit value }
 {
-    if value < 10 { 48 + value } else { 55 + value }
+    if value < 10 {
+        b'0' + value
+    } else {
+        b'A' - 10 + value
+    }
 }
 
 // A byte: its high digit, and its low one.
@@ -53,16 +54,14 @@ fn put_byte(byte: u8, at: usize, out: &mut [u8]) -> usize
     at + 2
 }
 
-// The first n bytes, two digits each.
-pub fn put_bytes(bytes: &[u8], n: usize, at: usize, out: &mut [u8]) -> usize
-    requires { (n ≤ length bytes.now) × (at + 2 * n ≤ length out.old) }
-    ensures { Put at (hexadecimal (take n bytes.now)) out.old out.new result }
+// Bytes, two digits each.
+pub fn put_bytes(bytes: &[u8], at: usize, out: &mut [u8]) -> usize
+    requires { at + 2 * length bytes.now ≤ length out.old }
+    ensures { Put at (hexadecimal bytes.now) out.old out.new result }
 {
     let mut end = at;
-    let mut i = 0;
-    while i < n {
-        end = put_byte(bytes[i], end, out);
-        i += 1;
+    for byte in bytes {
+        end = put_byte(*byte, end, out);
     }
     end
 }

@@ -6,12 +6,12 @@
 //     r   reads and checks the problem, 20,000 times, and prints how many nodes its expressions have
 #![tactic(auto)]
 
-ghost use Rattle.std.specs.Prelude.{◌<◌, ◌≤◌, length, take};
+ghost use Rattle.std.specs.Prelude.{◌<◌, length};
 ghost use Rattle.table.specs.Whole.{table_room};
 ghost use Rattle.numbers.specs.Numbering.{Numerable, Rooms};
 ghost use Rattle.comparing.specs.Comparing.{Nested};
 
-use accept::{Verdict, accept};
+use accept::accept;
 use comparing::compare;
 use numbers::make::number;
 use table::TABLE_ROOM;
@@ -26,37 +26,38 @@ const TIMES: usize = 20000;
 
 const WORST_TIMES: usize = 500;
 
-// The sum of what is compared, so that each time counts. Which of the two comes first is exchanged each time.
+// The sum of what is compared, so that each time counts. Which of the two comes first hangs on the sum so far, so that no call can be made
+// once for all times.
 fn compare_again(es: &[u64], first: usize, second: usize) -> usize
     requires nested { Nested es.now }
     requires first_in { first < length es.now }
     requires second_in { second < length es.now }
 {
     let mut sum = 0usize;
-    let mut k = 0;
-    while k < COMPARISONS {
-        let one = compare(es, first, second);
-        let other = compare(es, second, first);
-        sum = std::num::wrapping_add_usize(sum, one.pairs);
-        sum = std::num::wrapping_add_usize(sum, other.pairs);
-        k += 2;
+    for _ in 0..COMPARISONS {
+        let compared = if sum % 2 == 0 {
+            compare(es, first, second)
+        } else {
+            compare(es, second, first)
+        };
+        sum = sum.wrapping_add(compared.pairs);
     }
     sum
 }
 
-// The first n nodes of the table are the problem's expressions.
-fn measure(es: &[u64], n: usize) -> usize
-    requires front { n ≤ length es.now }
-    requires nested { Nested (take n es.now) }
+// Of the nodes of a problem's expressions.
+fn measure(es: &[u64]) -> usize
+    requires { Nested es.now }
 {
-    if n < 2 {
+    if es.len() < 2 {
         return 0;
     }
     let second = 1 + size(es[1]) as usize;
-    if n <= second {
-        return 0;
+    if second < es.len() {
+        compare_again(es, 1, second)
+    } else {
+        0
     }
-    compare_again(&es[..n], 1, second)
 }
 
 fn pairs_of(problem: &[u8]) -> usize {
@@ -64,58 +65,36 @@ fn pairs_of(problem: &[u8]) -> usize {
     let mut expressions = [0u64; TABLE_ROOM];
     let mut faces = [0u64; TABLE_ROOM];
     match accept(problem, &mut patterns, &mut expressions, &mut faces) {
-        Verdict::Refused(_) => 0,
-        Verdict::Accepted(standing) => measure(&expressions, standing.expressions),
+        Err(_) => 0,
+        Ok(standing) => measure(standing.expressions),
     }
 }
 
-// Whether no node before k has its number.
-fn is_new(ns: &[u64], k: usize) -> bool
-    requires { k < length ns.now }
-{
-    let mut i = 0;
-    while i < k {
-        if ns[i] == ns[k] {
-            return false;
-        }
-        i += 1;
-    }
-    true
-}
-
-// How many different numbers there are.
+// How many different numbers there are: each counts where it stands first.
 fn different(ns: &[u64]) -> usize {
-    let mut n = 0usize;
-    let mut k = 0;
-    while k < ns.len() {
-        if is_new(ns, k) {
-            n = std::num::wrapping_add_usize(n, 1);
-        }
-        k += 1;
-    }
-    n
+    ns.iter()
+        .enumerate()
+        .filter(|(k, n)| !ns[..*k].contains(n))
+        .count()
 }
 
 fn number_again(es: &[u64], times: usize, ns: &mut [u64], links: &mut [u64])
     requires { Numerable es.now × Rooms es.now ns.old links.old }
 {
-    let mut k = 0;
-    while k < times {
+    for _ in 0..times {
         number(es, ns, links);
-        k += 1;
     }
 }
 
-// The first n nodes of the table are the problem's expressions.
-fn measure_numbers(es: &[u64], n: usize, times: usize) -> usize
-    requires front { n ≤ length es.now }
-    requires numerable { Numerable (take n es.now) }
-    requires room { n < table_room }
+// Of the nodes of a problem's expressions.
+fn measure_numbers(es: &[u64], times: usize) -> usize
+    requires numerable { Numerable es.now }
+    requires room { length es.now < table_room }
 {
     let mut ns = [0u64; TABLE_ROOM];
     let mut links = [0u64; TABLE_ROOM];
-    number_again(&es[..n], times, &mut ns, &mut links);
-    different(&ns[..n])
+    number_again(es, times, &mut ns, &mut links);
+    different(&ns[..es.len()])
 }
 
 fn numbers_of(problem: &[u8], times: usize) -> usize {
@@ -123,15 +102,8 @@ fn numbers_of(problem: &[u8], times: usize) -> usize {
     let mut expressions = [0u64; TABLE_ROOM];
     let mut faces = [0u64; TABLE_ROOM];
     match accept(problem, &mut patterns, &mut expressions, &mut faces) {
-        Verdict::Refused(_) => 0,
-        Verdict::Accepted(standing) => measure_numbers(&expressions, standing.expressions, times),
-    }
-}
-
-fn nodes_of(verdict: Verdict) -> usize {
-    match verdict {
-        Verdict::Refused(_) => 0,
-        Verdict::Accepted(standing) => standing.expressions,
+        Err(_) => 0,
+        Ok(standing) => measure_numbers(standing.expressions, times),
     }
 }
 
@@ -140,21 +112,21 @@ fn read_again(problem: &[u8]) -> usize {
     let mut expressions = [0u64; TABLE_ROOM];
     let mut faces = [0u64; TABLE_ROOM];
     let mut nodes = 0;
-    let mut k = 0;
-    while k < TIMES {
-        nodes = nodes_of(accept(problem, &mut patterns, &mut expressions, &mut faces));
-        k += 1;
+    for _ in 0..TIMES {
+        nodes = match accept(problem, &mut patterns, &mut expressions, &mut faces) {
+            Err(_) => 0,
+            Ok(standing) => standing.expressions.len(),
+        };
     }
     nodes
 }
 
 fn measured(what: u8, problem: &[u8]) -> usize {
     match what {
-        // c, n, w, r
-        99 => pairs_of(problem) / COMPARISONS,
-        110 => numbers_of(problem, TIMES),
-        119 => numbers_of(problem, WORST_TIMES),
-        114 => read_again(problem),
+        b'c' => pairs_of(problem) / COMPARISONS,
+        b'n' => numbers_of(problem, TIMES),
+        b'w' => numbers_of(problem, WORST_TIMES),
+        b'r' => read_again(problem),
         _ => 0,
     }
 }

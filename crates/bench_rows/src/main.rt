@@ -5,16 +5,9 @@
 // every set of symbols that is not empty: 2^19 + 1 rows.
 #![tactic(auto)]
 
-ghost use Rattle.std.specs.Prelude.{◌≡◌, true};
-ghost use Rattle.meaning.specs.Search.{at, place_of};
-ghost use Rattle.masks.specs.Sets.{masks_in};
-ghost use Rattle.rows.specs.Rows.{Faced, rows_of};
-
-use accept::Verdict;
-use faces::first::Firsts;
-use masks::NodeSet;
 use prepare::prepare;
-use rows::{begin_again, first_row, last_function, next_of, stepping};
+use refusal::Refusal;
+use rows::Functions;
 use table::TABLE_ROOM;
 
 // The descriptor of standard output.
@@ -25,70 +18,50 @@ const MOST: u64 = 1000000;
 
 const TIMES: usize = 20000;
 
-// How many rows there are from the first on, which is lent for the stepping.
-fn count_from(es: &[u64], ns: &[u64], firsts: Firsts, first: [NodeSet; rows::MAX_FUNCTIONS]) -> u64
-    requires faced { Faced es.now ns.now firsts }
-    requires first_row { place_of (rows_of es.now ns.now firsts) ≡ at (masks_in first) }
-{
+// How many rows there are.
+fn count(functions: &Functions) -> u64 {
+    // Lent for the stepping.
+    let first = functions.first_row();
+    let last = functions.last();
     let mut reached = first;
-    let last = last_function(firsts);
-    let mut n = 1u64;
-    while n < MOST {
-        let mut k = firsts.count;
-        // As in `seeking::seek`.
+    for n in 1..MOST {
+        let mut k = functions.firsts.count;
+        // As in `seeking::Fixed::seek`.
         if reached[last].is_empty() {
-            k = stepping(firsts, reached);
+            k = functions.stepping(reached);
             if k == 0 {
                 return n;
             }
-            let begun = begin_again(firsts, first, k, reached);
-            reached = begun;
+            reached = functions.begin_again(first, k, reached);
         }
-        let set = reached[k - 1];
-        reached[k - 1] = next_of(es, ns, firsts, k - 1, set);
-        n += 1;
+        reached[k - 1] = functions.next_of(k - 1, reached[k - 1]);
     }
-    n
+    MOST
 }
 
-fn count(rows: bool, es: &[u64], ns: &[u64], firsts: Firsts) -> u64
-    requires { rows ≡ true → Faced es.now ns.now firsts }
-{
-    if !rows {
-        return 0;
-    }
-    let first = first_row(es, ns, firsts);
-    count_from(es, ns, firsts, first)
-}
-
-fn rows_of(problem: &[u8]) -> u64 {
+fn rows_of(problem: &[u8]) -> Result<u64, Refusal> {
     let mut ps = [0u64; TABLE_ROOM];
     let mut es = [0u64; TABLE_ROOM];
     let mut ns = [0u64; TABLE_ROOM];
     let mut fs = [0u64; TABLE_ROOM];
-    let prepared = prepare(problem, &mut ps, &mut es, &mut ns, &mut fs);
-    let firsts = prepared.firsts;
-    let verdict = prepared.verdict;
-    match verdict {
-        Verdict::Refused(_) => 0,
-        Verdict::Accepted(a) => {
-            let e = a.expressions;
-            count(a.rows, &es[..e], &ns[..e], firsts)
-        }
-    }
+    let prepared = prepare(problem, &mut ps, &mut es, &mut ns, &mut fs)?;
+    Ok(match prepared.functions {
+        Some(functions) => count(&functions),
+        None => 0,
+    })
 }
 
+// A refused problem has no functions, and is prepared as often.
 fn prepare_again(problem: &[u8]) -> usize {
     let mut ps = [0u64; TABLE_ROOM];
     let mut es = [0u64; TABLE_ROOM];
     let mut ns = [0u64; TABLE_ROOM];
     let mut fs = [0u64; TABLE_ROOM];
     let mut functions = 0;
-    let mut k = 0;
-    while k < TIMES {
-        let prepared = prepare(problem, &mut ps, &mut es, &mut ns, &mut fs);
-        functions = prepared.firsts.count;
-        k += 1;
+    for _ in 0..TIMES {
+        if let Ok(prepared) = prepare(problem, &mut ps, &mut es, &mut ns, &mut fs) {
+            functions = prepared.tables.firsts.count;
+        }
     }
     functions
 }
@@ -106,7 +79,7 @@ fn main() {
     }
     match input[0] {
         // s, p
-        115 => print(rows_of(&input[1..n]), b" rows\n"),
+        115 => print(rows_of(&input[1..n]).unwrap_or(0), b" rows\n"),
         112 => print(prepare_again(&input[1..n]) as u64, b" functions\n"),
         _ => (),
     }

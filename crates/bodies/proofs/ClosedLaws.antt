@@ -121,3 +121,6 @@ module _ {es : List ℕ} {face mask n d i : ℕ} (w : Testing es face mask n d i
 
       pub closed_stops : reaches 0 d (at es (face + i)) ≡ true → false ≡ body_closed_at es face mask
       closed_stops f = sym (next ∙ ap (λ (b : Bool). not b && left (marked mask) d (part es face) (i + 1)) f) ∙ w.whole
+
+-- What `body_closed` cites
+pub ruleset closing = (size_counted, closed_begins, closed_passes, closed_goes_on, closed_stops)

@@ -2,7 +2,7 @@
 --   walk_from  the walk of what is left of two lists from nodes i and j on, and left its test
 --   Walking   the loop's invariant: what is left says what the whole does; up to the lowest hole the two are passed node by node
 use mathlib.Core.Path.{◌≡◌, refl, ap, ap₂, sym, ◌∙◌}
-use mathlib.Core.Bool.{Bool, true, false, ◌&&◌, not, and-false}
+use mathlib.Core.Bool.{Bool, true, false, ◌&&◌, and-false}
 use mathlib.Core.List.{List, [], ◌∷◌}
 use mathlib.Core.Option.{Option, none, some}
 use Prim.Native.Nat.{ℕ, suc, ◌+◌, ◌*◌, ◌-◌, ◌/◌, ◌<◌, ◌≤◌}
@@ -26,16 +26,6 @@ use Rattle.lockstep.proofs.WalkLaws.{lockstep_end, lockstep_out, lockstep_differ
 use Rattle.bodies.specs.Marked.{marked, lowest_marked}
 use Rattle.bodies.specs.Suits.{hole_fits, at_marks, all_faced, suits_at}
 use Rattle.bodies.proofs.ClosedLaws.{part_length, part_at}
-
--- The test of one hole
-module _ (q : Tests) (e lowest node : ℕ) where
-  pub hole_uses : q.uses node e ≡ true → false ≡ hole_fits q e lowest node
-  unfolding hole_fits
-  hole_uses h = sym (ap (λ (b : Bool). not b && q.same node lowest) h)
-
-  pub hole_same : q.uses node e ≡ false → q.same node lowest ≡ hole_fits q e lowest node
-  unfolding hole_fits
-  hole_same h = sym (ap (λ (b : Bool). not b && q.same node lowest) h)
 
 -- The lowest node of a mask
 pub lowest_room : (mask : ℕ) → lowest_marked mask ≤ 256
@@ -211,3 +201,6 @@ module _ {q : Tests} {es : List ℕ} {face faced mask n d e low i j : ℕ} (w : 
             go : lowest_marked mask < i + 1 → Dec (lowest_marked mask < i) → low < length es
             go l (yes x) = w.passed x
             go l (no x) = let b = w.beside (omega arith) in omega (arith, w.is_low)
+
+-- What `suits` cites
+pub ruleset suiting = (lowest_room, node_counted, lowest_inside, suits_begins, suits_out, hole_stops, node_stops, node_goes_on)

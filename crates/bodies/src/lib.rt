@@ -12,22 +12,24 @@ ghost use Rattle.bodies.specs.BodyClosed.{body_closed_at};
 ghost use Rattle.bodies.specs.Suits.{hole_fits, suits_at, Nested};
 
 use masks::NodeSet;
-use numbers::ask::{same, uses};
+use numbers::ask::Nodes;
 use tokens::same::{reaches, same_node};
 use tokens::token::{depth, size};
 
 // Whether the body that the set makes of the face at a node uses no binder above the face. What stands below a hole is passed.
-pub fn body_closed(es: &[u64], face: usize, set: NodeSet) -> bool
-    requires table { Table es.now }
-    requires inside { Inside es.now face }
-    ensures { result ≡ body_closed_at es.now face (mask set) }
+#[tactic(auto, using(crate::proofs::ClosedLaws::closing))]
+pub fn body_closed(tokens: &[u64], face: usize, set: NodeSet) -> bool
+    requires table { Table tokens.now }
+    requires inside { Inside tokens.now face }
+    ensures { result ≡ body_closed_at tokens.now face (mask set) }
 {
-    let root = es[face];
+    let root = tokens[face];
     let n = size(root) as usize;
     let d = depth(root);
     let mut i = 0;
+    // A while: below a hole a step is a whole subterm.
     while i < n {
-        let x = es[face + i];
+        let x = tokens[face + i];
         if set.has(i) {
             i += size(x) as usize;
         } else {
@@ -42,42 +44,41 @@ pub fn body_closed(es: &[u64], face: usize, set: NodeSet) -> bool
 
 // Whether what stands at a node, across a hole, uses no binder between the root, at depth e, and itself, and is what stands across the
 // lowest hole.
-fn hole_fits(ns: &[u64], e: u64, lowest: usize, node: usize) -> bool
-    requires lowest_in { lowest < length ns.now }
-    requires node_in { node < length ns.now }
-    ensures { result ≡ hole_fits (told ns.now) e lowest node }
+#[tactic(auto, unfolding(crate::specs::Suits::hole_fits))]
+fn hole_fits(nodes: Nodes, e: u64, lowest: usize, node: usize) -> bool
+    requires lowest_in { lowest < length nodes.tokens.now }
+    requires node_in { node < length nodes.tokens.now }
+    ensures { result ≡ hole_fits (told nodes.entry.numbers.now) e lowest node }
 {
-    if uses(ns, node, e) {
-        return false;
-    }
-    same(ns, node, lowest)
+    !nodes.uses(node, e) && nodes.same(node, lowest)
 }
 
 // Whether the body that the set makes of the face at a node is, with some argument in its holes, what stands at node `faced`. Up to the
 // lowest hole the two agree node by node, so that it stands as far from `faced` as its node from the face.
-pub fn suits(es: &[u64], ns: &[u64], face: usize, faced: usize, set: NodeSet) -> bool
-    requires table { Table es.now }
-    requires nested { Nested es.now }
-    requires face_in { face < length es.now }
-    requires faced_in { faced < length es.now }
-    requires numbered { length ns.now ≡ length es.now }
-    ensures { result ≡ suits_at (told ns.now) es.now face faced (mask set) }
+#[tactic(auto, using(crate::proofs::SuitsLaws::suiting))]
+pub fn suits(nodes: Nodes, face: usize, faced: usize, set: NodeSet) -> bool
+    requires table { Table nodes.tokens.now }
+    requires nested { Nested nodes.tokens.now }
+    requires face_in { face < length nodes.tokens.now }
+    requires faced_in { faced < length nodes.tokens.now }
+    ensures { result ≡ suits_at (told nodes.entry.numbers.now) nodes.entry.tokens.now face faced (mask set) }
 {
-    let root = es[face];
+    let root = nodes.tokens[face];
     let n = size(root) as usize;
     let d = depth(root);
-    let e = depth(es[faced]);
+    let e = depth(nodes.tokens[faced]);
     let low = faced + set.lowest();
     let mut i = 0;
     let mut j = faced;
+    // A while: below a hole a step is a whole subterm on either side.
     while i < n {
-        if j >= es.len() {
+        if j >= nodes.tokens.len() {
             return false;
         }
-        let x = es[face + i];
-        let y = es[j];
+        let x = nodes.tokens[face + i];
+        let y = nodes.tokens[j];
         if set.has(i) {
-            if !hole_fits(ns, e, low, j) {
+            if !hole_fits(nodes, e, low, j) {
                 return false;
             }
             i += size(x) as usize;

@@ -1,7 +1,7 @@
 -- The laws of a list of calls, one call after the other.
 use mathlib.Core.Path.{◌≡◌, refl, ap, sym, ◌∙◌, subst}
-use mathlib.Core.Logic.{◌⊎◌, inl, inr, ⊎_elim, ◌↔◌}
-use mathlib.Core.Bool.{true, false, false≢true}
+use mathlib.Core.Logic.{◌⊎◌, inl, inr, ⊎_elim}
+use mathlib.Core.Bool.{false, false≢true}
 use mathlib.Core.List.Memᴰ
 use mathlib.Core.List.{List, [], ◌∷◌, ◌++◌, map-append, append_assoc, append-nil}
 use Prim.Native.Nat.{ℕ, suc, ◌+◌, ◌*◌, ◌<◌, ◌≤◌}
@@ -20,71 +20,44 @@ use Rattle.meaning.specs.Calls.{left, Run, HostCall, Carried, found_in, founds, 
 use Rattle.meaning.proofs.Lists.{never, each_append}
 use Rattle.meaning.proofs.CallLaws.{third_demand}
 use Rattle.masks.specs.Sets.{masks_in}
+use Rattle.masks.specs.declared.NodeSet.{NodeSet}
 use Rattle.places.specs.Places.{value_of, Starts}
 use Rattle.places.specs.declared.Place.{Place}
-use Rattle.places.specs.declared.Started.{Started}
-use Rattle.places.specs.declared.Start.TheVariants as starts
+use Rattle.std.specs.Prelude.{Ok, Err}
+use Rattle.refusal.specs.Number.{number}
+use Rattle.refusal.specs.declared.Refusal.{Refusal}
 use Rattle.search.specs.Calling.{reply_with, host_reply, Answers}
 use Rattle.seeking.specs.declared.Answer as code
 use Rattle.seeking.specs.declared.Answer.TheVariants as answers
 use Rattle.seeking.specs.declared.Searched.{Searched}
 use Rattle.words.specs.Storing.{PutRow}
 use Rattle.words.specs.Words.{row_words}
-use Rattle.words.proofs.WordLaws.{more_put, nothing_put}
-use Rattle.calls.specs.Running.{words_of_row, words_of_rows, left_by, IsEnd, Called, FromPlace, Runs}
+use Rattle.words.proofs.WordLaws.{more_put}
+use Rattle.calls.specs.Running.{words_of_row, words_of_rows, left_by, IsEnd, Called, FromPlace, Demanded, Runs}
 use Rattle.calls.specs.declared.Progress.{Progress}
 use Rattle.calls.specs.declared.Ran.{Ran}
 
--- The answers of `call`
-module _ (s : Bytes) (at : Progress) (n : ℕ) (before : List ℕ) (searched : Searched) (h : Answers s at.place n searched) (r : Progress)
+-- A call that finds a row
+module _ (s : Bytes) (at : Progress) (n : ℕ) (before : List ℕ) (searched : Searched) (h : Answers s at.place n (Ok searched)) (r : Progress)
     (place : r.place ≡ searched.place) where
-  reply_is : (a : code.Answer) → searched.answer ≡ a → host_reply searched ≡ reply_with a (masks_in searched.row) (value_of searched.place)
-  reply_is a e = ap (λ (x : code.Answer). reply_with x (masks_in searched.row) (value_of searched.place)) e
-
-  pub call_found : (now : List ℕ) → searched.answer ≡ answers.Found → PutRow (row_words * at.found) (masks_in searched.row) before now
-      → r.found ≡ at.found + 1 → r.ended ≡ at.ended → Called s at n before now r
+  pub call_found : (row : List NodeSet) (now : List ℕ) → searched.answer ≡ answers.Found row
+      → PutRow (row_words * at.found) (masks_in row) before now → r.found ≡ at.found + 1 → r.ended ≡ at.ended → Called s at n before now r
   unfolding max_functions
-  call_found now e row count flag =
-      let q = reply_is answers.Found e in
-      let one : found_in (host_reply searched) ≡ record { masks = masks_in searched.row; is_past = false } ∷ [] = ap found_in q in
+  call_found row now e put count flag =
+      let reply : HostReply = host_reply (Ok searched) in
+      let q : reply ≡ reply_with (answers.Found row) (value_of searched.place) =
+      ap (λ (x : code.Answer). reply_with x (value_of searched.place)) e in
+      let one : found_in reply ≡ record { masks = masks_in row; is_past = false } ∷ [] = ap found_in q in
       let far : row_words * at.found + row_words ≡ row_words * r.found = omega (arith, count) in
       record {
-        reply = host_reply searched;
+        reply = reply;
         call = h.call;
         leaves = ap value_of place ∙ h.leaves;
         found = rw one count;
         ended = (λ t. inl (sym flag ∙ t), ⊎_elim (λ t. flag ∙ t) (λ t. never (let z = sym q ∙ t.1 in cc)));
-        long = rw (one, append-nil (words_of_row (masks_in searched.row))) (omega (arith, row.long));
-        rows = rw (one, append-nil (words_of_row (masks_in searched.row)), sym far) row.put;
+        long = rw (one, append-nil (words_of_row (masks_in row))) (omega (arith, put.long));
+        rows = rw (one, append-nil (words_of_row (masks_in row)), sym far) put.put;
       }
-
-  -- Nothing is found
-  still : found_in (host_reply searched) ≡ [] → r.found ≡ at.found
-      → ((r.ended ≡ true) ↔ ((at.ended ≡ true) ⊎ IsEnd (host_reply searched))) → Called s at n before before r
-  still none count flag =
-      record {
-        reply = host_reply searched;
-        call = h.call;
-        leaves = ap value_of place ∙ h.leaves;
-        found = rw none (omega (arith, count));
-        ended = flag;
-        long = rw none (omega arith);
-        rows = rw (none, count) (nothing_put (row_words * at.found) before);
-      }
-
-  pub call_end : searched.answer ≡ answers.End → r.found ≡ at.found → r.ended ≡ true → Called s at n before before r
-  call_end e count flag = let q = reply_is answers.End e in still (ap found_in q) count (λ t. inr (_, q), λ t. flag)
-
-  pub call_paused : searched.answer ≡ answers.Paused → r.found ≡ at.found → r.ended ≡ at.ended → Called s at n before before r
-  call_paused e count flag =
-      let q = reply_is answers.Paused e in
-      still (ap found_in q) count (λ t. inl (sym flag ∙ t), ⊎_elim (λ t. flag ∙ t) (λ t. never (let z = sym q ∙ t.1 in cc)))
-
-  pub call_refused : (number : ℕ) → searched.answer ≡ answers.Refused number → r.found ≡ at.found → r.ended ≡ at.ended
-      → Called s at n before before r
-  call_refused number e count flag =
-      let q = reply_is (answers.Refused number) e in
-      still (ap found_in q) count (λ t. inl (sym flag ∙ t), ⊎_elim (λ t. flag ∙ t) (λ t. never (let z = sym q ∙ t.1 in cc)))
 
 -- One call more at the end of a list of calls
 run_more : (answers : PlaceValue → ℕ → HostReply → Type 0) (v : PlaceValue) (cs : List HostCall) (c : HostCall) → Run answers v cs
@@ -194,37 +167,37 @@ module _ (s : Bytes) (place : Place) (ns before mid : List ℕ) (i : ℕ) (at : 
   all_calls l = subst (λ (x : List ℕ). FromPlace s place x before mid at) (take_all i ns l) h
 
 -- The answers of `run`
-module _ (s : Bytes) (ns before : List ℕ) (started : Started) (r : Ran) where
-  refused_as : (number : ℕ) (a : Answer Problem) → Starts (after a (λ p. got (place_value (start p)))) started
-      → started.answer ≡ starts.Refused number → r.answer ≡ starts.Refused number → Runs a s ns before before r
-  unfolding Starts Runs
-  refused_as number (refused n) h e q = (q ∙ sym e ∙ h, refl)
-  refused_as number (got p) h e q = never (let z = sym h.0 ∙ e in cc)
+module _ (s : Bytes) (ns before : List ℕ) where
+  pub run_refused : (e : Refusal) → Starts (start_call s) (Err e) → Runs (accept s) s ns before before (Err e)
+  unfolding start_call Runs
+  run_refused e h = (refused_as (accept s) h, refl)
+    where
+      refused_as : (a : Answer Problem) → after a (λ p. got (place_value (start p))) ≡ refused (number e) → a ≡ refused (number e)
+      refused_as (refused n) h = let z : n ≡ number e = cc in ap {B = Answer Problem} refused z
+      refused_as (got p) h = never (cc)
 
-  pub run_refused : (number : ℕ) → Starts (start_call s) started → started.answer ≡ starts.Refused number
-      → r.answer ≡ starts.Refused number → Runs (accept s) s ns before before r
-  unfolding start_call
-  run_refused number h e q = refused_as number (accept s) h e q
-
-  module _ (now : List ℕ) (at : Progress) (bytes : All Byte s) (e : started.answer ≡ starts.Begins) (q : r.answer ≡ starts.Begins)
-      (count : r.found ≡ at.found) (flag : r.ended ≡ at.ended) (k : FromPlace s started.place ns before now at) where
-    begins_as : (a : Answer Problem) → accept s ≡ a → Starts (after a (λ p. got (place_value (start p)))) started → Runs a s ns before now r
-    unfolding Starts Runs
-    begins_as (refused n) accepted h = never (let z = sym h ∙ e in cc)
-    begins_as (got p) accepted h =
-        let run = subst (λ (v : PlaceValue). Run (SearchCall s) v k.calls) h.1 k.run in
-        let carried : Carried s p k.calls = record { accepted = accepted; run = run } in
-        record {
-          answer = q;
-          calls = k.calls;
-          allowances = k.allowances;
-          carried = carried;
-          demand = third_demand s p k.calls bytes carried;
-          found = count ∙ k.found;
-          ended = (λ t. k.ended.0 (sym flag ∙ t), λ x. flag ∙ k.ended.1 x);
-          rows = rw count k.rows;
-        }
-
-    pub run_begins : Starts (start_call s) started → Runs (accept s) s ns before now r
-    unfolding start_call
+  module _ (now : List ℕ) (place : Place) (at : Progress) (bytes : All Byte s) (r : Ran) (count : r.found ≡ at.found)
+      (flag : r.ended ≡ at.ended) (k : FromPlace s place ns before now at) where
+    pub run_begins : Starts (start_call s) (Ok place) → Runs (accept s) s ns before now (Ok r)
+    unfolding start_call Runs
     run_begins h = begins_as (accept s) refl h
+      where
+        begins_as : (a : Answer Problem) → accept s ≡ a → after a (λ p. got (place_value (start p))) ≡ got (value_of place)
+            → (p : Problem) × (accept s ≡ got p) × Demanded s p ns before now r
+        begins_as (refused n) accepted h = never (cc)
+        begins_as (got p) accepted h =
+            let v : value_of place ≡ place_value (start p) = cc in
+            let run = subst (λ (v : PlaceValue). Run (SearchCall s) v k.calls) v k.run in
+            let carried : Carried s p k.calls = record { accepted = accepted; run = run } in (
+              p,
+              accepted,
+              record {
+                calls = k.calls;
+                allowances = k.allowances;
+                carried = carried;
+                demand = third_demand s p k.calls bytes carried;
+                found = count ∙ k.found;
+                ended = (λ t. k.ended.0 (sym flag ∙ t), λ x. flag ∙ k.ended.1 x);
+                rows = rw count k.rows;
+              },
+            )

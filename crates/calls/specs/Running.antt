@@ -4,10 +4,12 @@
 --   Called      what one call more owes
 --   FromPlace   what the calls from a place on owe: there is a list of calls that is a run from there
 --   Runs        what the calls from the start owe: the third demand
-use Rattle.std.specs.Prelude.{◌≡◌, ◌⊎◌, ◌↔◌, true, List, [], ◌∷◌, ◌++◌, map, ℕ, ◌+◌, ◌*◌, length, take, drop}
+use Rattle.std.specs.Prelude.{◌≡◌, ◌⊎◌, ◌↔◌, true, List, [], ◌∷◌, ◌++◌, map, ℕ, ◌+◌, ◌*◌, length, take, drop, Result, Ok, Err}
 use Rattle.meaning.specs.Basics.{Bytes, each}
 use Rattle.meaning.specs.Problem.{Problem}
 use Rattle.meaning.specs.Read.{Answer, refused, got}
+use Rattle.refusal.specs.Number.{number}
+use Rattle.refusal.specs.declared.Refusal.{Refusal}
 use Rattle.meaning.specs.Search.{end}
 use Rattle.meaning.specs.PlaceValue.{PlaceValue}
 use Rattle.meaning.specs.Entry.{HostReply, SearchCall}
@@ -16,7 +18,6 @@ use Rattle.masks.specs.Sets.{words_of}
 use Rattle.choosing.specs.Rows.{MaskRow}
 use Rattle.places.specs.Places.{value_of}
 use Rattle.places.specs.declared.Place.{Place}
-use Rattle.places.specs.declared.Start.TheVariants as starts
 use Rattle.words.specs.Words.{row_words}
 use Rattle.calls.specs.declared.Progress.{Progress}
 use Rattle.calls.specs.declared.Ran.{Ran}
@@ -57,7 +58,6 @@ pub record FromPlace (s : Bytes) (place : Place) (ns before after : List ℕ) (r
 -- "0 or more search calls on one accepted problem. The first gets the start": for any allowances the calls made meet the third demand, and
 -- the buffer, the count and the flag tell their Founds and whether they have an End
 pub record Demanded (s : Bytes) (p : Problem) (ns before after : List ℕ) (r : Ran) : Type 0 where
-  pub answer : r.answer ≡ starts.Begins
   pub calls : List HostCall
   pub allowances : map (λ c. c.allowance) calls ≡ ns
   pub carried : Carried s p calls
@@ -67,6 +67,6 @@ pub record Demanded (s : Bytes) (p : Problem) (ns before after : List ℕ) (r : 
   pub rows : after ≡ words_of_rows (founds calls) ++ drop (row_words * r.found) before
 
 -- "A refusal returns its number only. The output buffer and open search stay"
-unfoldable pub Runs : Answer Problem → Bytes → List ℕ → List ℕ → List ℕ → Ran → Type 0
-Runs (refused n) s ns before after r = (r.answer ≡ starts.Refused n) × (after ≡ before)
-Runs (got p) s ns before after r = Demanded s p ns before after r
+unfoldable pub Runs : Answer Problem → Bytes → List ℕ → List ℕ → List ℕ → Result Ran Refusal → Type 0
+Runs x s ns before after (Err e) = (x ≡ refused (number e)) × (after ≡ before)
+Runs x s ns before after (Ok r) = (p : Problem) × (x ≡ got p) × Demanded s p ns before after r

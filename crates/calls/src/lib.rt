@@ -7,7 +7,8 @@ ghost use Rattle.meaning.specs.Accept.{accept};
 ghost use Rattle.words.specs.Words.{row_words};
 ghost use Rattle.calls.specs.Running.{Called, FromPlace, Runs};
 
-use places::{Place, Start};
+use places::Place;
+use refusal::Refusal;
 use search::call::search;
 use seeking::Answer;
 use words::{ROW_WORDS, put_row};
@@ -20,50 +21,37 @@ pub struct Progress {
     pub ended: bool,
 }
 
-// A refusal, or the number of the Founds and whether there was an End.
+// The number of the Founds, and whether there was an End.
 #[derive(Clone, Copy)]
 pub struct Ran {
-    pub answer: Start,
     pub found: usize,
     pub ended: bool,
 }
 
-// One call more.
+// One call more. A refused one leaves all as it was: "the same place after a refusal".
 fn call(problem: &[u8], at: Progress, n: u32, rows: &mut [u64]) -> Progress
     requires { row_words * at.found + row_words ≤ length rows.old }
     ensures { Called problem.now at n rows.old rows.new result }
 {
-    let k = at.found;
-    let from = at.place;
-    let ended = at.ended;
-    let searched = search(problem, from, n);
-    let answer = searched.answer;
+    let Ok(searched) = search(problem, at.place, n) else {
+        return at;
+    };
     let place = searched.place;
-    let row = searched.row;
-    match answer {
-        Answer::Found => {
-            put_row(rows, ROW_WORDS * k, row);
+    match searched.answer {
+        Answer::Found(row) => {
+            put_row(rows, ROW_WORDS * at.found, row);
             Progress {
-                place: place,
-                found: k + 1,
-                ended: ended,
+                place,
+                found: at.found + 1,
+                ..at
             }
         }
         Answer::End => Progress {
-            place: place,
-            found: k,
+            place,
             ended: true,
+            ..at
         },
-        Answer::Paused => Progress {
-            place: place,
-            found: k,
-            ended: ended,
-        },
-        Answer::Refused(r) => Progress {
-            place: place,
-            found: k,
-            ended: ended,
-        },
+        Answer::Paused => Progress { place, ..at },
     }
 }
 
@@ -73,39 +61,25 @@ fn from_place(problem: &[u8], place: Place, allowances: &[u32], rows: &mut [u64]
     ensures { FromPlace problem.now place allowances.now rows.old rows.new result }
 {
     let mut at = Progress {
-        place: place,
+        place,
         found: 0,
         ended: false,
     };
-    let mut i = 0;
-    while i < allowances.len() {
-        at = call(problem, at, allowances[i], rows);
-        i += 1;
+    for n in allowances {
+        at = call(problem, at, *n, rows);
     }
     at
 }
 
 // A call for each allowance, from the start of any bytes: the rows of the Founds stand at the front of `rows`, ROW_WORDS words each, in order.
-pub fn run(problem: &[u8], allowances: &[u32], rows: &mut [u64]) -> Ran
+pub fn run(problem: &[u8], allowances: &[u32], rows: &mut [u64]) -> Result<Ran, Refusal>
     requires { row_words * length allowances.now ≤ length rows.old }
     ensures { Runs (accept problem.now) problem.now allowances.now rows.old rows.new result }
 {
-    let started = Place::start(problem);
-    let answer = started.answer;
-    let place = started.place;
-    match answer {
-        Start::Refused(r) => Ran {
-            answer: Start::Refused(r),
-            found: 0,
-            ended: false,
-        },
-        Start::Begins => {
-            let at = from_place(problem, place, allowances, rows);
-            Ran {
-                answer: Start::Begins,
-                found: at.found,
-                ended: at.ended,
-            }
-        }
-    }
+    let place = Place::start(problem)?;
+    let at = from_place(problem, place, allowances, rows);
+    Ok(Ran {
+        found: at.found,
+        ended: at.ended,
+    })
 }

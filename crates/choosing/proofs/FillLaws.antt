@@ -1,13 +1,13 @@
 -- Filling a set: from a node on each node that may become a hole does, which is the first path from there on.
 use mathlib.Core.Path.{◌≡◌, refl, sym, ap, ap₂, ◌∙◌, subst}
-use mathlib.Core.Bool.{Bool, true, false}
+use mathlib.Core.Bool.{true, false}
 use mathlib.Core.List.{List, [], ◌∷◌, ◌++◌, append_assoc, append-nil}
 use mathlib.Core.Option.{none, some}
+use Rattle.std.specs.Prelude as code
 use Prim.Native.Nat.{ℕ, suc, ◌-◌, ◌≤◌, ◌<◌}
 use native.Mathlib.Omega.{arith}
 use lib.ListN.{length, drop, length-append}
 use Rattle.meaning.specs.Limits.{max_face_nodes}
-use Rattle.meaning.specs.Basics.{choose}
 use Rattle.meaning.specs.Choice.{Mark, Marks}
 use Rattle.meaning.specs.PlaceValue.{mask_of}
 use Rattle.masks.specs.Mask.{join}
@@ -17,7 +17,7 @@ use Rattle.paths.specs.Paths.{first_path, one_place}
 use Rattle.paths.proofs.OnePlace.{first_at_end}
 use Rattle.choosing.specs.FaceNodes.{size_from, nodes_from}
 use Rattle.choosing.specs.Rows.{first_from}
-use Rattle.choosing.specs.Walk.{Begun, Filled, HoledAt, Marked, class_of, opens_at, state_of}
+use Rattle.choosing.specs.Walk.{Begun, Filled, HoledAt, Marked, class_in, class_of, opens_at, state_of}
 use Rattle.choosing.specs.declared.Walk.{Walk}
 use Rattle.choosing.proofs.FaceNodes.{nodes_long_lem}
 use Rattle.choosing.proofs.SetMarks.{same_room, mask_marked, marked_mask, marked_passed, marked_holed}
@@ -96,4 +96,4 @@ unfolding Filled mask_of
 first_is ns es root s w r e b f =
     let z : w.end - 0 ≡ 0 = omega (arith, b.end) in
     f [] refl (mask_marked s [] (omega arith) e)
-    ∙ ap₂ (λ (k : ℕ) (t : Bool). mask_of max_face_nodes (first_path (one_place k (choose t (some w.class) none)) (nodes_from ns es root))) z b.holes
+    ∙ ap₂ (λ (k : ℕ) (o : code.Option ℕ). mask_of max_face_nodes (first_path (one_place k (class_in o)) (nodes_from ns es root))) z b.class

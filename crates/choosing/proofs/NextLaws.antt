@@ -10,8 +10,7 @@ use native.Mathlib.Omega.{arith}
 use lib.ListN.{length, get_or, get_elem?, take, drop, set, length-append, length-map, get_or-append}
 use lib.Seq.{get_or-append-add, get_or-set_same, get_or-set_other, length-take-le, take-append-le}
 use lib.Pow.{pow_pos}
-use lib.Dec.{T, eqb}
-use borrow.Author.Tests.{eqb-true, eqb-false}
+use lib.Dec.{T}
 use Rattle.meaning.specs.Limits.{max_face_nodes}
 use Rattle.meaning.specs.Basics.{choose, is_some, ◌∈◌}
 use Rattle.meaning.specs.Choice.{Mark, Marks}
@@ -32,7 +31,7 @@ use Rattle.paths.proofs.Walking.{accepted_walked}
 use Rattle.paths.proofs.OnePlace.{ClearFrom, ClearTo, last_gives_way}
 use Rattle.choosing.specs.FaceNodes.{class_from, nodes_from, size_from}
 use Rattle.choosing.specs.Rows.{choices_from, Next}
-use Rattle.choosing.specs.Walk.{Begun, Ending, Filled, Last, LeftAt, Marked, class_of}
+use Rattle.choosing.specs.Walk.{Ending, Filled, Last, LeftAt, Marked, class_of}
 use Rattle.choosing.specs.declared.Walk.{Walk}
 use Rattle.choosing.proofs.Lists.{at_low, low_at}
 use Rattle.choosing.proofs.FaceNodes.{nodes_long_lem, nodes_class}
@@ -62,21 +61,6 @@ node_value [] k e = absurd (false≢true e)
 node_value (true ∷ l) k e = omega (arith, pow_pos (length l))
 node_value (false ∷ l) zero e = absurd (false≢true e)
 node_value (false ∷ l) (suc k) e = node_value l k e
-
--- ---- where the walk stands after the last node is left out
-
-pub left_alone : (ns : List ℕ) (root : ℕ) (left : NodeSet) (i : ℕ) (r : Walk) → Begun r → eqb (mask left) 0 ≡ true → LeftAt ns root left i r
-left_alone ns root left i r b e =
-    record {
-      end = b.end;
-      alone = λ h. ap (λ (t : Bool). choose t (some r.class) none) b.holes;
-      other = λ h. absurd (h (eqb-true (mask left) 0 e));
-    }
-
-pub left_other : (ns : List ℕ) (root : ℕ) (left : NodeSet) (i class : ℕ) → eqb (mask left) 0 ≡ false → class ≡ table.at ns (root + i)
-    → LeftAt ns root left i (record { end = 0; holes = true; class = class })
-left_other ns root left i class e c =
-    record { end = refl; alone = λ h. absurd (eqb-false (mask left) 0 e h); other = λ h. ap {B = Option ℕ} (λ (n : ℕ). some n) c }
 
 -- ---- the set that is left
 

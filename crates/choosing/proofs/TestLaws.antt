@@ -7,6 +7,7 @@ use mathlib.Core.Logic.{◌↔◌}
 use mathlib.Core.Bool.{Bool, true, false, ◌&&◌, true≢false}
 use mathlib.Core.List.{List, [], ◌∷◌, ◌++◌, map}
 use mathlib.Core.Option.{Option, none, some}
+use Rattle.std.specs.Prelude as code
 use Prim.Native.Nat.{ℕ, zero, suc, ◌+◌, ◌-◌, ◌≤◌, ◌<◌}
 use native.Mathlib.Omega.{arith}
 use lib.ListN.{length, get_or, get_elem?, take, drop, length-map, length-drop, take-append-drop}
@@ -14,7 +15,7 @@ use lib.Seq.{get_or-take, take-suc, take_at, length-take-le}
 use lib.Dec.{T, eqb, leb}
 use borrow.Author.Tests.{eq-eqb, eqb-true, leb-true, leb-false}
 use Rattle.meaning.specs.Limits.{max_face_nodes}
-use Rattle.meaning.specs.Basics.{All, choose, holds, is_some, ◌∈◌}
+use Rattle.meaning.specs.Basics.{All, holds, is_some, ◌∈◌}
 use Rattle.meaning.specs.Choice.{Mark, Marks}
 use Rattle.meaning.specs.PlaceValue.{mask_of}
 use Rattle.meaning.proofs.Lists.{T_true, true_T}
@@ -31,7 +32,7 @@ use Rattle.meaning.proofs.Ordered.{Placed}
 use Rattle.paths.proofs.OnePlace.{walk_end, walk_none, walk_hole, walk_below, walk_refused}
 use Rattle.choosing.specs.FaceNodes.{size_from, class_from, nodes_from}
 use Rattle.choosing.specs.Rows.{choices_from}
-use Rattle.choosing.specs.Walk.{Begun, HoledAt, Marked, class_of, opens_at, state_of}
+use Rattle.choosing.specs.Walk.{Begun, HoledAt, Marked, class_in, class_of, opens_at, state_of}
 use Rattle.choosing.specs.declared.Walk.{Walk}
 use Rattle.choosing.proofs.FaceNodes.{nodes_long_lem, nodes_size, nodes_class}
 use Rattle.choosing.proofs.RowSteps.{choice_path, path_choice}
@@ -173,7 +174,7 @@ module _ (ns es : List ℕ) (root : ℕ) (fits : size_from es root ≤ max_face_
   tested_begun w b =
       let z : w.end - 0 ≡ 0 = omega (arith, b.end) in
       record {
-        walked = sym (ap₂ (λ (k : ℕ) (t : Bool). accepts next (one_place k (choose t (some w.class) none)) xs ms) z b.holes);
+        walked = sym (ap₂ (λ (k : ℕ) (o : code.Option ℕ). accepts next (one_place k (class_in o)) xs ms) z b.class);
         count = refl;
       }
 

@@ -4,6 +4,7 @@ use mathlib.Core.Path.{◌≡◌, refl, sym, ap, ap₂, ◌∙◌, subst}
 use mathlib.Core.Bool.{Bool, true, false, ◌&&◌, false≢true}
 use mathlib.Core.List.{List, ◌∷◌}
 use mathlib.Core.Option.{Option, none, some}
+use Rattle.std.specs.Prelude.{Some, None}
 use Prim.Native.Nat.{ℕ, suc, ◌+◌, ◌-◌, ◌≤◌, ◌<◌}
 use lib.ListN.{length, drop}
 use lib.Dec.{leb, eqb}
@@ -16,7 +17,7 @@ use Rattle.numbers.specs.Tests.{told}
 use Rattle.paths.specs.Paths.{Node, first_path, one_place, takes}
 use Rattle.paths.proofs.OnePlace.{first_at_below, first_at_hole, first_at_none}
 use Rattle.choosing.specs.FaceNodes.{size_from, class_from, nodes_from}
-use Rattle.choosing.specs.Walk.{class_of, state_of, opens_at, HoledAt}
+use Rattle.choosing.specs.Walk.{class_in, class_of, state_of, opens_at, HoledAt}
 use Rattle.choosing.specs.declared.Walk.{Walk}
 use Rattle.choosing.proofs.FaceNodes.{nodes_long_lem, nodes_size, nodes_class}
 
@@ -45,13 +46,11 @@ module _ (ns es : List ℕ) (root i : ℕ) (w : Walk) where
       unfolding class_from
       free = ap (λ (b : Bool). holds (takes (some (class_of w))) (choose b none (some (at ns (root + i))))) u
 
-      pub opens_equal : w.holes ≡ true → eqb w.class (at ns (root + i)) ≡ opens_at ns es root w i
-      opens_equal e =
-          here (eqb w.class (at ns (root + i)))
-          (sym (free ∙ ap (λ (b : Bool). takes (some (choose b (some w.class) none)) (at ns (root + i))) e))
+      pub opens_equal : (c : ℕ) → w.class ≡ Some c → eqb c (at ns (root + i)) ≡ opens_at ns es root w i
+      opens_equal c e = here (eqb c (at ns (root + i))) (sym (free ∙ ap (λ o. takes (some (class_in o)) (at ns (root + i))) e))
 
-      pub opens_first : w.holes ≡ false → true ≡ opens_at ns es root w i
-      opens_first e = here true (sym (free ∙ ap (λ (b : Bool). takes (some (choose b (some w.class) none)) (at ns (root + i))) e))
+      pub opens_first : w.class ≡ None → true ≡ opens_at ns es root w i
+      opens_first e = here true (sym (free ∙ ap (λ o. takes (some (class_in o)) (at ns (root + i))) e))
 
   -- ---- what follows from the answer
 

@@ -1,11 +1,12 @@
 -- Going through the nodes of a face, one after the other, with one place.
---   Walk      where the code stands: the first node that does not lie below a hole, whether there is a hole, and the class of the holes
+--   Walk      where the code stands: the first node that does not lie below a hole, and the class of the holes, if there is a hole
 --   state_of   the state of paths that this is, before node i
 --   opens_at   whether node i may become a hole there
 use Rattle.std.specs.Prelude.{◌≡◌, Bool, true, false, ◌&&◌, List, ◌++◌, map, ℕ, ◌+◌, ◌-◌, ◌≤◌, ◌<◌, length, drop, get_or, leb}
+use Rattle.std.specs.Prelude as code
 use Rattle.std.proofs.Math.Option.{Option, none, some}
 use Rattle.meaning.specs.Limits.{max_face_nodes}
-use Rattle.meaning.specs.Basics.{choose, holds, is_some}
+use Rattle.meaning.specs.Basics.{holds, is_some}
 use Rattle.meaning.specs.Choice.{Marks}
 use Rattle.meaning.specs.PlaceValue.{mask_of}
 use Rattle.tokens.specs.Token.{size_in}
@@ -17,8 +18,13 @@ use Rattle.paths.specs.Paths.{State, first_path, one_place, takes}
 use Rattle.choosing.specs.FaceNodes.{class_from, nodes_from}
 use Rattle.choosing.specs.declared.Walk.{Walk}
 
+-- What the code's option says, as paths have it
+abbrev pub class_in : code.Option ℕ → Option ℕ
+class_in (code.Some c) = some c
+class_in code.None = none
+
 abbrev pub class_of : Walk → Option ℕ
-class_of w = choose w.holes (some w.class) none
+class_of w = class_in w.class
 
 abbrev pub state_of : Walk → ℕ → State
 state_of w i = one_place (w.end - i) (class_of w)
@@ -52,7 +58,7 @@ pub record Ending (s : NodeSet) (n : ℕ) : Type 0 where
 
 pub record Begun (r : Walk) : Type 0 where
   pub end : r.end ≡ 0
-  pub holes : r.holes ≡ false
+  pub class : r.class ≡ code.None
 
 -- After node i was left out of a choice, of which these nodes are left
 pub record LeftAt (ns : List ℕ) (root : ℕ) (left : NodeSet) (i : ℕ) (r : Walk) : Type 0 where

@@ -28,7 +28,7 @@ use Rattle.tokens.proofs.ProblemTokens.{expression_table_lem}
 use Rattle.tokens.proofs.Spots.{depth_at, forest_deep}
 use Rattle.numbers.proofs.ProblemTable as problem
 use Rattle.comparing.specs.Comparing.{Nested, ComparedIn, Present, Judged}
-use Rattle.comparing.specs.declared.Pair.{Pair}
+use Rattle.std.specs.Prelude as std
 use Rattle.comparing.proofs.Agreement.{Tells, tokens_agree}
 use Rattle.comparing.proofs.NodeTold.{InPairs, forest_tells}
 
@@ -144,7 +144,7 @@ module _ (p : Problem) (w : WithinLimits p) where
       at_past (views_from [] 0 (expressions p)) a
       (omega (arith, h, problem.table_length p w, length_views [] 0 (expressions p), relabel_size enter nameless_label [] (named_expressions p)))
 
-  pub compared_means : (a b : ℕ) (r : Pair) → Present table a b r → Judged (get_elem? (subexpressions p) a) (get_elem? (subexpressions p) b) r
+  pub compared_means : (a b : ℕ) (r : std.Option Compared) → Present table a b r → Judged (get_elem? (subexpressions p) a) (get_elem? (subexpressions p) b) r
   unfolding Judged
   compared_means a b r there = go (dec_lt a (length table)) (dec_lt b (length table))
     where

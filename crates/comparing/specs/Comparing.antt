@@ -6,7 +6,8 @@
 --   Present      the same of two numbers, if they are nodes of the table
 --   Judged       what `meaning` says of two nodes, each of which may be missing
 --   Compares     the answer for any bytes and any two numbers
-use Rattle.std.specs.Prelude.{◌≡◌, ℕ, ◌+◌, ◌<◌, ◌≤◌, min, max, List, length}
+use Rattle.std.specs.Prelude.{◌≡◌, ℕ, ◌+◌, ◌<◌, ◌≤◌, min, max, List, length, Result, Ok, Err, Some, None}
+use Rattle.std.specs.Prelude as std
 use Rattle.std.proofs.Math.Option.{Option, none, some}
 use Rattle.std.proofs.Math.ListN.{get_elem?}
 use Rattle.meaning.specs.Problem.{Problem}
@@ -17,8 +18,8 @@ use Rattle.meaning.specs.Compare.{Comparison, subexpressions}
 use Rattle.tokens.specs.Token.{depth_in, size_in}
 use Rattle.tokens.specs.Key.{at, compared_across}
 use Rattle.tokens.specs.declared.same.Compared.{Compared}
-use Rattle.comparing.specs.declared.Pair.{Pair}
-use Rattle.comparing.specs.declared.Pair.TheVariants as pairs
+use Rattle.refusal.specs.Number.{number}
+use Rattle.refusal.specs.declared.Refusal.{Refusal}
 
 pub record Nested (t : List ℕ) : Type 0 where
   pub counted : (k : ℕ) → k < length t → 1 ≤ size_in (at t k)
@@ -40,17 +41,17 @@ pub record ComparedIn (t : List ℕ) (a b : ℕ) (r : Compared) : Type 0 where
   pub compared : r ≡ compared_across t a t b above
 
 -- The same of two numbers that may be no node of the table
-pub record Present (t : List ℕ) (a b : ℕ) (r : Pair) : Type 0 where
-  pub first : length t ≤ a → r ≡ pairs.NoNode
-  pub second : length t ≤ b → r ≡ pairs.NoNode
-  pub both : a < length t → b < length t → (c : Compared) × (r ≡ pairs.Compared c) × ComparedIn t a b c
+pub record Present (t : List ℕ) (a b : ℕ) (r : std.Option Compared) : Type 0 where
+  pub first : length t ≤ a → r ≡ None
+  pub second : length t ≤ b → r ≡ None
+  pub both : a < length t → b < length t → (c : Compared) × (r ≡ Some c) × ComparedIn t a b c
 
-unfoldable pub Judged : Option (View Owner) → Option (View Owner) → Pair → Type 0
-Judged none w r = r ≡ pairs.NoNode
-Judged (some u) none r = r ≡ pairs.NoNode
-Judged (some u) (some v) r = (c : Compared) × (r ≡ pairs.Compared c) × Comparison u v c.equal c.pairs
+unfoldable pub Judged : Option (View Owner) → Option (View Owner) → std.Option Compared → Type 0
+Judged none w r = r ≡ None
+Judged (some u) none r = r ≡ None
+Judged (some u) (some v) r = (c : Compared) × (r ≡ Some c) × Comparison u v c.equal c.pairs
 
--- A refusal is document 01's, with its number
-unfoldable pub Compares : Answer Problem → ℕ → ℕ → Pair → Type 0
-Compares (refused n) a b r = r ≡ pairs.Refused n
-Compares (got p) a b r = Judged (get_elem? (subexpressions p) a) (get_elem? (subexpressions p) b) r
+-- A refusal is document 01's, with its number; any other answer is of the problem that document 01 accepts
+unfoldable pub Compares : Answer Problem → ℕ → ℕ → Result (std.Option Compared) Refusal → Type 0
+Compares x a b (Err r) = x ≡ refused (number r)
+Compares x a b (Ok c) = (p : Problem) × (x ≡ got p) × Judged (get_elem? (subexpressions p) a) (get_elem? (subexpressions p) b) c

@@ -4,6 +4,7 @@ use mathlib.Core.List.{List, [], ◌∷◌, ◌++◌, append_assoc}
 use Prim.Native.Nat.{ℕ, zero, suc, ◌+◌, ◌-◌, ◌<◌, ◌≤◌}
 use native.Mathlib.Omega.{arith}
 use borrow.Rule.Slice.PartMut.{put_mid, same_len_mid}
+use Rattle.std.proofs.Common.{Option, Some}
 use lib.ListN.{length, take, drop, set, length-append, length-drop, length-set, take-append-drop}
 use lib.Seq.{drop-append_seam, length-take-le}
 use Rattle.meaning.specs.Limits.{metavariable_count}
@@ -18,9 +19,9 @@ use Rattle.masks.specs.declared.NodeSet.{NodeSet}
 use Rattle.slices.proofs.Slices.{rest_all, rows_joined}
 use Rattle.copying.specs.Fixed.{Wrote}
 use Rattle.copying.specs.Copied.{Copied, Copyable, TermIn, copied}
-use Rattle.copying.specs.Measure.{BodyMeasurable, Measurable, Measured, TermMeasured}
+use Rattle.copying.specs.Measure.{BodyMeasurable, Measured, TermMeasured}
 use Rattle.copying.proofs.CopiedMeaning.{copied_whole}
-use Rattle.copying.proofs.WriteLaws.{Part, part_begins, part_ends, part_goes, part_long}
+use Rattle.copying.proofs.WriteLaws.{Part, part_ends, part_goes, part_long}
 use Rattle.composing.specs.Entries.{Denotes, DenotesAll, Entries, entry_at, fields_of}
 use Rattle.composing.specs.Composing.{CopyRoom, CopyWritten, EntryMeasured, EntryRoom, EntryThere, EntryWritten, FieldsWritten, BytesFit}
 use Rattle.composing.specs.Composing.{TextMeasured, TextRoom, Writable}
@@ -38,30 +39,26 @@ copied_none : (mask : ℕ) (t : NamedTerm) → mask ≡ 0 → copied mask t ≡ 
 copied_none mask t e = ap (λ (m : ℕ). copied m t) e ∙ copied_whole t
 
 -- How long an entry's field is
-module _ {es : List ℕ} {entry : Entry} where
-  pub absent_length : entry ≡ entries.Absent → EntryMeasured es entry 0
-  absent_length q = subst (λ (x : Entry). EntryMeasured es x 0) (sym q)
-      (record { measured = λ m e d. ap (λ (x : meant.Entry NamedTerm). length (encode_entry m x)) (sym d) })
-
-  pub open_length : entry ≡ entries.Open → EntryMeasured es entry 4
-  open_length q = subst (λ (x : Entry). EntryMeasured es x 4) (sym q)
+module _ {es : List ℕ} {entry : Option Entry} where
+  pub open_length : entry ≡ Some entries.Open → EntryMeasured es entry 4
+  open_length q = subst (λ (x : Option Entry). EntryMeasured es x 4) (sym q)
       (record {
         measured = λ m e d. sym (ap (λ (x : meant.Entry NamedTerm). length (encode_entry m x)) d ∙ numbered_length 11 m []);
       })
 
-  pub value_length : {node : ℕ} (n : ℕ) → entry ≡ entries.Value node → TermMeasured es node n → EntryMeasured es entry (4 + n)
-  value_length {node} n q measured = subst (λ (x : Entry). EntryMeasured es x (4 + n)) (sym q) (record { measured = go })
+  pub value_length : {node : ℕ} (n : ℕ) → entry ≡ Some (entries.Value node) → TermMeasured es node n → EntryMeasured es entry (4 + n)
+  value_length {node} n q measured = subst (λ (x : Option Entry). EntryMeasured es x (4 + n)) (sym q) (record { measured = go })
     where
-      go : (m : ℕ) (e : meant.Entry NamedTerm) → Denotes es (entries.Value node) e → 4 + n ≡ length (encode_entry m e)
+      go : (m : ℕ) (e : meant.Entry NamedTerm) → Denotes es (Some (entries.Value node)) e → 4 + n ≡ length (encode_entry m e)
       go m e (t, there, d) =
           ap (λ (k : ℕ). 4 + k) (measured.long t there) ∙ sym (numbered_length 8 m (encode (one t)))
           ∙ ap (λ (x : meant.Entry NamedTerm). length (encode_entry m x)) (sym d)
 
-  pub body_length : {node : ℕ} {set : NodeSet} (n : ℕ) → entry ≡ entries.Body node set → Measured es node (mask set) n
+  pub body_length : {node : ℕ} {set : NodeSet} (n : ℕ) → entry ≡ Some (entries.Body node set) → Measured es node (mask set) n
       → EntryMeasured es entry (4 + n)
-  body_length {node} {set} n q measured = subst (λ (x : Entry). EntryMeasured es x (4 + n)) (sym q) (record { measured = go })
+  body_length {node} {set} n q measured = subst (λ (x : Option Entry). EntryMeasured es x (4 + n)) (sym q) (record { measured = go })
     where
-      go : (m : ℕ) (e : meant.Entry NamedTerm) → Denotes es (entries.Body node set) e → 4 + n ≡ length (encode_entry m e)
+      go : (m : ℕ) (e : meant.Entry NamedTerm) → Denotes es (Some (entries.Body node set)) e → 4 + n ≡ length (encode_entry m e)
       go m e (t, b, there, d, same, chosen) =
           ap (λ (k : ℕ). 4 + k) (measured.long t there chosen ∙ ap length same) ∙ sym (numbered_length 9 m (encode (one b)))
           ∙ ap (λ (x : meant.Entry NamedTerm). length (encode_entry m x)) (sym d)
@@ -70,68 +67,35 @@ module _ {es : List ℕ} {entry : Entry} where
   pub measured_small : {r : ℕ} → EntryThere es entry → EntryMeasured es entry r → r < 65536
   measured_small h e = omega (arith, e.measured h.number h.says h.denotes, h.short)
 
-  -- What `term_length` and `copy_length` require
-  pub value_measurable : {node : ℕ} → entry ≡ entries.Value node → EntryThere es entry → Measurable es node
-  value_measurable {node} q h =
-      let d = subst (λ (x : Entry). Denotes es x h.says) q h.denotes in
-      record { term = d.0; there = d.1; table = h.table }
-
-  pub body_measurable : {node : ℕ} {set : NodeSet} → entry ≡ entries.Body node set → EntryThere es entry → BodyMeasurable es node (mask set)
+  pub body_measurable : {node : ℕ} {set : NodeSet} → entry ≡ Some (entries.Body node set) → EntryThere es entry → BodyMeasurable es node (mask set)
   body_measurable {node} {set} q h =
-      let (t, b, there, d, same, chosen) = subst (λ (x : Entry). Denotes es x h.says) q h.denotes in
+      let (t, b, there, d, same, chosen) = subst (λ (x : Option Entry). Denotes es x h.says) q h.denotes in
       record { face = record { term = t; there = there; table = h.table }; chosen = chosen }
 
 -- Writing an entry: what is asked of each writer, and what it gives
-module _ {es : List ℕ} {m : ℕ} {entry : Entry} where
-  pub open_room : {room : ℕ} → entry ≡ entries.Open → EntryRoom es m entry room → 4 ≤ room
+module _ {es : List ℕ} {m : ℕ} {entry : Option Entry} where
+  pub open_room : {room : ℕ} → entry ≡ Some entries.Open → EntryRoom es m entry room → 4 ≤ room
   open_room q h =
-      let d = subst (λ (x : Entry). Denotes es x h.says) q h.denotes in
+      let d = subst (λ (x : Option Entry). Denotes es x h.says) q h.denotes in
       let l = ap (λ (x : meant.Entry NamedTerm). length (encode_entry m x)) d ∙ numbered_length 11 m [] in
       omega (arith, h.fits.inside)
 
-  pub value_room : {node room : ℕ} {mask : ℕ} → mask ≡ 0 → entry ≡ entries.Value node → EntryRoom es m entry room → CopyRoom es node mask m 8 room
+  pub value_room : {node room : ℕ} {mask : ℕ} → mask ≡ 0 → entry ≡ Some (entries.Value node) → EntryRoom es m entry room → CopyRoom es node mask m 8 room
   value_room {node} {room} {mask} none q h =
-      let (t, there, d) = subst (λ (x : Entry). Denotes es x h.says) q h.denotes in
+      let (t, there, d) = subst (λ (x : Option Entry). Denotes es x h.says) q h.denotes in
       let same : encode_entry m h.says ≡ field 8 (m ∷ copied mask t) =
       ap (encode_entry m) d ∙ ap (λ (bs : Bytes). field 8 (m ∷ bs)) (sym (copied_none mask t none)) in
       record { term = t; there = there; fits = subst (λ (bs : Bytes). BytesFit bs room) same h.fits }
 
-  pub body_room_lem : {node room : ℕ} {set : NodeSet} → entry ≡ entries.Body node set → EntryRoom es m entry room
-      → CopyRoom es node (mask set) m 9 room
-  body_room_lem {node} {room} {set} q h =
-      let (t, b, there, d, same, chosen) = subst (λ (x : Entry). Denotes es x h.says) q h.denotes in
-      let bytes : encode_entry m h.says ≡ field 9 (m ∷ copied (mask set) t) =
-      ap (encode_entry m) d ∙ ap (λ (bs : Bytes). field 9 (m ∷ bs)) (sym same) in
-      record { term = t; there = there; fits = subst (λ (bs : Bytes). BytesFit bs room) bytes h.fits }
-
-  pub absent_written : {before : Bytes} → entry ≡ entries.Absent → EntryWritten es m entry before before 0
-  absent_written {before} q = subst (λ (x : Entry). EntryWritten es m x before before 0) (sym q)
-      (record {
-        wrote = λ e d. subst (λ (x : meant.Entry NamedTerm). Wrote (encode_entry m x) before before 0) (sym d) (refl, refl);
-      })
-
-  module _ {before after : Bytes} {r : ℕ} where
-    pub open_written : entry ≡ entries.Open → Wrote (field 11 (m ∷ [])) before after r → EntryWritten es m entry before after r
-    open_written q h = subst (λ (x : Entry). EntryWritten es m x before after r) (sym q)
-        (record { wrote = λ e d. subst (λ (x : meant.Entry NamedTerm). Wrote (encode_entry m x) before after r) (sym d) h })
-
-    pub value_written : {node mask : ℕ} → mask ≡ 0 → entry ≡ entries.Value node → CopyWritten es node mask m 8 before after r
-        → EntryWritten es m entry before after r
-    value_written {node} {mask} none q h = subst (λ (x : Entry). EntryWritten es m x before after r) (sym q) (record { wrote = go })
-      where
-        go : (e : meant.Entry NamedTerm) → Denotes es (entries.Value node) e → Wrote (encode_entry m e) before after r
-        go e (t, there, d) =
-            subst (λ (bs : Bytes). Wrote bs before after r)
-            (ap (λ (bs : Bytes). field 8 (m ∷ bs)) (copied_none mask t none) ∙ ap (encode_entry m) (sym d)) (h.wrote t there)
-
-    pub body_written : {node : ℕ} {set : NodeSet} → entry ≡ entries.Body node set → CopyWritten es node (mask set) m 9 before after r
-        → EntryWritten es m entry before after r
-    body_written {node} {set} q h = subst (λ (x : Entry). EntryWritten es m x before after r) (sym q) (record { wrote = go })
-      where
-        go : (e : meant.Entry NamedTerm) → Denotes es (entries.Body node set) e → Wrote (encode_entry m e) before after r
-        go e (t, b, there, d, same, chosen) =
-            subst (λ (bs : Bytes). Wrote bs before after r)
-            (ap (λ (bs : Bytes). field 9 (m ∷ bs)) same ∙ ap (encode_entry m) (sym d)) (h.wrote t there)
+  pub value_written : {before after : Bytes} {r node mask : ℕ} → mask ≡ 0 → entry ≡ Some (entries.Value node)
+      → CopyWritten es node mask m 8 before after r → EntryWritten es m entry before after r
+  value_written {before} {after} {r} {node} {mask} none q h =
+      subst (λ (x : Option Entry). EntryWritten es m x before after r) (sym q) (record { wrote = go })
+    where
+      go : (e : meant.Entry NamedTerm) → Denotes es (Some (entries.Value node)) e → Wrote (encode_entry m e) before after r
+      go e (t, there, d) =
+          subst (λ (bs : Bytes). Wrote bs before after r)
+          (ap (λ (bs : Bytes). field 8 (m ∷ bs)) (copied_none mask t none) ∙ ap (encode_entry m) (sym d)) (h.wrote t there)
 
 -- A number before what stands after it
 set_drop : (k m : ℕ) (o : List ℕ) → k < length o → drop k (set o k m) ≡ m ∷ drop (suc k) o
@@ -261,14 +225,14 @@ counted_from says m h =
     omega arith
 
 -- The length of the fields of all metavariables, those below m counted
-pub entry_measured : {es : List ℕ} (plan : Plan) (m : ℕ) {r : ℕ} {entry : Entry} → entry ≡ entry_at plan m → EntryMeasured es entry r
+pub entry_measured : {es : List ℕ} (plan : Plan) (m : ℕ) {r : ℕ} {entry : Option Entry} → entry ≡ entry_at plan m → EntryMeasured es entry r
     → EntryMeasured es (entry_at plan m) r
-entry_measured {es} plan m {r} q h = subst (λ (x : Entry). EntryMeasured es x r) q h
+entry_measured {es} plan m {r} q h = subst (λ (x : Option Entry). EntryMeasured es x r) q h
 
-pub entry_written : {es : List ℕ} (plan : Plan) (m : ℕ) {before after : Bytes} {r : ℕ} {entry : Entry} → entry ≡ entry_at plan m
+pub entry_written : {es : List ℕ} (plan : Plan) (m : ℕ) {before after : Bytes} {r : ℕ} {entry : Option Entry} → entry ≡ entry_at plan m
     → EntryWritten es m entry before after r
     → EntryWritten es m (entry_at plan m) before after r
-entry_written {es} plan m {before} {after} {r} q h = subst (λ (x : Entry). EntryWritten es m x before after r) q h
+entry_written {es} plan m {before} {after} {r} q h = subst (λ (x : Option Entry). EntryWritten es m x before after r) q h
 
 pub record Counting (es : List ℕ) (plan : Plan) (m n : ℕ) : Type 0 where
   pub whole : (says : Entries) → DenotesAll es plan says → n + length (fields_of says m) ≡ length (fields_of says 0)
@@ -281,9 +245,6 @@ pub record Writing (es : List ℕ) (plan : Plan) (m k n : ℕ) (before out : Byt
   pub written : (says : Entries) → DenotesAll es plan says → Part (fields_of says m) (fields_of says k) n before out
 
 module _ {es : List ℕ} {plan : Plan} where
-  pub counting_begins : Counting es plan 0 0
-  counting_begins = record { whole = λ says d. omega arith }
-
   pub counting_goes_on : {m n k : ℕ} → m < metavariable_count → Counting es plan m n → EntryMeasured es (entry_at plan m) k
       → Counting es plan (m + 1) (n + k)
   counting_goes_on {m} small c e = record {
@@ -316,7 +277,7 @@ module _ {es : List ℕ} {plan : Plan} where
         }
 
     -- of the entry as the code has it
-    pub entry_at_there : {entry : Entry} → entry ≡ entry_at plan m → EntryThere es entry
+    pub entry_at_there : {entry : Option Entry} → entry ≡ entry_at plan m → EntryThere es entry
     entry_at_there q = subst (EntryThere es) (sym q) entry_there
 
     pub sum_small : {n k : ℕ} → Counting es plan m n → EntryMeasured es (entry_at plan m) k → n + k < 65536
@@ -325,10 +286,6 @@ module _ {es : List ℕ} {plan : Plan} where
         let b = fields_length w.says m small in
         let g = c.whole w.says w.denotes in
         omega (arith, w.short)
-
-  -- The fields one after the other
-  pub writing_begins : {m : ℕ} {before : Bytes} → m ≤ metavariable_count → Writing es plan m m 0 before before
-  writing_begins h = record { within = h; same = refl; written = λ says d. part_begins }
 
   module _ {m k n : ℕ} {before out : Bytes} (w : Writing es plan m k n before out) where
     pub writing_ends : metavariable_count ≤ k → FieldsWritten es plan m before out n
@@ -345,11 +302,11 @@ module _ {es : List ℕ} {plan : Plan} where
 
       module _ (small : k < metavariable_count) where
         -- What `write_entry` requires, of the entry as the code has it
-        pub next_room : {entry : Entry} → entry ≡ entry_at plan k → EntryRoom es k entry (length (take (length out - n) (drop n out)))
+        pub next_room : {entry : Option Entry} → entry ≡ entry_at plan k → EntryRoom es k entry (length (take (length out - n) (drop n out)))
         next_room q =
             let l = fields_length t.says k small in
             let z = ap length (rest_all n out) ∙ length-drop n out in
-            subst (λ (x : Entry). EntryRoom es k x (length (take (length out - n) (drop n out)))) (sym q) (record {
+            subst (λ (x : Option Entry). EntryRoom es k x (length (take (length out - n) (drop n out)))) (sym q) (record {
               says = t.says k;
               denotes = t.denotes k small;
               fits = record { inside = omega (arith, left, t.fits.inside, w.same); short = omega (arith, left, t.fits.short) };

@@ -1,7 +1,7 @@
 -- What composing a text promises: its length, and its bytes.
 --   ..Room     what the writers ask: an entry whose terms are in the table, and room for its bytes, which a field's length can count
 --   Writable   what a plan owes, so that its text can be measured and written
-use Rattle.std.specs.Prelude.{◌≡◌, ℕ, ◌<◌, ◌≤◌, List, ◌∷◌, length}
+use Rattle.std.specs.Prelude.{◌≡◌, ℕ, ◌<◌, ◌≤◌, List, ◌∷◌, Option, length}
 use Rattle.meaning.specs.Limits.{metavariable_count}
 use Rattle.meaning.specs.Basics.{Bytes}
 use Rattle.meaning.specs.Term.{NamedTerm}
@@ -21,22 +21,22 @@ pub record BytesFit (bytes : Bytes) (room : ℕ) : Type 0 where
   pub short : length bytes < 65536
 
 -- One entry
-pub record EntryRoom (es : List ℕ) (m : ℕ) (entry : Entry) (room : ℕ) : Type 0 where
+pub record EntryRoom (es : List ℕ) (m : ℕ) (entry : Option Entry) (room : ℕ) : Type 0 where
   pub says : meant.Entry NamedTerm
   pub denotes : Denotes es entry says
   pub fits : BytesFit (encode_entry m says) room
 
-pub record EntryThere (es : List ℕ) (entry : Entry) : Type 0 where
+pub record EntryThere (es : List ℕ) (entry : Option Entry) : Type 0 where
   pub table : Table es
   pub number : ℕ
   pub says : meant.Entry NamedTerm
   pub denotes : Denotes es entry says
   pub short : length (encode_entry number says) < 65536
 
-pub record EntryMeasured (es : List ℕ) (entry : Entry) (r : ℕ) : Type 0 where
+pub record EntryMeasured (es : List ℕ) (entry : Option Entry) (r : ℕ) : Type 0 where
   pub measured : (m : ℕ) (e : meant.Entry NamedTerm) → Denotes es entry e → r ≡ length (encode_entry m e)
 
-pub record EntryWritten (es : List ℕ) (m : ℕ) (entry : Entry) (before after : Bytes) (r : ℕ) : Type 0 where
+pub record EntryWritten (es : List ℕ) (m : ℕ) (entry : Option Entry) (before after : Bytes) (r : ℕ) : Type 0 where
   pub wrote : (e : meant.Entry NamedTerm) → Denotes es entry e → Wrote (encode_entry m e) before after r
 
 -- A field with a number and a copied term

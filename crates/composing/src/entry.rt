@@ -4,7 +4,7 @@ ghost use Rattle.composing.specs.Entries.{Planned, body_at, value_at, entry_at};
 
 use masks::NodeSet;
 use metavariables::{MAX_FUNCTIONS, Occurring, in_set, rank};
-use sources::{OPEN, Sources};
+use sources::Sources;
 
 // Where the entries of a row are looked up: the problem's metavariables, the face and the node set of each function, and the nodes that the
 // values are copied from.
@@ -16,10 +16,9 @@ pub struct Plan {
     pub sources: Sources,
 }
 
+// What the text has for a metavariable that occurs.
 #[derive(Clone, Copy)]
 pub enum Entry {
-    // The metavariable does not occur.
-    Absent,
     // "11 (open)"
     Open,
     // "8 (value)": the node that it is copied from.
@@ -33,9 +32,7 @@ fn body_of(plan: Plan, k: usize) -> Entry
     requires { Planned plan × (k < 8) }
     ensures { result ≡ body_at plan k }
 {
-    let nodes = plan.nodes;
-    let row = plan.row;
-    Entry::Body(nodes[k], row[k])
+    Entry::Body(plan.nodes[k], plan.row[k])
 }
 
 // The entry of a metavariable that is no function.
@@ -43,26 +40,23 @@ fn value_of(plan: Plan, m: usize) -> Entry
     requires { Planned plan × (m < 32) }
     ensures { result ≡ value_at plan m }
 {
-    let sources = plan.sources;
-    let node = sources.nodes[m];
-    if node == OPEN {
-        Entry::Open
-    } else {
-        Entry::Value(node)
+    match plan.sources.nodes[m] {
+        Some(node) => Entry::Value(node),
+        None => Entry::Open,
     }
 }
 
-pub fn entry_of(plan: Plan, m: u32) -> Entry
+// The entry of a metavariable, or none where it does not occur.
+pub fn entry_of(plan: Plan, m: u32) -> Option<Entry>
     requires { Planned plan × (m < 32) }
     ensures { result ≡ entry_at plan m }
 {
     let functions = plan.occurring.functions;
-    let plain = plan.occurring.plain;
     if in_set(functions, m) {
-        return body_of(plan, rank(functions, m));
+        Some(body_of(plan, rank(functions, m)))
+    } else if in_set(plan.occurring.plain, m) {
+        Some(value_of(plan, m as usize))
+    } else {
+        None
     }
-    if in_set(plain, m) {
-        return value_of(plan, m as usize);
-    }
-    Entry::Absent
 }

@@ -12,15 +12,15 @@ use masks::NodeSet;
 use metavariables::METAVARIABLES;
 
 // How many bytes the field of an entry has.
-fn entry_length(es: &[u64], entry: Entry) -> usize
+fn entry_length(es: &[u64], entry: Option<Entry>) -> usize
     requires { EntryThere es.now entry }
     ensures { EntryMeasured es.now entry result }
 {
     match entry {
-        Entry::Absent => 0,
-        Entry::Open => 4,
-        Entry::Value(node) => 4 + term_length(es, node),
-        Entry::Body(node, set) => 4 + copy_length(es, node, set),
+        None => 0,
+        Some(Entry::Open) => 4,
+        Some(Entry::Value(node)) => 4 + term_length(es, node),
+        Some(Entry::Body(node, set)) => 4 + copy_length(es, node, set),
     }
 }
 
@@ -28,11 +28,9 @@ pub fn text_length(es: &[u64], plan: Plan) -> usize
     requires { Writable es.now plan }
     ensures { TextMeasured es.now plan result }
 {
-    let mut m = 0;
     let mut n = 0;
-    while m < METAVARIABLES {
+    for m in 0..METAVARIABLES {
         n += entry_length(es, entry_of(plan, m));
-        m += 1;
     }
     n
 }
@@ -59,15 +57,15 @@ fn write_copied(tag: u8, m: u8, es: &[u64], node: usize, set: NodeSet, out: &mut
     n + 4
 }
 
-fn write_entry(m: u8, es: &[u64], entry: Entry, out: &mut [u8]) -> usize
+fn write_entry(m: u8, es: &[u64], entry: Option<Entry>, out: &mut [u8]) -> usize
     requires { EntryRoom es.now m entry (length out.old) }
     ensures { EntryWritten es.now m entry out.old out.new result }
 {
     match entry {
-        Entry::Absent => 0,
-        Entry::Open => write_open(m, out),
-        Entry::Value(node) => write_copied(8, m, es, node, NodeSet::none(), out),
-        Entry::Body(node, set) => write_copied(9, m, es, node, set, out),
+        None => 0,
+        Some(Entry::Open) => write_open(m, out),
+        Some(Entry::Value(node)) => write_copied(8, m, es, node, NodeSet::none(), out),
+        Some(Entry::Body(node, set)) => write_copied(9, m, es, node, set, out),
     }
 }
 
@@ -77,11 +75,9 @@ pub fn write_from(m: u32, es: &[u64], plan: Plan, out: &mut [u8]) -> usize
     requires { TextRoom es.now plan m (length out.old) }
     ensures { FieldsWritten es.now plan m out.old out.new result }
 {
-    let mut k = m;
     let mut n = 0;
-    while k < METAVARIABLES {
+    for k in m..METAVARIABLES {
         n += write_entry(k as u8, es, entry_of(plan, k), &mut out[n..]);
-        k += 1;
     }
     n
 }

@@ -17,7 +17,7 @@ use Rattle.bodies.specs.Marked.{marked}
 use Rattle.copying.specs.Fixed.{NodeRoom, NodeWrote, Wrote, a_hole, fixed_in, head_in}
 use Rattle.copying.specs.Copied.{Copied, CopiedTerm, CopiedTerms, Copyable, TermCopyable, TermsCopyable, Spans, TermIn, copied, copied_from}
 use Rattle.copying.proofs.FixedLaws.{head_length, hole_length}
-use Rattle.copying.proofs.WriteLaws.{Part, headed, part_begins, part_ends, part_goes, part_long}
+use Rattle.copying.proofs.WriteLaws.{Part, headed, part_ends, part_goes, part_long}
 use Rattle.copying.proofs.CopiedBytes.{copied_none, first_bytes, hole_bytes}
 use Rattle.copying.proofs.SpanLaws.{span_first, span_later, span_none, term_below, term_bytes, term_long, term_size}
 
@@ -113,14 +113,6 @@ pub record Copying (es : List ℕ) (from mask node to next n : ℕ) (before out 
   pub begins : node ≤ next
   pub same : length out ≡ length before
   pub written : (u : Forest Named) → Spans es node to u → Left es from mask node to next n before out u
-
-pub copying_begins : {es : List ℕ} {from mask node to : ℕ} {before : Bytes} → Copying es from mask node to node 0 before before
-copying_begins =
-    record {
-      begins = omega arith;
-      same = refl;
-      written = λ u there. record { rest = u; there = there; part = part_begins };
-    }
 
 module _ {es : List ℕ} {from mask node to next n : ℕ} {before out : Bytes} (w : Copying es from mask node to next n before out) where
   pub copying_ends : to ≤ next → CopiedTerms es from mask node to before out n

@@ -2,11 +2,11 @@
 --   left        the bytes of the nodes of a list from node i on
 --   Measuring   the invariant of the loop of `term_length`
 use mathlib.Core.Path.{◌≡◌, ap, sym, ◌∙◌}
-use Prim.Native.Nat.{ℕ, ◌+◌, ◌*◌, ◌<◌, ◌≤◌}
+use Prim.Native.Nat.{ℕ, ◌+◌, ◌-◌, ◌*◌, ◌<◌, ◌≤◌}
 use native.Mathlib.Omega.{arith}
 use native.Mathlib.Numerals.{add-one}
 use mathlib.Core.List.{List, [], ◌∷◌, ◌++◌, append_assoc, append-nil}
-use lib.ListN.{length, drop, drop_of_length-le, length-append}
+use lib.ListN.{length, drop, drop_of_length-le, length-append, length-take, take}
 use lib.Seq.{drop-cons}
 use Rattle.meaning.specs.Term.{Forest, Named, NamedTerm, cons, nil, one, size}
 use Rattle.meaning.specs.Scope.{enter}
@@ -18,7 +18,6 @@ use Rattle.tokens.specs.Token.{size_in, tokens}
 use Rattle.tokens.specs.Key.{Inside, at, part}
 use Rattle.tokens.proofs.ProblemTokens.{token_at}
 use Rattle.tokens.proofs.KeyLaws.{stands_part}
-use Rattle.bodies.proofs.ClosedLaws.{part_at, part_length}
 use Rattle.copying.specs.Fixed.{fixed_in}
 use Rattle.copying.specs.Copied.{TermIn}
 use Rattle.copying.specs.Measure.{Measurable, TermMeasured, length_at, length_in}
@@ -68,34 +67,31 @@ measured {es} {node} t h =
     ∙ length_trees h.levels h.scope (one t) [] h.held.readable h.held.depths h.held.sizes ∙ n
 
 -- The loop's invariant: what is counted and what is left make the whole
-pub record Measuring (es : List ℕ) (node n total i : ℕ) : Type 0 where
+pub record Measuring (es : List ℕ) (node total i : ℕ) : Type 0 where
   pub inside : Inside es node
-  pub is_size : n ≡ size_in (at es node)
   pub whole : total + left (part es node) i ≡ length_at es node
   pub small : total ≤ 7 * i
 
-pub measure_begins : {es : List ℕ} {node n : ℕ} → Measurable es node → n ≡ size_in (at es node) → Measuring es node n 0 0
+pub measure_begins : {es : List ℕ} {node : ℕ} → Measurable es node → Measuring es node 0 0
 unfolding length_at
-measure_begins h is-n = record { inside = term_inside h.there; is_size = is-n; whole = omega arith; small = omega arith }
+measure_begins h = record { inside = term_inside h.there; whole = omega arith; small = omega arith }
 
-module _ {es : List ℕ} {node n total i : ℕ} (w : Measuring es node n total i) where
-  long : length (part es node) ≡ n
-  long = part_length es node w.inside ∙ sym w.is_size
+-- The part that the loop goes over
+pub part_lent : (es : List ℕ) (node n : ℕ) → n ≡ size_in (at es node) → take (node + n - node) (drop node es) ≡ part es node
+part_lent es node n e = let w : node + n - node ≡ size_in (at es node) = omega arith in ap (λ (k : ℕ). take k (drop node es)) w
 
-  pub measure_ends : n ≤ i → TermMeasured es node total
-  measure_ends h = record {
-    long = λ t there. omega (arith, w.whole, left_end (part es node) i (omega (arith, long)), measured t there);
-  }
+pub part_short : (es : List ℕ) (node i : ℕ) → i < length (part es node) → i < 65536
+part_short es node i h = omega (arith, length-take (size_in (at es node)) (drop node es))
 
-  pub measure_goes_on : {f : ℕ} → i < n → f ≡ length (fixed_in (at es (node + i))) → Measuring es node n (total + (3 + f)) (i + 1)
+module _ {es : List ℕ} {node total i : ℕ} (w : Measuring es node total i) where
+  pub measure_ends : length (part es node) ≤ i → TermMeasured es node total
+  measure_ends h = record { long = λ t there. omega (arith, w.whole, left_end (part es node) i h, measured t there) }
+
+  pub measure_goes_on : {f : ℕ} → i < length (part es node) → f ≡ length (fixed_in (at (part es node) i))
+      → Measuring es node (total + (3 + f)) (i + 1)
   measure_goes_on {f} h is_f =
-      let here : at (part es node) i ≡ at es (node + i) = part_at es node w.inside i (omega (arith, w.is_size)) in
-      let next : left (part es node) i ≡ 3 + f + left (part es node) (i + 1) =
-      left_next (part es node) i (omega (arith, long))
-      ∙ ap (λ (k : ℕ). 3 + k + left (part es node) (i + 1)) (ap (λ (x : ℕ). length (fixed_in x)) here ∙ sym is_f) in
       record {
         inside = w.inside;
-        is_size = w.is_size;
-        whole = omega (arith, next, w.whole);
-        small = omega (arith, fixed_short (at es (node + i)), w.small);
+        whole = omega (arith, is_f, left_next (part es node) i h, w.whole);
+        small = omega (arith, is_f, fixed_short (at (part es node) i), w.small);
       }

@@ -18,19 +18,30 @@ use Rattle.slices.proofs.Slices.{rest_all, rows_joined}
 use Rattle.copying.specs.Fixed.{Wrote, a_hole, fixed_in, head_in, number_in, numbers_in}
 use Rattle.copying.proofs.FixedLaws.{head_length}
 
--- A few bytes at the front
-pub two_bytes : (o : Bytes) (n : ℕ) → 2 ≤ length o → set (set o 0 (n / 256)) 1 (n % 256) ≡ word n ++ drop 2 o
+-- A number's bytes, high byte first
+pub two_bytes : (n : ℕ) → n < 65536 → (n / 256) % 256 ∷ n % 256 ∷ [] ≡ word n
 unfolding word
-two_bytes [] n h = absurd (omega arith)
-two_bytes (x ∷ []) n h = absurd (omega arith)
-two_bytes (x ∷ y ∷ o) n h = refl
+two_bytes n h = let e : n / 256 % 256 ≡ n / 256 = omega arith in ap (λ (k : ℕ). k ∷ n % 256 ∷ []) e
 
-pub three_bytes : (o : Bytes) (g n : ℕ) → 3 ≤ length o → set (set (set o 0 g) 1 (n / 256)) 2 (n % 256) ≡ g ∷ (word n ++ drop 3 o)
+pub four_bytes : (n : ℕ) → n < 4294967296
+    → (n / 16777216) % 256 ∷ (n / 65536) % 256 ∷ (n / 256) % 256 ∷ n % 256 ∷ [] ≡ word (n / 65536) ++ word (n % 65536)
 unfolding word
-three_bytes [] g n h = absurd (omega arith)
-three_bytes (x ∷ []) g n h = absurd (omega arith)
-three_bytes (x ∷ y ∷ []) g n h = absurd (omega arith)
-three_bytes (x ∷ y ∷ z ∷ o) g n h = refl
+four_bytes n h =
+    let a : n / 16777216 % 256 ≡ n / 65536 / 256 = omega arith in
+    let d : n / 256 % 256 ≡ n % 65536 / 256 = omega arith in
+    let e : n % 256 ≡ n % 65536 % 256 = omega arith in
+    cc
+
+-- A tag before a number
+begun : (o : Bytes) (g : ℕ) → 1 ≤ length o → set o 0 g ≡ (g ∷ []) ++ drop 1 o
+begun [] g h = absurd (omega arith)
+begun (x ∷ o) g h = refl
+
+pub head_wrote : (g n : ℕ) (o y : Bytes) → 1 ≤ length o
+    → y ≡ word n ++ drop 2 (take (length (set o 0 g) - 1) (drop 1 (set o 0 g)))
+    → put_mid 1 (length (set o 0 g) - 1) (set o 0 g) y ≡ g ∷ (word n ++ drop 3 o)
+unfolding word
+head_wrote g n o y h e = rows_joined (g ∷ []) (word n) o (set o 0 g) y (begun o g h) e
 
 pub hole_wrote : (o o' : Bytes) → o' ≡ 10 ∷ (word 0 ++ drop 3 o) → Wrote a_hole o o' 3
 unfolding a_hole field word
@@ -109,9 +120,6 @@ pub record Part (bytes rest : Bytes) (n : ℕ) (before out : Bytes) : Type 0 whe
   pub done : Bytes
   pub whole : bytes ≡ done ++ rest
   pub wrote : Wrote done before out n
-
-pub part_begins : {bytes before : Bytes} → Part bytes bytes 0 before before
-part_begins = record { done = []; whole = refl; wrote = (refl, refl) }
 
 module _ {bytes rest : Bytes} {n : ℕ} {before out : Bytes} (p : Part bytes rest n before out) where
   pub part_long : n + length rest ≡ length bytes

@@ -1,9 +1,9 @@
 -- What a writer answers, as `meaning` has answers.
-use Rattle.std.specs.Prelude.{ℕ}
+use Rattle.std.specs.Prelude.{ℕ, Result, Ok, Err}
 use Rattle.meaning.specs.Read.{Answer, got, refused}
-use Rattle.copying.specs.declared.Written.{Written}
-use Rattle.copying.specs.declared.Written.TheVariants as answers
+use Rattle.refusal.specs.Number.{number}
+use Rattle.refusal.specs.declared.Refusal.{Refusal}
 
-abbrev pub answer_of : Written → Answer ℕ
-answer_of (answers.Wrote n) = got n
-answer_of (answers.Refused n) = refused n
+abbrev pub answer_of : Result ℕ Refusal → Answer ℕ
+answer_of (Ok n) = got n
+answer_of (Err r) = refused (number r)

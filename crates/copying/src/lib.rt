@@ -18,35 +18,26 @@ use tokens::token::{payload, size, tag};
 // "hole, length 0"
 const HOLE: u8 = 10;
 
-// What the writer of a text or a problem answers: how many bytes it wrote, or the refusal by its number.
-#[derive(Clone, Copy)]
-pub enum Written {
-    Wrote(usize),
-    Refused(u8),
-}
-
 // A field's head, before the content that stands there already.
 pub fn write_head(tag: u8, length: usize, out: &mut [u8])
     requires { HeadRoom length out.old }
     ensures { out.new ≡ tag ∷ (word length ++ drop 3 out.old) }
 {
     out[0] = tag;
-    out[1] = (length / 256) as u8;
-    out[2] = (length % 256) as u8;
+    write_word(length as u16, &mut out[1..]);
 }
 
 // The number in two bytes, high byte first.
-fn write_word(n: u64, out: &mut [u8])
-    requires { (n < 65536) × (2 ≤ length out.old) }
+fn write_word(n: u16, out: &mut [u8])
+    requires { 2 ≤ length out.old }
     ensures { out.new ≡ word n ++ drop 2 out.old }
 {
-    out[0] = (n / 256) as u8;
-    out[1] = (n % 256) as u8;
+    out[..2].copy_from_slice(&n.to_be_bytes());
 }
 
 // Two numbers in two bytes each.
-fn write_words(first: u64, second: u64, out: &mut [u8])
-    requires { (first < 65536) × (second < 65536) × (4 ≤ length out.old) }
+fn write_words(first: u16, second: u16, out: &mut [u8])
+    requires { 4 ≤ length out.old }
     ensures { out.new ≡ (word first ++ word second) ++ drop 4 out.old }
 {
     write_word(first, out);
@@ -60,9 +51,9 @@ fn write_symbol(x: Symbol, out: &mut [u8])
 {
     let n = x.0;
     if n < FIRST_WIDE {
-        write_word(n as u64, out);
+        write_word(n as u16, out);
     } else {
-        write_words((n / 65536) as u64, (n % 65536) as u64, out);
+        out[..4].copy_from_slice(&n.to_be_bytes());
     }
 }
 
@@ -100,10 +91,10 @@ fn write_fixed(x: u64, out: &mut [u8])
 {
     match tag(x) {
         1 => write_symbol(symbol(x), out),
-        2 => write_word(payload(x) % 65536, out),
+        2 => write_word((payload(x) % 65536) as u16, out),
         4 => {
             let load = payload(x);
-            write_words(load % 65536, load / 65536, out)
+            write_words((load % 65536) as u16, (load / 65536) as u16, out)
         }
         _ => {}
     }
@@ -145,6 +136,7 @@ fn copy_terms(es: &[u64], from: usize, set: NodeSet, at: usize, to: usize, out: 
 {
     let mut next = at;
     let mut n = 0;
+    // A step is a whole term.
     while next < to {
         n += copy_term(es, from, set, next, &mut out[n..]);
         next += size(es[next]) as usize;
@@ -165,12 +157,10 @@ pub fn term_length(es: &[u64], node: usize) -> usize
     requires { Measurable es.now node }
     ensures { TermMeasured es.now node result }
 {
-    let n = size(es[node]) as usize;
+    let end = node + size(es[node]) as usize;
     let mut total = 0;
-    let mut i = 0;
-    while i < n {
-        total += 3 + fixed_length(es[node + i]);
-        i += 1;
+    for x in &es[node..end] {
+        total += 3 + fixed_length(*x);
     }
     total
 }

@@ -4,7 +4,6 @@ use Prim.Native.Nat.{ℕ, ◌^◌, ◌<◌}
 use mathlib.Core.Bool.{Bool, true, false, ◌&&◌, ◌||◌, not, not-not}
 use lib.Dec.{eqb}
 use lib.Bits.{bit_and, bit_or}
-use borrow.Author.Tests.{not-true, not-false}
 use Rattle.meaning.specs.Limits.{metavariable_count}
 use Rattle.meaning.specs.Basics.{every, up_to}
 use Rattle.meaning.proofs.Lists.{mem_up_to, up_to_mem}
@@ -14,7 +13,8 @@ use Rattle.metavariables.proofs.BitLaws.{has_or, every_same}
 use Rattle.metavariables.proofs.SurveyLaws.{meets_code}
 use Rattle.said.specs.declared.Said.{Said}
 use Rattle.entries.specs.Sets.{SetOf, within}
-use Rattle.entries.specs.Fields.{has_tag, known_at, kinds_at, open_unneeded_at, unneeded_open_at}
+use Rattle.said.specs.Said.{field_of}
+use Rattle.entries.specs.Fields.{unsaid, says_value, says_body, says_open, known_at, kinds_at, open_unneeded_at, unneeded_open_at}
 use Rattle.entries.proofs.TestLaws.{every_at}
 
 -- A test of each metavariable, in two ways
@@ -46,50 +46,50 @@ module _ (s : Said) where
   abbrev occurs : Occurring → ℕ → Bool
   occurs o m = has o.functions m || has o.plain m
 
-  pub known_returns : (o : Occurring) (none : ℕ) (found : Bool) → SetOf (has_tag s 0) none
+  pub known_returns : (o : Occurring) (none : ℕ) (found : Bool) → SetOf (λ m. unsaid (field_of s m)) none
       → found ≡ within 4294967295 (bit_or none (bit_or o.functions o.plain)) → found ≡ known_at s o
   unfolding known_at
   known_returns o none found f e =
       e
-      ∙ within_tests 4294967295 _ (λ m. has_tag s 0 m || occurs o m)
-      (joined_sets (has_tag s 0) (occurs o) none (bit_or o.functions o.plain) f
+      ∙ within_tests 4294967295 _ (λ m. unsaid (field_of s m) || occurs o m)
+      (joined_sets (λ m. unsaid (field_of s m)) (occurs o) none (bit_or o.functions o.plain) f
       (joined_sets (has o.functions) (has o.plain) o.functions o.plain (own_set o.functions) (own_set o.plain)))
-      ∙ each_same (λ m. not (has 4294967295 m) || (has_tag s 0 m || occurs o m)) (λ m. has_tag s 0 m || occurs o m)
-      (λ m h. ap (λ (b : Bool). not b || (has_tag s 0 m || occurs o m)) (all_has m h))
+      ∙ each_same (λ m. not (has 4294967295 m) || (unsaid (field_of s m) || occurs o m)) (λ m. unsaid (field_of s m) || occurs o m)
+      (λ m h. ap (λ (b : Bool). not b || (unsaid (field_of s m) || occurs o m)) (all_has m h))
 
   -- bodies are the metavariables with a body, and found whether the functions are among them
-  module _ (o : Occurring) (bodies : ℕ) (found : Bool) (are-bodies : SetOf (has_tag s 9) bodies)
+  module _ (o : Occurring) (bodies : ℕ) (found : Bool) (are-bodies : SetOf (λ m. says_body (field_of s m)) bodies)
       (is_found : found ≡ within o.functions bodies) where
-    functions_found : found ≡ every (λ m. not (has o.functions m) || has_tag s 9 m) (up_to metavariable_count)
-    functions_found = is_found ∙ within_tests o.functions bodies (has_tag s 9) are-bodies
+    abbrev value_or_open : ℕ → Bool
+    value_or_open m = says_value (field_of s m) || says_open (field_of s m)
 
-    pub kinds_refused : not found ≡ true → false ≡ kinds_at s o
+    functions_found : found ≡ every (λ m. not (has o.functions m) || says_body (field_of s m)) (up_to metavariable_count)
+    functions_found = is_found ∙ within_tests o.functions bodies (λ m. says_body (field_of s m)) are-bodies
+
+    pub kinds_refused : found ≡ false → false ≡ kinds_at s o
     unfolding kinds_at
     kinds_refused e =
-        ap (λ (b : Bool). b && every (λ m. not (has o.plain m) || (has_tag s 8 m || has_tag s 11 m)) (up_to metavariable_count))
-        (sym (not-true found e) ∙ functions_found)
+        ap (λ (b : Bool). b && every (λ m. not (has o.plain m) || value_or_open m) (up_to metavariable_count))
+        (sym e ∙ functions_found)
 
-    pub kinds_returns : not found ≡ false → (values opens : ℕ) (others : Bool) → SetOf (has_tag s 8) values → SetOf (has_tag s 11) opens
-        → others ≡ within o.plain (bit_or values opens) → others ≡ kinds_at s o
+    pub kinds_returns : found ≡ true → (others : ℕ) (right : Bool) → SetOf value_or_open others
+        → right ≡ within o.plain others → right ≡ kinds_at s o
     unfolding kinds_at
-    kinds_returns e values opens others f g h =
-        ap₂ ◌&&◌ (sym (not-false found e) ∙ functions_found)
-        (h
-        ∙ within_tests o.plain (bit_or values opens) (λ m. has_tag s 8 m || has_tag s 11 m)
-        (joined_sets (has_tag s 8) (has_tag s 11) values opens f g))
+    kinds_returns e others right f h =
+        ap₂ ◌&&◌ (sym e ∙ functions_found) (h ∙ within_tests o.plain others value_or_open f)
 
-  module _ (needed opens : ℕ) (are-open : SetOf (has_tag s 11) opens) where
+  module _ (needed opens : ℕ) (are-open : SetOf (λ m. says_open (field_of s m)) opens) where
     pub open_returns : opens < 2 ^ 32 → needed < 2 ^ 32 → eqb (bit_and opens needed) 0 ≡ open_unneeded_at s needed
     unfolding open_unneeded_at SetOf meets
     open_returns a b =
         sym (not-not (eqb (bit_and opens needed) 0)) ∙ ap not (meets_code opens a needed b)
         ∙ not-not (every (λ m. not (has opens m && has needed m)) (up_to metavariable_count))
-        ∙ each_same (λ m. not (has opens m && has needed m)) (λ m. not (has_tag s 11 m && has needed m))
+        ∙ each_same (λ m. not (has opens m && has needed m)) (λ m. not (says_open (field_of s m) && has needed m))
         (λ m h. ap (λ (x : Bool). not (x && has needed m)) (are-open m h))
 
     pub unneeded_returns : (plain : ℕ) (found : Bool) → found ≡ within plain (bit_or opens needed) → found ≡ unneeded_open_at s plain needed
     unfolding unneeded_open_at
     unneeded_returns plain found e =
         e
-        ∙ within_tests plain (bit_or opens needed) (λ m. has_tag s 11 m || has needed m)
-        (joined_sets (has_tag s 11) (has needed) opens needed are-open (own_set needed))
+        ∙ within_tests plain (bit_or opens needed) (λ m. says_open (field_of s m) || has needed m)
+        (joined_sets (λ m. says_open (field_of s m)) (has needed) opens needed are-open (own_set needed))

@@ -2,9 +2,8 @@
 pub mod TestLaws
 pub mod SetLaws
 pub mod FieldLaws
-pub mod HoleLaws
 pub mod NeededLaws
-pub mod EntryTags
+pub mod HeldFields
 pub mod KnownItems
 pub mod HoleMeaning
 pub mod Standings

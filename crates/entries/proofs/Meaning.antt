@@ -3,7 +3,6 @@ use mathlib.Core.Path.{◌≡◌, refl, ap, ap₂, sym, ◌∙◌}
 use Prim.Native.Nat.{ℕ, ◌<◌}
 use mathlib.Core.Bool.{Bool, true, false, ◌&&◌, ◌||◌, not}
 use mathlib.Core.List.{List}
-use lib.Dec.{eqb}
 use Rattle.meaning.specs.Limits.{metavariable_count}
 use Rattle.meaning.specs.Basics.{is_in, up_to, ◌∈◌}
 use Rattle.meaning.specs.Term.{one, NamedTerm, Term}
@@ -16,20 +15,19 @@ use Rattle.meaning.specs.Passing.{is_absent, is_body_entry, is_value_entry, is_o
 use Rattle.meaning.proofs.Lists.{up_to_mem}
 use Rattle.meaning.proofs.Proper.{Proper, accepted_proper, one_place}
 use Rattle.tokens.specs.Token.{pattern_tokens}
-use Rattle.tokens.specs.Key.{at, part}
 use Rattle.metavariables.specs.declared.Occurring.{Occurring}
 use Rattle.metavariables.specs.Survey.{has, Surveyed}
 use Rattle.metavariables.proofs.BitLaws.{every_same}
 use Rattle.metavariables.proofs.SurveyMeaning.{survey_functions, survey_plain}
 use Rattle.said.specs.declared.Said.{Said}
-use Rattle.said.specs.Said.{item_of, entry_tag, SaidBy}
+use Rattle.said.specs.Said.{item_of, field_of, SaidBy}
 use Rattle.said.proofs.SaidLaws.{said_item}
 use Rattle.entries.specs.Sets.{SetOf}
-use Rattle.entries.specs.Fields.{has_tag, known_at, kinds_at, open_unneeded_at, unneeded_open_at}
-use Rattle.entries.specs.Holes.{any_hole, holed_at}
+use Rattle.entries.specs.Fields.{unsaid, says_value, says_body, says_open, known_at, kinds_at, open_unneeded_at, unneeded_open_at}
+use Rattle.entries.specs.Holes.{holed_at}
 use Rattle.entries.specs.Needed.{needed_at}
 use Rattle.entries.proofs.TestLaws.{set_tests}
-use Rattle.entries.proofs.EntryTags.{absent_tag, open_tag, body_tag, value_tag}
+use Rattle.entries.proofs.HeldFields.{absent_held, open_held, body_held, value_held}
 use Rattle.entries.proofs.KnownItems.{known_items}
 use Rattle.entries.proofs.HoleMeaning.{entry_holed}
 use Rattle.entries.proofs.Standings.{needing, needing_plain, needing_needed, needing_every}
@@ -39,11 +37,8 @@ module _ (p : Problem) (a : Accepted p) (ts : List ℕ) (is : List Item) (s : Sa
   abbrev entry : ℕ → Entry NamedTerm
   entry m = item_of is m
 
-  tag_says : (kind m : ℕ) → m < metavariable_count → has_tag s kind m ≡ eqb (entry_tag (entry m)) kind
-  tag_says kind m h = ap (λ (t : ℕ). eqb t kind) (w.tags m h)
-
-  open_says : (m : ℕ) → m < metavariable_count → has_tag s 11 m ≡ is_open (said is m)
-  open_says m h = tag_says 11 m h ∙ open_tag (entry m) ∙ ap is_open (sym (said_item is m))
+  open_says : (m : ℕ) → m < metavariable_count → says_open (field_of s m) ≡ is_open (said is m)
+  open_says m h = open_held ts (entry m) (field_of s m) (w.fields m h) ∙ ap is_open (sym (said_item is m))
 
   proper : Proper p
   proper = accepted_proper p a
@@ -59,11 +54,11 @@ module _ (p : Problem) (a : Accepted p) (ts : List ℕ) (is : List Item) (s : Sa
     pub known_means : known_at s o ≡ known p is
     unfolding known_at
     known_means =
-        every_same (λ m. has_tag s 0 m || (has o.functions m || has o.plain m))
+        every_same (λ m. unsaid (field_of s m) || (has o.functions m || has o.plain m))
         (λ m. is_absent (said is m) || (is_function p m || is_plain p m)) (up_to metavariable_count)
         (λ m i.
         let h : m < metavariable_count = up_to_mem metavariable_count m i in
-        ap₂ ◌||◌ (tag_says 0 m h ∙ absent_tag (entry m) ∙ ap is_absent (sym (said_item is m)))
+        ap₂ ◌||◌ (absent_held ts (entry m) (field_of s m) (w.fields m h) ∙ ap is_absent (sym (said_item is m)))
         (ap₂ ◌||◌ (functions_are m h) (plain_are m h)))
         ∙ known_items (λ m. is_function p m || is_plain p m) is w.readable
 
@@ -72,17 +67,17 @@ module _ (p : Problem) (a : Accepted p) (ts : List ℕ) (is : List Item) (s : Sa
     unfolding kinds_at
     kinds_means =
         ap₂ ◌&&◌
-        (set_tests o.functions (applied (patterns p)) proper.small_applied functions_are (has_tag s 9)
+        (set_tests o.functions (applied (patterns p)) proper.small_applied functions_are (λ m. says_body (field_of s m))
         (λ f. is_body_entry (places_of p f) (said is f))
         (λ f i.
         let h : f < metavariable_count = proper.small_applied f i in
-        tag_says 9 f h ∙ body_tag ts (at s.nodes f) (entry f) (w.nodes f h)
+        body_held ts (entry f) (field_of s f) (w.fields f h)
         ∙ ap₂ is_body_entry (sym (one_place p a.within f i)) (sym (said_item is f))))
-        (set_tests o.plain (plain (patterns p)) proper.small_plain plain_are (λ m. has_tag s 8 m || has_tag s 11 m)
+        (set_tests o.plain (plain (patterns p)) proper.small_plain plain_are (λ m. says_value (field_of s m) || says_open (field_of s m))
         (λ m. is_value_entry (said is m))
         (λ m i.
         let h : m < metavariable_count = proper.small_plain m i in
-        ap₂ ◌||◌ (tag_says 8 m h) (tag_says 11 m h) ∙ value_tag ts (at s.nodes m) (entry m) (w.nodes m h)
+        value_held ts (entry m) (field_of s m) (w.fields m h)
         ∙ ap is_value_entry (sym (said_item is m))))
 
   -- The functions whose body has a hole
@@ -90,8 +85,7 @@ module _ (p : Problem) (a : Accepted p) (ts : List ℕ) (is : List Item) (s : Sa
     pub holed_means : (f : ℕ) → f < metavariable_count → has holed f ≡ has_hole 0 (one (body_or f (said is f)))
     unfolding SetOf
     holed_means f h =
-        is-holed f h ∙ ap (λ (b : Bool). b && any_hole (part ts (at s.nodes f))) (tag_says 9 f h)
-        ∙ entry_holed ts (at s.nodes f) f (entry f) (w.nodes f h)
+        is-holed f h ∙ entry_holed ts f (entry f) (field_of s f) (w.fields f h)
         ∙ ap (λ (e : Entry Term). has_hole 0 (one (body_or f e))) (sym (said_item is f))
 
     -- The metavariables that need a value
@@ -110,9 +104,9 @@ module _ (p : Problem) (a : Accepted p) (ts : List ℕ) (is : List Item) (s : Sa
       pub open_unneeded_means : open_unneeded_at s needed ≡ open_unneeded p (said is)
       unfolding open_unneeded_at
       open_unneeded_means =
-          every_same (λ m. not (has_tag s 11 m && has needed m)) (λ m. not (has needed m) || not (has_tag s 11 m)) (up_to metavariable_count)
-          (λ m i. not_and (has_tag s 11 m) (has needed m))
-          ∙ set_tests needed listed small needed_listed (λ m. not (has_tag s 11 m)) (λ m. not (is_open (said is m)))
+          every_same (λ m. not (says_open (field_of s m) && has needed m)) (λ m. not (has needed m) || not (says_open (field_of s m))) (up_to metavariable_count)
+          (λ m i. not_and (says_open (field_of s m)) (has needed m))
+          ∙ set_tests needed listed small needed_listed (λ m. not (says_open (field_of s m))) (λ m. not (is_open (said is m)))
           (λ m i. ap not (open_says m (small m i)))
           ∙ needing_every (said is) (λ m. is_open (said is m)) (standings (patterns p))
         where
@@ -130,6 +124,6 @@ module _ (p : Problem) (a : Accepted p) (ts : List ℕ) (is : List Item) (s : Sa
           → unneeded_open_at s o.plain needed ≡ unneeded_open p (said is)
       unfolding unneeded_open_at
       unneeded_open_means o v =
-          set_tests o.plain (plain (patterns p)) proper.small_plain (plain_are o v) (λ m. has_tag s 11 m || has needed m)
+          set_tests o.plain (plain (patterns p)) proper.small_plain (plain_are o v) (λ m. says_open (field_of s m) || has needed m)
           (λ m. is_open (said is m) || is_needed (said is) (standings (patterns p)) m)
           (λ m i. let h : m < metavariable_count = proper.small_plain m i in ap₂ ◌||◌ (open_says m h) (needed_means m h))

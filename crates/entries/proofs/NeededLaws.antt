@@ -15,9 +15,9 @@ use Rattle.meaning.specs.Basics.{choose, is_in}
 use Rattle.meaning.proofs.Lists.{choose_true, choose_false}
 use Rattle.tokens.specs.Token.{tag_in, size_in, payload_in}
 use Rattle.tokens.specs.Key.{at}
-use Rattle.metavariables.specs.Survey.{has}
+use Rattle.metavariables.specs.Survey.{has, Joined}
 use Rattle.metavariables.proofs.BitLaws.{has_none}
-use Rattle.entries.specs.Sets.{SetOf, Joined}
+use Rattle.entries.specs.Sets.{SetOf}
 use Rattle.entries.specs.Needed.{holeless, needed_from, needed_at}
 
 -- A token that is passed, by its tag and number as the code has them

@@ -1,13 +1,13 @@
--- Laws of the sets of metavariables: one number more, sets in sets, and the sets that a loop gathers.
+-- Laws of the sets of metavariables: sets in sets, and the sets that a loop gathers.
 --   Gathered   s is the set of the metavariables below i that pass a test
 use mathlib.Core.Path.{◌≡◌, refl, ap, ap₂, sym, ◌∙◌}
-use Prim.Native.Nat.{ℕ, suc, ◌+◌, ◌*◌, ◌-◌, ◌%◌, ◌^◌, ◌<◌, ◌≤◌}
-use mathlib.Core.Bool.{Bool, true, false, ◌&&◌, ◌||◌, not, false≢true, true≢false}
+use Prim.Native.Nat.{ℕ, suc, ◌+◌, ◌-◌, ◌^◌, ◌<◌, ◌≤◌}
+use mathlib.Core.Bool.{Bool, true, false, ◌&&◌, ◌||◌, not}
 use native.Mathlib.Nat.{div-eq_of_lt}
 use native.Mathlib.Omega.{arith}
 use lib.Dec.{eqb, ltb}
 use lib.Pow.{pow_mono}
-use lib.Bits.{bit_and, bit_or}
+use lib.Bits.{bit_and}
 use borrow.Author.Tests.{eq-eqb, eqb-true, eqb-false, lt-ltb, le-ltb}
 use Rattle.meaning.specs.Limits.{metavariable_count}
 use Rattle.meaning.specs.Basics.{every, up_to}
@@ -16,30 +16,10 @@ use Rattle.masks.specs.Mask.{odd, marks, In, Sub}
 use Rattle.masks.proofs.Cases.{by_order, same_truth}
 use Rattle.masks.proofs.Marks.{marks_at}
 use Rattle.masks.proofs.Nodes.{in_width, nodes_sub}
-use Rattle.metavariables.specs.Survey.{has, Added}
+use Rattle.metavariables.specs.Survey.{has, Joined}
 use Rattle.metavariables.proofs.BitLaws.{has_and, has_none}
-use Rattle.metavariables.proofs.SurveyLaws.{added_in, added_out}
-use Rattle.entries.specs.Sets.{SetOf, Joined, within}
+use Rattle.entries.specs.Sets.{SetOf, within}
 use Rattle.entries.proofs.TestLaws.{every_at, at_every, implied}
-
--- One number more
-module _ (s m : ℕ) where
-  pub joined_no : (test : Bool) → not test ≡ true → Joined s test m s
-  unfolding Joined
-  joined_no true e k l = absurd (false≢true e)
-  joined_no false e k l = refl
-
-  joined_added : (test : Bool) (r : ℕ) → not test ≡ false → Added s m r → Joined s test m r
-  unfolding Joined Added
-  joined_added true r e a k l = a k l
-  joined_added false r e a k l = absurd (true≢false e)
-
-  module _ (test : Bool) (e : not test ≡ false) where
-    pub joined_in : m < 32 → Joined s test m (bit_or s ((1 * 2 ^ m) % 2 ^ 32))
-    joined_in h = joined_added test _ e (added_in s m h)
-
-    pub joined_out : 32 ≤ m → Joined s test m s
-    joined_out h = joined_added test s e (added_out s m h)
 
 -- No number past the last metavariable is in a set
 pub holds_none : (s m : ℕ) → s < 2 ^ 32 → 32 ≤ m → false ≡ has s m

@@ -2,47 +2,26 @@
 // of its own, so that one can say which of them fails. That their answers are document 01's is proofs/Meaning.
 #![tactic(auto)]
 
-ghost use Rattle.std.specs.Prelude.{◌≡◌, ◌<◌};
+ghost use Rattle.std.specs.Prelude.{◌≡◌, ◌<◌, ℕ, Bool, ◌||◌};
+ghost use Rattle.meaning.specs.Limits.{metavariable_count};
 ghost use Rattle.metavariables.specs.Survey.{has};
 ghost use Rattle.tokens.specs.Token.{Table};
 ghost use Rattle.tokens.specs.Key.{Inside, part};
-ghost use Rattle.entries.specs.Sets.{SetOf, Joined, within};
-ghost use Rattle.entries.specs.Fields.{has_tag, known_at, kinds_at, open_unneeded_at, unneeded_open_at};
-ghost use Rattle.entries.specs.Holes.{any_hole, holed_at, Bodied};
+ghost use Rattle.said.specs.Said.{field_of};
+ghost use Rattle.entries.specs.Sets.{SetOf, within};
+ghost use Rattle.entries.specs.Fields.{unsaid, says_value, says_body, says_open, known_at, kinds_at, open_unneeded_at, unneeded_open_at};
+ghost use Rattle.entries.specs.Holes.{any_hole, BodyIn, field_holed, holed_at, Bodied};
 ghost use Rattle.entries.specs.Needed.{holeless, needed_at};
 
-use metavariables::{METAVARIABLES, Occurring, in_set};
-use said::Said;
+use metavariables::{METAVARIABLES, Occurring, in_set, joined};
+use said::{Field, Said};
 use tokens::token::{payload, size, tag};
-
-// The tags of fields, "8 (value ..), 9 (body ..), 11 (open ..)", and what stands for no field.
-const NONE: u8 = 0;
-
-const VALUE: u8 = 8;
-
-const BODY: u8 = 9;
-
-const OPEN: u8 = 11;
 
 // "10 (hole ..)"
 const HOLE: u64 = 10;
 
 // The set of all metavariables.
-const ALL: u32 = 4294967295;
-
-// The set with m as well, where the test is yes; a number that no metavariable has adds nothing.
-fn joined(set: u32, test: bool, m: u64) -> u32
-    ensures { Joined set test m result }
-{
-    if !test {
-        return set;
-    }
-    if m < METAVARIABLES as u64 {
-        set | (1u32 << m)
-    } else {
-        set
-    }
-}
+const ALL: u32 = u32::MAX;
 
 // Whether each metavariable of one set is in another.
 fn within(inner: u32, outer: u32) -> bool
@@ -55,23 +34,42 @@ fn within(inner: u32, outer: u32) -> bool
 fn holds(set: u32, m: u64) -> bool
     ensures { result ≡ has set m }
 {
-    if m < METAVARIABLES as u64 {
-        in_set(set, m as u32)
-    } else {
-        false
-    }
+    m < u64::from(METAVARIABLES) && in_set(set, m as u32)
 }
 
-// The metavariables whose field has this tag.
-fn having(said: Said, kind: u8) -> u32
-    ensures { SetOf (has_tag said kind) result }
+// Tests of a metavariable's field: there is none, or it says what the test's name says.
+fn unsaid(field: Option<Field>) -> bool
+    ensures { result ≡ unsaid field }
 {
-    let tags = said.tags;
+    field.is_none()
+}
+
+fn says_body(field: Option<Field>) -> bool
+    ensures { result ≡ says_body field }
+{
+    matches!(field, Some(Field::Body(_)))
+}
+
+fn says_value_or_open(field: Option<Field>) -> bool
+    ensures { result ≡ says_value field || says_open field }
+{
+    matches!(field, Some(Field::Value(_) | Field::Open))
+}
+
+fn says_open(field: Option<Field>) -> bool
+    ensures { result ≡ says_open field }
+{
+    matches!(field, Some(Field::Open))
+}
+
+// The metavariables whose field passes a test: where its answers are those of a test q of the metavariables, the set of those that pass q.
+fn having<F: Fn(Option<Field>) -> bool>(said: Said, test: F) -> u32
+    requires { (m : ℕ) → m < metavariable_count → F.pre test (field_of said m) }
+    ensures { (q : ℕ → Bool) → ((m : ℕ) (yes : Bool) → m < metavariable_count → F.post test (field_of said m) yes → yes ≡ q m) → SetOf q result }
+{
     let mut set = 0u32;
-    let mut m = 0u32;
-    while m < METAVARIABLES {
-        set = joined(set, tags[m as usize] == kind, m as u64);
-        m += 1;
+    for (m, field) in said.fields.iter().enumerate() {
+        set = joined(set, test(*field), m as u64);
     }
     set
 }
@@ -82,7 +80,7 @@ pub fn known(said: Said, occurring: Occurring) -> bool
 {
     within(
         ALL,
-        having(said, NONE) | (occurring.functions | occurring.plain),
+        having(said, unsaid) | (occurring.functions | occurring.plain),
     )
 }
 
@@ -90,10 +88,15 @@ pub fn known(said: Said, occurring: Occurring) -> bool
 pub fn kinds(said: Said, occurring: Occurring) -> bool
     ensures { result ≡ kinds_at said occurring }
 {
-    if !within(occurring.functions, having(said, BODY)) {
-        return false;
-    }
-    within(occurring.plain, having(said, VALUE) | having(said, OPEN))
+    within(occurring.functions, having(said, says_body))
+        && within(occurring.plain, having(said, says_value_or_open))
+}
+
+// Whether some node of a list is a hole.
+fn any_hole(nodes: &[u64]) -> bool
+    ensures { result ≡ any_hole nodes.now }
+{
+    nodes.iter().any(|x| tag(*x) == HOLE)
 }
 
 // Whether some node of the subterm at a node is a hole.
@@ -102,28 +105,18 @@ fn has_hole(ts: &[u64], node: usize) -> bool
     ensures { result ≡ any_hole (part ts.now node) }
 {
     let end = node + size(ts[node]) as usize;
-    let mut i = node;
-    while i < end {
-        if tag(ts[i]) == HOLE {
-            return true;
-        }
-        i += 1;
-    }
-    false
+    any_hole(&ts[node..end])
 }
 
-// Whether m has a body with a hole.
-fn body_holed(ts: &[u64], said: Said, m: u32) -> bool
-    requires { Bodied ts.now said × (m < 32) }
-    ensures { result ≡ holed_at ts.now said m }
+// Whether a field is a body with a hole.
+fn body_holed(ts: &[u64], field: Option<Field>) -> bool
+    requires { BodyIn ts.now field }
+    ensures { result ≡ field_holed ts.now field }
 {
-    let i = m as usize;
-    let tags = said.tags;
-    if tags[i] != BODY {
-        return false;
+    match field {
+        Some(Field::Body(node)) => has_hole(ts, node),
+        _ => false,
     }
-    let nodes = said.nodes;
-    has_hole(ts, nodes[i])
 }
 
 // The functions whose body has a hole.
@@ -131,13 +124,7 @@ pub fn holed(ts: &[u64], said: Said) -> u32
     requires { Bodied ts.now said }
     ensures { SetOf (holed_at ts.now said) result }
 {
-    let mut set = 0u32;
-    let mut m = 0u32;
-    while m < METAVARIABLES {
-        set = joined(set, body_holed(ts, said, m), m as u64);
-        m += 1;
-    }
-    set
+    having(said, |field| body_holed(ts, field))
 }
 
 // Whether a token is the application of a function whose body has no hole, so that nothing in its argument needs a value.
@@ -154,6 +141,7 @@ pub fn needed(ps: &[u64], holed: u32) -> u32
 {
     let mut set = 0u32;
     let mut i = 0;
+    // A `while`: a step may be a whole subterm.
     while i < ps.len() {
         let x = ps[i];
         if holeless(holed, x) {
@@ -170,12 +158,12 @@ pub fn needed(ps: &[u64], holed: u32) -> u32
 pub fn open_unneeded(said: Said, needed: u32) -> bool
     ensures { result ≡ open_unneeded_at said needed }
 {
-    having(said, OPEN) & needed == 0
+    having(said, says_open) & needed == 0
 }
 
 // Whether each metavariable that is no function and needs no value is open.
 pub fn unneeded_open(said: Said, plain: u32, needed: u32) -> bool
     ensures { result ≡ unneeded_open_at said plain needed }
 {
-    within(plain, having(said, OPEN) | needed)
+    within(plain, having(said, says_open) | needed)
 }

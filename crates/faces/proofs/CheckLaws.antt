@@ -11,9 +11,9 @@ use Rattle.meaning.specs.Limits.{metavariable_count, max_functions}
 use Rattle.meaning.specs.Basics.{choose, guard}
 use Rattle.meaning.proofs.Lists.{choose_true, choose_false}
 use Rattle.metavariables.specs.declared.Occurring.{Occurring}
-use Rattle.lockstep.specs.declared.Shapes.{Shapes}
-use Rattle.lockstep.specs.declared.Shapes.TheVariants as shapes
-use Rattle.faces.specs.declared.check.Checked.TheVariants as checked
+use Rattle.std.specs.Prelude.{Ok, Err, Some, None}
+use Rattle.std.specs.Prelude as std
+use Rattle.refusal.specs.declared.Refusal.TheVariants as refusals
 use Rattle.lockstep.specs.Span.{Walked}
 use Rattle.lockstep.proofs.Answers.{Found, found, disagreed}
 use Rattle.faces.specs.FlatWalk.{flat_walk}
@@ -28,7 +28,7 @@ module _ (ps : List ℕ) (s : Occurring) (v : Surveyed ps s) where
   large_set es ns = ap (λ (fs : List ℕ). any_large es (map (first_node ps ns) fs)) (functions_set ps s v)
 
   module _ (es old new : List ℕ) where
-    pub checked_many : 8 < count metavariable_count s.functions → CheckedBy ps es old new (checked.Refused 13)
+    pub checked_many : 8 < count metavariable_count s.functions → CheckedBy ps es old new (Err refusals.TooManyFunctions)
     unfolding verdict max_functions
     checked_many h =
         record {
@@ -41,7 +41,7 @@ module _ (ps : List ℕ) (s : Occurring) (v : Surveyed ps s) where
       unfolding verdict max_functions
       after_faces = choose_false _ _ (le-ltb 8 (length (functions_in ps)) (omega (arith, count_set ps s v)))
 
-      no_faces_lem : faces_in ps es ≡ none → CheckedBy ps es old new checked.NoRows
+      no_faces_lem : faces_in ps es ≡ none → CheckedBy ps es old new (Ok None)
       no_faces_lem e =
           record {
             answer = sym (after_faces ∙ ap (after_walk ps es) e);
@@ -49,7 +49,7 @@ module _ (ps : List ℕ) (s : Occurring) (v : Surveyed ps s) where
           }
 
       -- T-09
-      pub checked_both : meets metavariable_count s.functions s.plain ≡ true → CheckedBy ps es old new checked.NoRows
+      pub checked_both : meets metavariable_count s.functions s.plain ≡ true → CheckedBy ps es old new (Ok None)
       unfolding faces_in
       checked_both e = no_faces_lem (ap (λ (b : Bool). guard (not b) (flat_walk ps es)) (sym (both_set ps s v) ∙ e))
 
@@ -58,21 +58,21 @@ module _ (ps : List ℕ) (s : Occurring) (v : Surveyed ps s) where
         unfolding faces_in
         faces_walked = ap (λ (b : Bool). guard (not b) (flat_walk ps es)) (sym (both_set ps s v) ∙ apart)
 
-        pub checked_none : (q : Shapes) → Walked (flat_walk ps es) old new q → q ≡ shapes.Disagree → CheckedBy ps es old new checked.NoRows
+        pub checked_none : (q : std.Option ℕ) → Walked (flat_walk ps es) old new q → q ≡ None → CheckedBy ps es old new (Ok None)
         checked_none q w e = no_faces_lem (faces_walked ∙ disagreed (flat_walk ps es) old new q w e)
 
-        module _ (q : Shapes) (w : Walked (flat_walk ps es) old new q) (n : ℕ) (e : q ≡ shapes.Faces n) where
+        module _ (q : std.Option ℕ) (w : Walked (flat_walk ps es) old new q) (n : ℕ) (e : q ≡ Some n) where
           decided : (b : Bool) → b ≡ any_large es (firsts_of ps (take n new) s.functions)
-              → verdict ps es ≡ choose b (checked.Refused 14) (checked.Faces n)
+              → verdict ps es ≡ choose b (Err refusals.FaceTooLarge) (Ok (Some n))
           decided b t =
               let f : Found (flat_walk ps es) new n = found (flat_walk ps es) old new q w n e in
               let big : large_in ps es f.faces ≡ b =
               sym (t ∙ ap (λ (ns : List ℕ). any_large es (firsts_of ps ns s.functions)) f.front ∙ large_set es f.faces) in
               after_faces ∙ ap (after_walk ps es) (faces_walked ∙ f.walked)
-              ∙ ap₂ (λ (c : Bool) (m : ℕ). choose c (checked.Refused 14) (checked.Faces m)) big f.long
+              ∙ ap₂ (λ (c : Bool) (m : ℕ). choose c (Err refusals.FaceTooLarge) (Ok (Some m))) big f.long
 
           pub checked_large : (b : Bool) → b ≡ any_large es (firsts_of ps (take n new) s.functions) → b ≡ true
-              → CheckedBy ps es old new (checked.Refused 14)
+              → CheckedBy ps es old new (Err refusals.FaceTooLarge)
           checked_large b t y =
               record {
                 answer = sym (decided b t ∙ choose_true _ _ y);
@@ -80,6 +80,6 @@ module _ (ps : List ℕ) (s : Occurring) (v : Surveyed ps s) where
               }
 
           pub checked_faces : (b : Bool) → b ≡ any_large es (firsts_of ps (take n new) s.functions) → b ≡ false
-              → CheckedBy ps es old new (checked.Faces n)
+              → CheckedBy ps es old new (Ok (Some n))
           checked_faces b t y =
               record { answer = sym (decided b t ∙ choose_false _ _ y); recorded = λ ns h z. w.recorded ns (sym faces_walked ∙ h) }

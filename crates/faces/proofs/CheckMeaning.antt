@@ -21,13 +21,13 @@ use Rattle.meaning.specs.Readable.{WithinLimits}
 use Rattle.meaning.proofs.Lists.{by_test, choose_true, choose_false}
 use Rattle.meaning.proofs.PlaceLaws.{not_large}
 use Rattle.tokens.specs.Token.{pattern_tokens, expression_tokens}
-use Rattle.faces.specs.declared.check.Checked.{Checked}
-use Rattle.faces.specs.declared.check.Checked.TheVariants as checked
+use Rattle.std.specs.Prelude.{Ok, Err, Some, None}
+use Rattle.refusal.specs.declared.Refusal.TheVariants as refusals
 use Rattle.faces.specs.FlatWalk.{flat_walk}
 use Rattle.lockstep.specs.Recorded.{Both}
 use Rattle.faces.specs.Recorded.{Means, Recorded}
 use Rattle.faces.specs.First.{first_node, any_large}
-use Rattle.faces.specs.Check.{large_in, faces_in, after_walk, verdict, CheckedBy}
+use Rattle.faces.specs.Check.{Checked, large_in, faces_in, after_walk, verdict, CheckedBy}
 use Rattle.faces.specs.Verdict.{answer_of, Told, Says}
 use Rattle.metavariables.proofs.SurveyMeaning.{functions_in_lem, both_in_lem}
 use Rattle.faces.proofs.WalkMeaning.{walk_means}
@@ -74,12 +74,12 @@ module _ (p : Problem) (w : WithinLimits p) where
 
   module _ (old new : List ℕ) (r : Checked) (c : CheckedBy (pattern_tokens p) (expression_tokens p) old new r) where
     -- The verdict, with the tests of `meaning`
-    decided : r ≡ choose (ltb max_functions (length (functions p))) (checked.Refused 13)
+    decided : r ≡ choose (ltb max_functions (length (functions p))) (Err refusals.TooManyFunctions)
         (after_walk (pattern_tokens p) (expression_tokens p) (faces_in (pattern_tokens p) (expression_tokens p)))
     unfolding verdict
     decided =
         c.answer
-        ∙ ap (λ (fs : List ℕ). choose (ltb max_functions (length fs)) (checked.Refused 13)
+        ∙ ap (λ (fs : List ℕ). choose (ltb max_functions (length fs)) (Err refusals.TooManyFunctions)
         (after_walk (pattern_tokens p) (expression_tokens p)
         (faces_in (pattern_tokens p) (expression_tokens p)))) (functions_in_lem p w)
 
@@ -90,7 +90,7 @@ module _ (p : Problem) (w : WithinLimits p) where
 
       told : (ns : List ℕ) (xs : List Face) → faces_in (pattern_tokens p) (expression_tokens p) ≡ some ns → faces p ≡ some xs
           → Recorded p ns xs
-          → overlarge max_face_nodes p ≡ false → r ≡ checked.Faces (length ns) → Told p new (length ns)
+          → overlarge max_face_nodes p ≡ false → r ≡ Ok (Some (length ns)) → Told p new (length ns)
       told ns xs e a q small y =
           let front : take (length ns) new ≡ ns = ap (take (length ns)) (c.recorded ns e y)
           ∙ take_at ns (drop (length ns) old) (length ns) refl in
@@ -115,15 +115,15 @@ module _ (p : Problem) (w : WithinLimits p) where
       walked (some ns) none e a q = absurd q
       walked (some ns) (some xs) e a q = by_test (overlarge max_face_nodes p) over under
         where
-          answer : r ≡ choose (overlarge max_face_nodes p) (checked.Refused 14) (checked.Faces (length ns))
-          answer = after (some ns) e ∙ ap (λ (b : Bool). choose b (checked.Refused 14) (checked.Faces (length ns))) (large_in_lem ns xs q a)
+          answer : r ≡ choose (overlarge max_face_nodes p) (Err refusals.FaceTooLarge) (Ok (Some (length ns)))
+          answer = after (some ns) e ∙ ap (λ (b : Bool). choose b (Err refusals.FaceTooLarge) (Ok (Some (length ns)))) (large_in_lem ns xs q a)
 
           over : overlarge max_face_nodes p ≡ true → Says p new r
           over y = subst (Says p new) (sym (answer ∙ choose_true _ _ y)) (refused_14 few y)
 
           under : overlarge max_face_nodes p ≡ false → Says p new r
           under y =
-              let z : r ≡ checked.Faces (length ns) = answer ∙ choose_false _ _ y in
+              let z : r ≡ Ok (Some (length ns)) = answer ∙ choose_false _ _ y in
               subst (Says p new) (sym z) (told ns xs e a q y z)
 
     -- THE THEOREM: the code's answer is `meaning`'s, and with faces they are recorded
@@ -138,14 +138,14 @@ module _ (p : Problem) (w : WithinLimits p) where
     check_answer_lem = go r check_means
       where
         go : (q : Checked) → Says p new q → check_problem max_face_nodes p ≡ answer_of p q
-        go (checked.Refused k) h = h
-        go checked.NoRows h = h.0
-        go (checked.Faces n) h = h.passes
+        go (Err k) h = h
+        go (Ok None) h = h.0
+        go (Ok (Some n)) h = h.passes
 
-    pub no_rows : (r ≡ checked.NoRows) ↔ ((check_problem max_face_nodes p ≡ got p) × (faces p ≡ none))
+    pub no_rows : (r ≡ Ok None) ↔ ((check_problem max_face_nodes p ≡ got p) × (faces p ≡ none))
     no_rows = (λ e. subst (Says p new) e check_means, back r check_means)
       where
-        back : (q : Checked) → Says p new q → (check_problem max_face_nodes p ≡ got p) × (faces p ≡ none) → q ≡ checked.NoRows
-        back (checked.Refused k) h g = absurd (let a = g.0 in let z : ◌≡◌ {A = ℕ} 0 1 = cc in omega arith)
-        back checked.NoRows h g = refl
-        back (checked.Faces n) h g = absurd (let a = h.agree in let b = g.1 in let z : ◌≡◌ {A = ℕ} 0 1 = cc in omega arith)
+        back : (q : Checked) → Says p new q → (check_problem max_face_nodes p ≡ got p) × (faces p ≡ none) → q ≡ Ok None
+        back (Err k) h g = absurd (let a = g.0 in let z : ◌≡◌ {A = ℕ} 0 1 = cc in omega arith)
+        back (Ok None) h g = refl
+        back (Ok (Some n)) h g = absurd (let a = h.agree in let b = g.1 in let z : ◌≡◌ {A = ℕ} 0 1 = cc in omega arith)

@@ -1,15 +1,17 @@
 -- What the code of the first faces owes: the law of each return and of each turn of its loops.
-use mathlib.Core.Path.{◌≡◌, ap, sym, ◌∙◌}
-use mathlib.Core.Bool.{Bool, true, false, ◌&&◌, ◌||◌}
+use mathlib.Core.Path.{◌≡◌, refl, ap, sym, ◌∙◌}
+use mathlib.Core.Bool.{Bool, true, false, ◌&&◌}
 use mathlib.Core.List.{List, [], ◌∷◌, ◌++◌, map, append_assoc, append-nil}
-use mathlib.Core.Option.{some}
+use mathlib.Core.Option.{Option, none, some}
 use Prim.Native.Nat.{ℕ, suc, ◌+◌, ◌-◌, ◌/◌, ◌%◌, ◌<◌, ◌≤◌}
 use native.Mathlib.Numerals.{add-one}
 use native.Mathlib.Omega.{arith}
-use lib.ListN.{length, get_or, take, drop, set, length-set, length-append, length-map, drop_of_length-le, get_or-eq_default}
-use lib.Seq.{drop-cons, take-suc-set, length-take-le, get_or-take}
+use lib.ListN.{length, take, drop, length-append, length-map, drop_of_length-le, get_or-eq_default}
+use lib.Seq.{drop-cons, length-take-le}
 use lib.Dec.{eqb, ltb}
 use borrow.Author.Tests.{eq-eqb, ne_eqb, lt-ltb, le-ltb}
+use Rattle.std.specs.Prelude as std
+use Rattle.std.specs.Option.{unwrap_or}
 use Rattle.meaning.specs.Limits.{metavariable_count, max_face_nodes}
 use Rattle.meaning.specs.Basics.{choose, keep, count_from, up_to}
 use Rattle.meaning.proofs.Lists.{choose_true, choose_false}
@@ -18,8 +20,8 @@ use Rattle.tokens.specs.Key.{at}
 use Rattle.lockstep.specs.Walk.{expression_node}
 use Rattle.metavariables.specs.Survey.{has, count}
 use Rattle.faces.specs.declared.first.Firsts.{Firsts}
-use Rattle.faces.specs.First.{applies, first_in, absent, node_or, first_node, firsts_from, firsts_of, listed, FirstsFit, Pushed, Listing}
-use Rattle.faces.specs.First.{Listed, large, any_large}
+use Rattle.faces.specs.First.{applies, option_of, first_in, absent, node_or, first_node, firsts_from, firsts_of, listed, FirstsFit, Pushed, Listing}
+use Rattle.faces.specs.First.{Listed, large}
 
 -- One recorded face
 module _ (ps : List ℕ) (f n : ℕ) where
@@ -38,31 +40,30 @@ module _ (ps : List ℕ) (f n : ℕ) where
 
 -- The faces that are left, from place k on
 module _ (ps ns : List ℕ) (f k : ℕ) where
-  pub first_none : length ns ≤ k → absent ≡ first_node ps (drop k ns) f
-  unfolding first_node first_in
-  first_none h = sym (ap (λ (l : List ℕ). node_or (first_in ps f l)) (drop_of_length-le ns h))
+  pub first_none : length ns ≤ k → none ≡ first_in ps f (drop k ns)
+  unfolding first_in
+  first_none h = sym (ap (first_in ps f) (drop_of_length-le ns h))
 
   module _ (h : k < length ns) where
-    opened : first_node ps (drop k ns) f
-        ≡ node_or (choose (applies ps f (at ns k)) (some (expression_node (at ns k))) (first_in ps f (drop (suc k) ns)))
-    unfolding first_node first_in
-    opened = ap (λ (l : List ℕ). node_or (first_in ps f l)) (drop-cons ns k 0 h)
+    opened : first_in ps f (drop k ns)
+        ≡ choose (applies ps f (at ns k)) (some (expression_node (at ns k))) (first_in ps f (drop (suc k) ns))
+    unfolding first_in
+    opened = ap (first_in ps f) (drop-cons ns k 0 h)
 
-    pub first_found : applies ps f (at ns k) ≡ true → at ns k / 65536 ≡ first_node ps (drop k ns) f
-    first_found e = sym (opened ∙ ap node_or (choose_true _ _ e))
+    pub first_found : applies ps f (at ns k) ≡ true → some (at ns k / 65536) ≡ first_in ps f (drop k ns)
+    first_found e = sym (opened ∙ choose_true _ _ e)
 
-    pub first_next : applies ps f (at ns k) ≡ false → first_node ps (drop (k + 1) ns) f ≡ first_node ps (drop k ns) f
-    unfolding first_node
-    first_next e = ap (λ (m : ℕ). first_node ps (drop m ns) f) (add-one k) ∙ sym (opened ∙ ap node_or (choose_false _ _ e))
+    pub first_next : applies ps f (at ns k) ≡ false → first_in ps f (drop (k + 1) ns) ≡ first_in ps f (drop k ns)
+    first_next e = ap (λ (m : ℕ). first_in ps f (drop m ns)) (add-one k) ∙ sym (opened ∙ choose_false _ _ e)
 
--- One first face more
-pub pushed_list : (s : Firsts) (j : ℕ) → FirstsFit s → s.count < 8 → take (s.count + 1) (set s.nodes s.count j) ≡ listed s ++ (j ∷ [])
-pushed_list s j r h =
-    ap (λ (n : ℕ). take n (set s.nodes s.count j)) (add-one s.count)
-    ∙ take-suc-set s.nodes s.count j (omega (arith, r.array))
-
-pub pushed_long : (s : Firsts) (j : ℕ) → FirstsFit s → length (set s.nodes s.count j) ≡ 8
-pushed_long s j r = length-set s.nodes s.count j ∙ r.array
+-- The node looked up, as a number
+pub first_or_absent : (ps ns : List ℕ) (f : ℕ) (o : std.Option ℕ) → o ≡ option_of (first_in ps f ns) → unwrap_or o absent ≡ first_node ps ns f
+unfolding first_node
+first_or_absent ps ns f o e = ap (λ (q : std.Option ℕ). unwrap_or q absent) e ∙ by_cases (first_in ps f ns)
+  where
+    by_cases : (q : Option ℕ) → unwrap_or (option_of q) absent ≡ node_or q
+    by_cases none = refl
+    by_cases (some j) = refl
 
 -- The functions from m on
 module _ (ps ns : List ℕ) (s m : ℕ) (r : Firsts) (l : Listing ps ns s m r) (h : m < 32) where
@@ -140,28 +141,3 @@ module _ (es : List ℕ) (j : ℕ) where
   pub large_out : length es ≤ j → false ≡ large es j
   unfolding large
   large_out h = sym (ap (λ (b : Bool). b && ltb max_face_nodes (size_in (at es j))) (le-ltb j (length es) h))
-
-module _ (es nodes : List ℕ) (end k : ℕ) (fits : end ≤ length nodes) where
-  pub large_end : end ≤ k → false ≡ any_large es (drop k (take end nodes))
-  unfolding any_large
-  large_end h =
-      let a : length (take end nodes) ≡ end = length-take-le end nodes fits in
-      let b : length (take end nodes) ≤ k = omega arith in
-      sym (ap (any_large es) (drop_of_length-le (take end nodes) b))
-
-  module _ (h : k < end) where
-    opened_large : any_large es (drop k (take end nodes)) ≡ large es (get_or nodes k 0) || any_large es (drop (suc k) (take end nodes))
-    unfolding any_large
-    opened_large =
-        let a : length (take end nodes) ≡ end = length-take-le end nodes fits in
-        let b : k < length (take end nodes) = omega arith in
-        ap (any_large es) (drop-cons (take end nodes) k 0 b)
-        ∙ ap (λ (j : ℕ). large es j || any_large es (drop (suc k) (take end nodes))) (get_or-take end nodes k 0 h)
-
-    pub large_here : large es (get_or nodes k 0) ≡ true → true ≡ any_large es (drop k (take end nodes))
-    large_here e = sym (opened_large ∙ ap (λ (b : Bool). b || any_large es (drop (suc k) (take end nodes))) e)
-
-    pub large_next : large es (get_or nodes k 0) ≡ false → any_large es (drop (k + 1) (take end nodes)) ≡ any_large es (drop k (take end nodes))
-    large_next e =
-        ap (λ (n : ℕ). any_large es (drop n (take end nodes))) (add-one k)
-        ∙ sym (opened_large ∙ ap (λ (b : Bool). b || any_large es (drop (suc k) (take end nodes))) e)

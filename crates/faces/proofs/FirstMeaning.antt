@@ -83,7 +83,7 @@ module _ (p : Problem) (w : WithinLimits p) where
     pub large_means : (fs : List ℕ)
         → any_large (expression_tokens p) (map (first_node (pattern_tokens p) ns) fs)
         ≡ not (every (λ f. not (ltb max_face_nodes (size (one (face_term (first_face f xs) f))))) fs)
-    unfolding any_large first_node
+    unfolding first_node
     large_means [] = refl
     large_means (f ∷ fs) =
         ap₂ ◌||◌ (large_one f (first_in (pattern_tokens p) f ns) (first_face f xs) (first_means f ns xs r)) (large_means fs)

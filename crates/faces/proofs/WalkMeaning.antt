@@ -3,11 +3,9 @@ use mathlib.Core.Path.{◌≡◌, refl, ap, sym, ◌∙◌, subst}
 use mathlib.Core.Logic.{◌↔◌}
 use mathlib.Core.List.{List, [], ◌∷◌, append-nil}
 use mathlib.Core.Option.{Option, none, some}
-use Prim.Native.Nat.{ℕ, suc, ◌-◌}
+use Prim.Native.Nat.{ℕ, suc}
 use native.Mathlib.Omega.{arith}
 use native.Mathlib.Nat.{zero-add}
-use lib.ListN.{length, take}
-use lib.Seq.{take-length}
 use Rattle.meaning.specs.Limits.{max_depth}
 use Rattle.meaning.specs.Term.{trees, node_at, Terms}
 use Rattle.meaning.specs.Problem.{Problem, named_patterns, named_expressions, patterns, expressions}
@@ -23,18 +21,11 @@ use Rattle.tokens.specs.Key.{at}
 use Rattle.tokens.proofs.Codes.{view_from}
 use Rattle.tokens.proofs.ProblemTokens.{nodes_few, patterns_room, expressions_room}
 use Rattle.lockstep.specs.Walk.{at_slots}
-use Rattle.lockstep.specs.Span.{span_walk}
 use Rattle.lockstep.proofs.WalkTrees.{seen_walk, flat_trees}
 use Rattle.lockstep.proofs.SlotWalk.{seen_slots, tells_slots, Looks, Deep, seen_both, both_none, both_some}
 use Rattle.lockstep.proofs.TokenDepths.{tokens_deep}
 use Rattle.faces.specs.FlatWalk.{flat_walk}
 use Rattle.faces.specs.Recorded.{Recorded, Means}
-
--- The whole tables as a span
-pub whole_walk : (ps es : List ℕ) → span_walk ps es (record { from = 0; to = length ps; at = 0; d = 0; e = 0 }) ≡ flat_walk ps es
-whole_walk ps es =
-    let n : length ps - 0 ≡ length ps = omega arith in
-    ap (λ (qs : List ℕ). flat_walk qs es) (ap (λ (m : ℕ). take m ps) n ∙ take-length ps)
 
 -- There are as many patterns as expressions
 same_trees : (p : Problem) → trees (named_patterns p) ≡ trees (named_expressions p)

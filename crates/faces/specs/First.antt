@@ -3,7 +3,9 @@
 --   first_in    the expression's node that f faces first; none where no application of f was met
 --   absent     what stands for none: no table has a node of that number
 --   large      a node of the expression with more nodes than a face may have
-use Rattle.std.specs.Prelude.{◌≡◌, ℕ, ◌-◌, ◌≤◌, Bool, false, ◌&&◌, ◌||◌, List, [], ◌∷◌, ◌++◌, map, length, take, eqb, ltb}
+use Rattle.std.specs.Prelude.{◌≡◌, ℕ, ◌-◌, ◌≤◌, Bool, ◌&&◌, List, [], ◌∷◌, ◌++◌, map, length, take, eqb, ltb, Some, None}
+use Rattle.std.specs.Prelude as std
+use Rattle.std.specs.List.{list_any}
 use Rattle.std.proofs.Math.Option.{Option, none, some}
 use Rattle.meaning.specs.Limits.{metavariable_count, max_face_nodes}
 use Rattle.meaning.specs.Basics.{choose, keep, count_from, up_to}
@@ -19,6 +21,11 @@ applies ps f n = eqb (tag_in (at ps (pattern_node n))) 6 && eqb f (payload_in (a
 unfoldable pub first_in : List ℕ → ℕ → List ℕ → Option ℕ
 first_in ps f [] = none
 first_in ps f (n ∷ ns) = choose (applies ps f n) (some (expression_node n)) (first_in ps f ns)
+
+-- The same as the code's Option
+abbrev pub option_of : {A : Type 0} → Option A → std.Option A
+option_of none = None
+option_of (some x) = Some x
 
 abbrev pub absent : ℕ
 absent = 65536
@@ -61,6 +68,5 @@ pub record Listed (ps ns : List ℕ) (s : ℕ) (r : Firsts) : Type 0 where
 unfoldable pub large : List ℕ → ℕ → Bool
 large es j = ltb j (length es) && ltb max_face_nodes (size_in (at es j))
 
-unfoldable pub any_large : List ℕ → List ℕ → Bool
-any_large es [] = false
-any_large es (j ∷ js) = large es j || any_large es js
+abbrev pub any_large : List ℕ → List ℕ → Bool
+any_large es js = list_any (large es) js

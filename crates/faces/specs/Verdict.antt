@@ -1,7 +1,7 @@
 -- What the answers of this crate mean for a problem.
 --   FirstAt   the node j is that of the function f's first face, and the term there is its face
 --   Says      a refusal is document 01's; else the problem passes the checks, and its faces are as told
-use Rattle.std.specs.Prelude.{◌≡◌, ℕ, List, [], ◌∷◌, length, take}
+use Rattle.std.specs.Prelude.{◌≡◌, ℕ, List, [], ◌∷◌, length, take, Ok, Err, Some, None}
 use Rattle.std.proofs.Math.Option.{none, some}
 use Rattle.meaning.specs.Limits.{max_face_nodes}
 use Rattle.meaning.specs.Term.{node_at}
@@ -12,8 +12,8 @@ use Rattle.meaning.specs.Read.{Answer, refused, got}
 use Rattle.meaning.specs.Limits.{max_face_nodes}
 use Rattle.meaning.specs.Accept.{check_problem}
 use Rattle.faces.specs.Recorded.{Recorded}
-use Rattle.faces.specs.declared.check.Checked.{Checked}
-use Rattle.faces.specs.declared.check.Checked.TheVariants as checked
+use Rattle.refusal.specs.Number.{number}
+use Rattle.faces.specs.Check.{Checked}
 
 pub record FirstAt (p : Problem) (xs : List Face) (f j : ℕ) : Type 0 where
   pub face : Face
@@ -38,11 +38,10 @@ pub record Told (p : Problem) (new : List ℕ) (n : ℕ) : Type 0 where
 
 -- A refusal, or that the problem passes
 abbrev pub answer_of : Problem → Checked → Answer Problem
-answer_of p (checked.Refused k) = refused k
-answer_of p checked.NoRows = got p
-answer_of p (checked.Faces n) = got p
+answer_of p (Err r) = refused (number r)
+answer_of p (Ok o) = got p
 
 abbrev pub Says : Problem → List ℕ → Checked → Type 0
-Says p new (checked.Refused k) = check_problem max_face_nodes p ≡ refused k
-Says p new checked.NoRows = (check_problem max_face_nodes p ≡ got p) × (faces p ≡ none)
-Says p new (checked.Faces n) = Told p new n
+Says p new (Err r) = check_problem max_face_nodes p ≡ refused (number r)
+Says p new (Ok None) = (check_problem max_face_nodes p ≡ got p) × (faces p ≡ none)
+Says p new (Ok (Some n)) = Told p new n

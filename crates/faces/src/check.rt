@@ -8,17 +8,8 @@ ghost use Rattle.faces.specs.Check.{CheckedBy};
 
 use crate::first::{any_large, first_faces};
 use crate::walk::walk;
-use lockstep::Shapes;
 use metavariables::{MAX_FUNCTIONS, both_ways, function_count, survey};
-
-#[derive(Clone, Copy)]
-pub enum Checked {
-    Refused(u8),
-    // A letter is used both ways, or a shape disagrees: the problem is accepted and has no rows.
-    NoRows,
-    // The problem is accepted; how many faces were recorded.
-    Faces(usize),
-}
+use refusal::Refusal;
 
 // Whether the first face of some function is over the limit (14).
 fn over_limit(ps: &[u64], es: &[u64], faces: &[u64], functions: u32) -> bool
@@ -28,8 +19,9 @@ fn over_limit(ps: &[u64], es: &[u64], faces: &[u64], functions: u32) -> bool
     any_large(es, first_faces(ps, faces, functions))
 }
 
-// The tables of the patterns and of the expressions; the faces are recorded at the front of `out`.
-pub fn check(ps: &[u64], es: &[u64], out: &mut [u64]) -> Checked
+// The tables of the patterns and of the expressions; the faces are recorded at the front of `out`. How many, or None where the problem is
+// accepted and has no rows: a letter is used both ways, or a shape disagrees.
+pub fn check(ps: &[u64], es: &[u64], out: &mut [u64]) -> Result<Option<usize>, Refusal>
     requires patterns { Table ps.now }
     requires expressions { Table es.now }
     requires room { length ps.now ≤ length out.old }
@@ -38,18 +30,18 @@ pub fn check(ps: &[u64], es: &[u64], out: &mut [u64]) -> Checked
     let found = survey(ps);
     let functions = found.functions;
     if function_count(functions) > MAX_FUNCTIONS {
-        return Checked::Refused(13);
+        return Err(Refusal::TooManyFunctions);
     }
     if both_ways(functions, found.plain) {
-        return Checked::NoRows;
+        return Ok(None);
     }
     match walk(ps, es, out) {
-        Shapes::Disagree => Checked::NoRows,
-        Shapes::Faces(n) => {
+        None => Ok(None),
+        Some(n) => {
             if over_limit(ps, es, &out[..n], functions) {
-                Checked::Refused(14)
+                Err(Refusal::FaceTooLarge)
             } else {
-                Checked::Faces(n)
+                Ok(Some(n))
             }
         }
     }

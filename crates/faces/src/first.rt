@@ -2,7 +2,7 @@
 ghost use Rattle.std.specs.Prelude.{◌≡◌, ◌+◌, ◌<◌, ◌≤◌, length};
 ghost use Rattle.meaning.specs.Limits.{metavariable_count};
 ghost use Rattle.metavariables.specs.Survey.{count};
-ghost use Rattle.faces.specs.First.{applies, first_node, firsts_of, listed, FirstsFit, Pushed, Listing, Listed, large, any_large};
+ghost use Rattle.faces.specs.First.{applies, first_in, option_of, firsts_of, listed, FirstsFit, Pushed, Listing, Listed, large, any_large};
 
 use metavariables::{MAX_FUNCTIONS, METAVARIABLES, in_set};
 use tokens::token::{payload, size, tag};
@@ -10,11 +10,11 @@ use tokens::token::{payload, size, tag};
 // T-10: "A face may have 256"
 const MAX_FACE_NODES: u64 = masks::NodeSet::ROOM as u64;
 
-// No table has a node of this number.
+// No table has a node of this number. It is listed where a function has no face: a function of an accepted problem that has rows has one.
 const ABSENT: usize = 65536;
 
 // The expression's node of each function's first face, by ascending metavariable. An array by value: there are few, so that
-// no caller has to lend room for them, and entries past `count` are not used.
+// no caller has to lend room for them, and entries past `count` are not used. No `ArrayVec`, which is not `Copy`, as what holds these is.
 #[derive(Clone, Copy)]
 pub struct Firsts {
     pub nodes: [usize; MAX_FUNCTIONS],
@@ -33,19 +33,16 @@ fn applies(ps: &[u64], f: u64, n: u64) -> bool
     tag(x) == 6 && f == payload(x)
 }
 
-// The expression's node that f faces first, or ABSENT.
-pub fn first_face(ps: &[u64], faces: &[u64], f: u64) -> usize
-    ensures { result ≡ first_node ps.now faces.now f }
+// The expression's node that f faces first.
+pub fn first_face(ps: &[u64], faces: &[u64], f: u64) -> Option<usize>
+    ensures { result ≡ option_of (first_in ps.now f faces.now) }
 {
-    let mut k = 0;
-    while k < faces.len() {
-        let n = faces[k];
-        if applies(ps, f, n) {
-            return (n / 65536) as usize;
+    for n in faces {
+        if applies(ps, f, *n) {
+            return Some((*n / 65536) as usize);
         }
-        k += 1;
     }
-    ABSENT
+    None
 }
 
 // One node more.
@@ -66,7 +63,10 @@ fn looked_up(firsts: Firsts, ps: &[u64], faces: &[u64], functions: u32, m: u32) 
     ensures { Listing ps.now faces.now functions (m + 1) result }
 {
     if in_set(functions, m) {
-        pushed(firsts, first_face(ps, faces, m as u64))
+        pushed(
+            firsts,
+            first_face(ps, faces, u64::from(m)).unwrap_or(ABSENT),
+        )
     } else {
         firsts
     }
@@ -80,10 +80,8 @@ pub fn first_faces(ps: &[u64], faces: &[u64], functions: u32) -> Firsts
         nodes: [0usize; MAX_FUNCTIONS],
         count: 0,
     };
-    let mut m = 0u32;
-    while m < METAVARIABLES {
+    for m in 0..METAVARIABLES {
         firsts = looked_up(firsts, ps, faces, functions, m);
-        m += 1;
     }
     firsts
 }
@@ -91,11 +89,7 @@ pub fn first_faces(ps: &[u64], faces: &[u64], functions: u32) -> Firsts
 fn large(es: &[u64], node: usize) -> bool
     ensures { result ≡ large es.now node }
 {
-    if node < es.len() {
-        size(es[node]) > MAX_FACE_NODES
-    } else {
-        false
-    }
+    node < es.len() && size(es[node]) > MAX_FACE_NODES
 }
 
 // Whether a face has more nodes than it may (14).
@@ -103,14 +97,7 @@ pub fn any_large(es: &[u64], firsts: Firsts) -> bool
     requires { FirstsFit firsts }
     ensures { result ≡ any_large es.now (listed firsts) }
 {
-    let nodes = firsts.nodes;
-    let end = firsts.count;
-    let mut k = 0;
-    while k < end {
-        if large(es, nodes[k]) {
-            return true;
-        }
-        k += 1;
-    }
-    false
+    firsts.nodes[..firsts.count]
+        .iter()
+        .any(|node| large(es, *node))
 }

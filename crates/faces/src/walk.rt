@@ -4,10 +4,10 @@ ghost use Rattle.tokens.specs.Token.{Table};
 ghost use Rattle.lockstep.specs.Span.{Walked};
 ghost use Rattle.faces.specs.FlatWalk.{flat_walk};
 
-use lockstep::{Shapes, Span, walk_at};
+use lockstep::{Span, walk_at};
 
 // The faces of a problem's two tables are recorded at the front of `out`.
-pub fn walk(ps: &[u64], es: &[u64], out: &mut [u64]) -> Shapes
+pub fn walk(ps: &[u64], es: &[u64], out: &mut [u64]) -> Option<usize>
     requires patterns { Table ps.now }
     requires expressions { Table es.now }
     requires room { length ps.now ≤ length out.old }

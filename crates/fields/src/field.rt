@@ -3,6 +3,8 @@ ghost use Rattle.std.specs.Prelude.{◌≡◌, ◌+◌, ◌≤◌, length};
 ghost use Rattle.meaning.specs.Read.{kind_of, long_at, word_at};
 ghost use Rattle.fields.specs.Heads.{context_from, ruled_from, PartsDone, HeadDone};
 
+use refusal::Refusal;
+
 // Where a term stands, which decides what its tag may be.
 #[derive(Clone, Copy)]
 pub enum Context {
@@ -24,40 +26,32 @@ pub enum Kind {
     Hole,
 }
 
-#[derive(Clone, Copy)]
-pub enum Ruled {
-    Content(Kind),
-    Refused(u8),
-}
-
 // "Each tag has its own content rule, and tags 8 to 255 are refused"; 10 has its place in a text's body.
-pub fn rule_of(tag: u8, context: Context) -> Ruled
+#[tactic(auto, unfolding(meaning::specs::Read::kind_of, meaning::specs::Read::metavariable_in, meaning::specs::Read::function_in, meaning::specs::Read::hole_in))]
+pub fn rule_of(tag: u8, context: Context) -> Result<Kind, Refusal>
     ensures { ruled_from result ≡ kind_of (context_from context) tag }
 {
     match tag {
-        1 => Ruled::Content(Kind::Symbol),
-        2 => Ruled::Content(Kind::Variable),
-        3 => Ruled::Content(Kind::Application),
-        4 => Ruled::Content(Kind::Binder),
+        1 => Ok(Kind::Symbol),
+        2 => Ok(Kind::Variable),
+        3 => Ok(Kind::Application),
+        4 => Ok(Kind::Binder),
         5 => match context {
-            Context::Pattern => Ruled::Content(Kind::Metavariable),
-            Context::Argument => Ruled::Content(Kind::Metavariable),
-            Context::Expression => Ruled::Refused(8),
-            Context::Body => Ruled::Refused(8),
+            Context::Pattern | Context::Argument => Ok(Kind::Metavariable),
+            Context::Expression | Context::Body => Err(Refusal::PatternInExpression),
         },
         6 => match context {
-            Context::Pattern => Ruled::Content(Kind::Function),
-            Context::Argument => Ruled::Refused(9),
-            Context::Expression => Ruled::Refused(8),
-            Context::Body => Ruled::Refused(8),
+            Context::Pattern => Ok(Kind::Function),
+            Context::Argument => Err(Refusal::FunctionInArgument),
+            Context::Expression | Context::Body => Err(Refusal::PatternInExpression),
         },
         10 => match context {
-            Context::Pattern => Ruled::Refused(4),
-            Context::Argument => Ruled::Refused(4),
-            Context::Expression => Ruled::Refused(4),
-            Context::Body => Ruled::Content(Kind::Hole),
+            Context::Pattern | Context::Argument | Context::Expression => {
+                Err(Refusal::TagOutOfPlace)
+            }
+            Context::Body => Ok(Kind::Hole),
         },
-        0 | 7..=9 | 11..=255 => Ruled::Refused(4),
+        0 | 7..=9 | 11..=255 => Err(Refusal::TagOutOfPlace),
     }
 }
 
@@ -66,7 +60,7 @@ pub fn word(s: &[u8], at: usize) -> u16
     requires { at + 2 ≤ length s.now }
     ensures { result ≡ word_at s.now at }
 {
-    (s[at] as u16) * 256 + (s[at + 1] as u16)
+    u16::from_be_bytes([s[at], s[at + 1]])
 }
 
 // The number in four bytes, high byte first.
@@ -74,47 +68,48 @@ pub fn long(s: &[u8], at: usize) -> u32
     requires { at + 4 ≤ length s.now }
     ensures { result ≡ long_at s.now at }
 {
-    (word(s, at) as u32) * 65536 + (word(s, at + 2) as u32)
+    u32::from_be_bytes([s[at], s[at + 1], s[at + 2], s[at + 3]])
 }
 
 // A field's tag and the length of its content.
 #[derive(Clone, Copy)]
-pub enum Parts {
-    Field(u8, usize),
-    Refused(u8),
+pub struct Parts {
+    pub tag: u8,
+    pub length: usize,
 }
 
-pub fn parts_of(s: &[u8]) -> Parts
+#[tactic(auto, unfolding(meaning::specs::Read::parts_of))]
+pub fn parts_of(s: &[u8]) -> Result<Parts, Refusal>
     ensures { PartsDone s.now result }
 {
     if s.len() < 3 {
-        return Parts::Refused(2);
+        return Err(Refusal::HeadCutOff);
     }
-    let n = word(s, 1) as usize;
-    if s.len() - 3 < n {
-        return Parts::Refused(3);
+    let length = usize::from(word(s, 1));
+    if s.len() - 3 < length {
+        return Err(Refusal::LengthPastEnd);
     }
-    Parts::Field(s[0], n)
+    Ok(Parts { tag: s[0], length })
 }
 
 // The content rule of a term's field, and the length of its content.
 #[derive(Clone, Copy)]
-pub enum Head {
-    Field(Kind, usize),
-    Refused(u8),
+pub struct Head {
+    pub kind: Kind,
+    pub length: usize,
 }
 
-pub fn head_of(s: &[u8], context: Context) -> Head
+#[tactic(auto, unfolding(meaning::specs::Read::head_of))]
+pub fn head_of(s: &[u8], context: Context) -> Result<Head, Refusal>
     ensures { HeadDone (context_from context) s.now result }
 {
-    if s.len() == 0 {
-        return Head::Refused(7);
+    if s.is_empty() {
+        return Err(Refusal::InnerFields);
     }
-    match parts_of(s) {
-        Parts::Refused(r) => Head::Refused(r),
-        Parts::Field(tag, n) => match rule_of(tag, context) {
-            Ruled::Refused(r) => Head::Refused(r),
-            Ruled::Content(kind) => Head::Field(kind, n),
-        },
-    }
+    let parts = parts_of(s)?;
+    let kind = rule_of(parts.tag, context)?;
+    Ok(Head {
+        kind,
+        length: parts.length,
+    })
 }

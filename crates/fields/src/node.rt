@@ -1,12 +1,17 @@
 // What the fixed part of a content says of a node, before its inner fields are read.
-ghost use Rattle.std.specs.Prelude.{◌≡◌, ◌<◌};
+#![tactic(auto, using(meaning::proofs::ByteLaws::narrow_two, meaning::proofs::ByteLaws::wide_four), unfolding(meaning::specs::Read::content_of, meaning::specs::Limits::first_wide, meaning::specs::Limits::metavariable_count, crate::specs::Heads::content_with))]
+
+ghost use Rattle.std.specs.Prelude.{◌≡◌, ◌<◌, ◌≤◌, MatchResult};
+ghost use Rattle.meaning.specs.Limits.{metavariable_count};
+ghost use Rattle.refusal.specs.declared.Refusal.TheVariants.{MetavariableOver31};
 ghost use Rattle.meaning.specs.Field.{tag_of};
 ghost use Rattle.meaning.specs.Read.{symbol_kind, variable_kind, application_kind, binder_kind, metavariable_kind, function_kind, hole_kind};
 ghost use Rattle.fields.specs.Heads.{context_from, kind_from, label_of, fixed_of, due_of, ContentDone, OpenDone};
 
-use crate::field::{Context, Head, Kind, head_of, long, word};
+use crate::field::{Context, Kind, head_of, long, word};
 use crate::limit::{FIRST_WIDE, METAVARIABLES};
 use crate::number::{Binder, Metavariable, Symbol, Variable};
+use refusal::Refusal;
 
 #[derive(Clone, Copy)]
 pub enum Node {
@@ -19,7 +24,7 @@ pub enum Node {
     Hole,
 }
 
-// How many inner fields a node must have.
+// How many inner fields a node must have. An enum of its own and no `Option`, since neither is an absence.
 #[derive(Clone, Copy)]
 pub enum Due {
     // As many as fill the content.
@@ -51,8 +56,7 @@ impl Node {
             Node::Variable(_) => 2,
             Node::Application => 0,
             Node::Binder(_, _) => 4,
-            Node::Metavariable(_) => 1,
-            Node::Function(_) => 1,
+            Node::Metavariable(_) | Node::Function(_) => 1,
             Node::Hole => 0,
         }
     }
@@ -61,110 +65,105 @@ impl Node {
         ensures { result ≡ due_of self }
     {
         match self {
-            Node::Symbol(_) => Due::Exactly(0),
-            Node::Variable(_) => Due::Exactly(0),
             Node::Application => Due::All,
-            Node::Binder(_, _) => Due::Exactly(1),
-            Node::Metavariable(_) => Due::Exactly(0),
-            Node::Function(_) => Due::Exactly(1),
-            Node::Hole => Due::Exactly(0),
+            Node::Binder(_, _) | Node::Function(_) => Due::Exactly(1),
+            Node::Symbol(_) | Node::Variable(_) | Node::Metavariable(_) | Node::Hole => {
+                Due::Exactly(0)
+            }
         }
     }
 }
 
-#[derive(Clone, Copy)]
-pub enum Content {
-    Node(Node),
-    Refused(u8),
-}
-
 // The content rules, one for each tag: 6, then 25 or 10.
-fn symbol_in(c: &[u8]) -> Content
+fn symbol_in(c: &[u8]) -> Result<Node, Refusal>
     ensures { ContentDone symbol_kind c.now result }
 {
     if c.len() == 2 {
-        return Content::Node(Node::Symbol(Symbol(word(c, 0) as u32)));
+        return Ok(Node::Symbol(Symbol(u32::from(word(c, 0)))));
     }
     if c.len() != 4 {
-        return Content::Refused(6);
+        return Err(Refusal::FixedPart);
     }
     let n = long(c, 0);
     if n < FIRST_WIDE {
-        Content::Refused(25)
+        Err(Refusal::SymbolTooWide)
     } else {
-        Content::Node(Node::Symbol(Symbol(n)))
+        Ok(Node::Symbol(Symbol(n)))
     }
 }
 
-fn variable_in(c: &[u8]) -> Content
+fn variable_in(c: &[u8]) -> Result<Node, Refusal>
     ensures { ContentDone variable_kind c.now result }
 {
     if c.len() == 2 {
-        Content::Node(Node::Variable(Variable(word(c, 0))))
+        Ok(Node::Variable(Variable(word(c, 0))))
     } else {
-        Content::Refused(6)
+        Err(Refusal::FixedPart)
     }
 }
 
-fn application_in(c: &[u8]) -> Content
+fn application_in(c: &[u8]) -> Result<Node, Refusal>
     ensures { ContentDone application_kind c.now result }
 {
-    if c.len() == 0 {
-        Content::Refused(6)
+    if c.is_empty() {
+        Err(Refusal::FixedPart)
     } else {
-        Content::Node(Node::Application)
+        Ok(Node::Application)
     }
 }
 
-fn binder_in(c: &[u8]) -> Content
+fn binder_in(c: &[u8]) -> Result<Node, Refusal>
     ensures { ContentDone binder_kind c.now result }
 {
     if c.len() < 4 {
-        Content::Refused(6)
+        Err(Refusal::FixedPart)
     } else {
-        Content::Node(Node::Binder(Binder(word(c, 0)), Variable(word(c, 2))))
+        Ok(Node::Binder(Binder(word(c, 0)), Variable(word(c, 2))))
     }
 }
 
-fn metavariable_in(c: &[u8]) -> Content
+// "10 metavariable over 31".
+fn numbered(m: u8) -> Result<Metavariable, Refusal>
+    ensures { MatchResult result (λ x. (x.0 ≡ m) × (m < metavariable_count)) (λ r. (r ≡ MetavariableOver31) × (metavariable_count ≤ m)) }
+{
+    if m < METAVARIABLES {
+        Ok(Metavariable(m))
+    } else {
+        Err(Refusal::MetavariableOver31)
+    }
+}
+
+fn metavariable_in(c: &[u8]) -> Result<Node, Refusal>
     ensures { ContentDone metavariable_kind c.now result }
 {
-    if c.len() != 1 {
-        return Content::Refused(6);
-    }
-    let m = c[0];
-    if m < METAVARIABLES {
-        Content::Node(Node::Metavariable(Metavariable(m)))
+    if c.len() == 1 {
+        Ok(Node::Metavariable(numbered(c[0])?))
     } else {
-        Content::Refused(10)
+        Err(Refusal::FixedPart)
     }
 }
 
-fn function_in(c: &[u8]) -> Content
+fn function_in(c: &[u8]) -> Result<Node, Refusal>
     ensures { ContentDone (function_kind 1) c.now result }
 {
-    if c.len() == 0 {
-        return Content::Refused(6);
-    }
-    let m = c[0];
-    if m < METAVARIABLES {
-        Content::Node(Node::Function(Metavariable(m)))
+    if c.is_empty() {
+        Err(Refusal::FixedPart)
     } else {
-        Content::Refused(10)
+        Ok(Node::Function(numbered(c[0])?))
     }
 }
 
-fn hole_in(c: &[u8]) -> Content
+fn hole_in(c: &[u8]) -> Result<Node, Refusal>
     ensures { ContentDone (hole_kind 0) c.now result }
 {
-    if c.len() == 0 {
-        Content::Node(Node::Hole)
+    if c.is_empty() {
+        Ok(Node::Hole)
     } else {
-        Content::Refused(6)
+        Err(Refusal::FixedPart)
     }
 }
 
-fn content_of(kind: Kind, c: &[u8]) -> Content
+fn content_of(kind: Kind, c: &[u8]) -> Result<Node, Refusal>
     ensures { ContentDone (kind_from kind) c.now result }
 {
     match kind {
@@ -180,26 +179,21 @@ fn content_of(kind: Kind, c: &[u8]) -> Content
 
 // A term before its inner fields: its node, and where its field ends.
 #[derive(Clone, Copy)]
-pub enum Opened {
-    Node(Node, usize),
-    Refused(u8),
+pub struct Opened {
+    pub node: Node,
+    pub end: usize,
 }
 
 // The head, "5 depth over 32", the fixed part.
-pub fn open_term(s: &[u8], context: Context, levels: usize) -> Opened
+#[tactic(auto, using(crate::proofs::HeadLaws::open_refused, crate::proofs::HeadLaws::open_deep, crate::proofs::HeadLaws::open_broken, crate::proofs::HeadLaws::open_node_lem))]
+pub fn open_term(s: &[u8], context: Context, levels: usize) -> Result<Opened, Refusal>
     ensures { OpenDone levels (context_from context) s.now result }
 {
-    match head_of(s, context) {
-        Head::Refused(r) => Opened::Refused(r),
-        Head::Field(kind, n) => {
-            if levels == 0 {
-                return Opened::Refused(5);
-            }
-            let e = 3 + n;
-            match content_of(kind, &s[3..e]) {
-                Content::Refused(r) => Opened::Refused(r),
-                Content::Node(node) => Opened::Node(node, e),
-            }
-        }
+    let head = head_of(s, context)?;
+    if levels == 0 {
+        return Err(Refusal::TooDeep);
     }
+    let end = 3 + head.length;
+    let node = content_of(head.kind, &s[3..end])?;
+    Ok(Opened { node, end })
 }

@@ -9,11 +9,11 @@ pub struct Symbol(pub u32);
 
 impl Symbol {
     // The bytes that the number has: two, or four where two cannot say it.
+    #[tactic(auto, using(meaning::proofs::ByteLaws::narrow_two, meaning::proofs::ByteLaws::wide_four), unfolding(meaning::specs::Limits::first_wide))]
     pub fn width(self) -> usize
         ensures { result ≡ length (symbol_bytes self.0) }
     {
-        let n = self.0;
-        if n < FIRST_WIDE { 2 } else { 4 }
+        if self.0 < FIRST_WIDE { 2 } else { 4 }
     }
 }
 

@@ -1,7 +1,8 @@
 -- An application against what it faces: its function's body, with the filled argument in each hole, is that exactly when the body's walk is
 -- defined and across each hole stands the argument, filled and moved past the binders of the body above the hole.
-use mathlib.Core.Path.{◌≡◌, refl, ap, ap₂, sym, ◌∙◌, subst}
+use mathlib.Core.Path.{◌≡◌, refl, ap, sym, ◌∙◌, subst}
 use mathlib.Core.List.{List, [], ◌∷◌}
+use mathlib.Core.Bool.{false}
 use mathlib.Core.Option.{some}
 use Prim.Native.Nat.{ℕ, zero, suc, ◌+◌, ◌<◌}
 use native.Mathlib.Omega.{arith}
@@ -33,18 +34,23 @@ use Rattle.tokens.specs.Key.{at, Inside}
 use Rattle.demands.proofs.Holding.{filled_arguments}
 use Rattle.demands.proofs.SlotKinds.{IsHoleOf, body_face}
 use Rattle.demands.proofs.Suiting.{Gets}
-use Rattle.lockstep.specs.Walk.{pattern_node}
+use Rattle.lockstep.specs.Walk.{pattern_node, expression_node}
 use Rattle.lockstep.specs.Recorded.{Records, RecordedBy, Both}
 use Rattle.lockstep.proofs.SlotWalk.{Deep}
 use Rattle.faces.proofs.NodeTokens.{AtNode, node_inside, node_payload, pattern_node_lem}
 use Rattle.bodies.proofs.HoleTests.{Spotted}
 use Rattle.sources.proofs.RecordedDemands.{slot_fits}
-use Rattle.said.specs.Said.{item_of, entry_tag, TermAt, EntryAt, SaidBy}
+use Rattle.std.specs.Prelude.{Some, None}
+use Rattle.std.specs.Prelude as std
+use Rattle.meaning.proofs.Lists.{never}
+use Rattle.said.specs.declared.Field.{Field}
+use Rattle.said.specs.declared.Field.TheVariants.{Value, Body, Open}
+use Rattle.said.specs.Said.{item_of, field_of, TermAt, HeldAs, SaidBy}
 use Rattle.said.specs.declared.Said.{Said}
 use Rattle.said.proofs.SaidLaws.{said_item}
-use Rattle.filled.specs.Filled.{walk_across, number_at, hole_at, body_at, application_at, argument_at}
+use Rattle.filled.specs.Filled.{walk_across, number_at, hole_at, body_at, body_in, application_at, argument_at}
 use Rattle.filled.specs.Ready.{Faced, Argued, ArguedAt, Bodied, Applied}
-use Rattle.filled.proofs.Cases.{without_body, with_body}
+use Rattle.filled.proofs.Cases.{body_says}
 use Rattle.filled.proofs.Deciding.{Decides, decides_no, fill_decided}
 use Rattle.filled.proofs.Across.{from, node_depth, node_whole, node_deep, across_walk, across_spotted}
 use Rattle.filled.proofs.Values.{slot_never, text_node, faced_at}
@@ -125,30 +131,30 @@ module _ (p : Problem) (w : WithinLimits p) (ts : List ℕ) (is : List Item) (s 
       ∙ ap (λ (k : ℕ). fill_term (fill_handler (said is)) k first) (sym first_depth)
 
   -- The body that the text gives
-  module _ (t : NamedTerm) (at_body : TermAt ts (at s.nodes f) in_body t) where
+  module _ (node : ℕ) (t : NamedTerm) (at_body : TermAt ts node in_body t) where
     abbrev b : Term
     b = nameless_term [] t
 
-    abbrev body_node : AtNode ts (at s.nodes f) b
-    body_node = text_node ts (at s.nodes f) in_body t at_body
+    abbrev body_node : AtNode ts node b
+    body_node = text_node ts node in_body t at_body
 
     abbrev deeper : ℕ
     deeper = length spotted.there.scope
 
     -- A closed body is not changed by the binders above what it is walked against
     body_walk_lem : Both
-        (RecordedBy (from (at s.nodes f) (one b)) (from x.node (one x.term)) (λ m. depth_in (at ts m)))
-        (walk_across ts (at s.nodes f) es x.node) (walk 0 x.node (one b) (one x.term))
+        (RecordedBy (from node (one b)) (from x.node (one x.term)) (λ m. depth_in (at ts m)))
+        (walk_across ts node es x.node) (walk 0 x.node (one b) (one x.term))
     body_walk_lem =
         subst (λ (c : Term). Both
-        (RecordedBy (from (at s.nodes f) (one c)) (from x.node (one x.term)) (λ m. depth_in (at ts m)))
-        (walk_across ts (at s.nodes f) es x.node) (walk 0 x.node (one c) (one x.term)))
+        (RecordedBy (from node (one c)) (from x.node (one x.term)) (λ m. depth_in (at ts m)))
+        (walk_across ts node es x.node) (walk 0 x.node (one c) (one x.term)))
         (shift_closed_term deeper b (nameless_closed [] (one t)))
-        (across_walk ts es (at s.nodes f) x.node deeper b x.term body_node spotted.there (omega arith) by.is_table.small)
+        (across_walk ts es node x.node deeper b x.term body_node spotted.there (omega arith) by.is_table.small)
 
     -- A hole that is met
     hole_decided : (hs : List Face) → walk 0 x.node (one b) (one x.term) ≡ some hs → (m : ℕ) (h : Face) → h ∈ hs
-        → Records (from (at s.nodes f) (one b)) (from x.node (one x.term)) (λ a. depth_in (at ts a)) m h
+        → Records (from node (one b)) (from x.node (one x.term)) (λ a. depth_in (at ts a)) m h
         → Decides (ArguedAt ps es ts s (i + 1) m) (hole_at ps es ts s (i + 1) m) (Satisfied (plug_handler (filled_arguments (said is) x)) h)
     hole_decided hs e m h q r =
         go (body_face 0 x.node (one b) (one x.term) hs e h q 1
@@ -178,20 +184,20 @@ module _ (p : Problem) (w : WithinLimits p) (ts : List ℕ) (is : List Item) (s 
             (subst (λ (a : Term). Decides (Argued ps es ts s (i + 1) h.node) (argument_at ps es ts s (i + 1) h.node)
             (shift_term h.under a ≡ h.term)) (sym arguments_are_lem) argued))
 
-    walk_told : Decides ((hs : List ℕ) → walk_across ts (at s.nodes f) es x.node ≡ some hs → All (ArguedAt ps es ts s (i + 1)) hs)
-        (body_at ps es ts s (at s.nodes f) (i + 1) x.node)
+    walk_told : Decides ((hs : List ℕ) → walk_across ts node es x.node ≡ some hs → All (ArguedAt ps es ts s (i + 1)) hs)
+        (body_at ps es ts s node (i + 1) x.node)
         (fill (plug_handler (filled_arguments (said is) x)) 0 (one b) ≡ one x.term)
     unfolding body_at
     walk_told =
-        fill_decided (from (at s.nodes f) (one b)) (from x.node (one x.term)) (λ a. depth_in (at ts a))
+        fill_decided (from node (one b)) (from x.node (one x.term)) (λ a. depth_in (at ts a))
         (ArguedAt ps es ts s (i + 1)) (hole_at ps es ts s (i + 1)) (plug_handler (filled_arguments (said is) x)) 0 x.node (one b)
-        (one x.term) (walk_across ts (at s.nodes f) es x.node) body_walk_lem hole_decided
+        (one x.term) (walk_across ts node es x.node) body_walk_lem hole_decided
 
-    body_decided : Decides (Bodied ps es ts s (at s.nodes f) (i + 1) x.node) (body_at ps es ts s (at s.nodes f) (i + 1) x.node)
+    body_decided : Decides (Bodied ps es ts s node (i + 1) x.node) (body_at ps es ts s node (i + 1) x.node)
         (plug (filled_arguments (said is) x) b ≡ x.term)
     body_decided = record {
       can = record {
-        body = node_whole ts (at s.nodes f) b body_node;
+        body = node_whole ts node b body_node;
         across = (node_whole es x.node x.term spotted.there).starts;
         holes = walk_told.can;
       };
@@ -214,34 +220,42 @@ module _ (p : Problem) (w : WithinLimits p) (ts : List ℕ) (is : List Item) (s 
 
   -- What the text gives it
   abbrev Given : ℕ → ℕ → Type 0
-  Given g j = at s.tags g ≡ 9 → Bodied ps es ts s (at s.nodes g) (i + 1) j
+  Given g j = (b : ℕ) → field_of s g ≡ Some (Body b) → Bodied ps es ts s b (i + 1) j
 
   abbrev Told : Term → Type 0
   Told b = Decides (Given f x.node) (application_at ps es ts s n) (plug (filled_arguments (said is) x) b ≡ x.term)
 
-  no_body : (at s.tags f ≡ 9 → ⊥) → Told (slot (function f 0), nil)
-  no_body h =
-      decides_no (Given f x.node) (application_at ps es ts s n) (◌≡◌ {A = Term} (slot (function f 0), nil) x.term)
-      (λ q. absurd (h q)) (without_body ps es ts s n (λ q. h (ap (at s.tags) (sym number) ∙ q)))
-      (slot_never (function f 0) nil x.term expression)
+  says : (o : std.Option Field) → field_of s f ≡ o → application_at ps es ts s n ≡ body_in ps es ts s o (i + 1) (expression_node n)
+  says o e = body_says ps es ts s n f number o e
 
-  given_decided : (o : Entry NamedTerm) → at s.tags f ≡ entry_tag o → EntryAt ts (at s.nodes f) o → Told (body_or f (meant o))
-  given_decided absent e a = no_body (λ q. omega arith)
-  given_decided left_open e a = no_body (λ q. omega arith)
-  given_decided (value t) e a = no_body (λ q. omega arith)
-  given_decided (body t) e a =
-      let d = body_decided t a in
-      let same : application_at ps es ts s n ≡ body_at ps es ts s (at s.nodes f) (i + 1) x.node =
-      with_body ps es ts s n (ap (at s.tags) number ∙ e)
-      ∙ ap₂ (λ (g j : ℕ). body_at ps es ts s (at s.nodes g) (i + 1) j) number recorded.node in
-      record { can = λ q. d.can; into = λ q. d.into (sym same ∙ q); back = λ q. same ∙ d.back q }
+  no_body : application_at ps es ts s n ≡ false → Given f x.node → Told (slot (function f 0), nil)
+  no_body e g =
+      decides_no (Given f x.node) (application_at ps es ts s n) (◌≡◌ {A = Term} (slot (function f 0), nil) x.term)
+      g e (slot_never (function f 0) nil x.term expression)
+
+  given_decided : (o : Entry NamedTerm) → HeldAs ts o (field_of s f) → Told (body_or f (meant o))
+  given_decided absent h = no_body (says None h) (λ b q. never (cc))
+  given_decided left_open h = no_body (says (Some Open) h) (λ b q. never (cc))
+  given_decided (value t) h = no_body (says (Some (Value h.0)) h.1) (λ b q. never (let e = h.1 in cc))
+  given_decided (body t) h =
+      let d = body_decided h.0 t h.2 in
+      let same : application_at ps es ts s n ≡ body_at ps es ts s h.0 (i + 1) x.node =
+      says (Some (Body h.0)) h.1 ∙ ap (body_at ps es ts s h.0 (i + 1)) recorded.node in
+      record {
+        can = λ b q.
+            let e = h.1 in
+            let one_body : h.0 ≡ b = cc in
+            subst (λ (k : ℕ). Bodied ps es ts s k (i + 1) x.node) one_body d.can;
+        into = λ q. d.into (sym same ∙ q);
+        back = λ q. same ∙ d.back q;
+      }
 
   told : Decides (Given f x.node) (application_at ps es ts s n) (Satisfied (fill_handler (said is)) x)
   told =
       subst (λ (z : Slot). Decides (Given f x.node) (application_at ps es ts s n)
       (fill_handler (said is) x.under z (fill (fill_handler (said is)) x.under x.children) ≡ x.term)) (sym applies)
       (subst (λ (o : Entry Term). Told (body_or f o)) (sym (said_item is f))
-      (given_decided (item_of is f) (by.tags f small) (by.nodes f small)))
+      (given_decided (item_of is f) (by.fields f small)))
 
   -- THE APPLICATION
   pub application_decided : Decides (Applied ps es ts s n) (application_at ps es ts s n) (Satisfied (fill_handler (said is)) x)

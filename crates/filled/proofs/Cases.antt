@@ -1,39 +1,31 @@
 -- Which case of a test applies.
-use mathlib.Core.Path.{◌≡◌, ap}
-use mathlib.Core.Bool.{Bool, false, ◌&&◌}
+use mathlib.Core.Path.{◌≡◌, ap, ◌∙◌}
 use mathlib.Core.List.{List}
 use Prim.Native.Nat.{ℕ, ◌+◌}
 use borrow.Author.Tests.{eq-eqb, ne_eqb}
 use Rattle.meaning.proofs.Lists.{choose_true, choose_false}
 use Rattle.tokens.specs.Token.{tag_in}
-use Rattle.tokens.specs.Key.{at, same_across}
+use Rattle.tokens.specs.Key.{at}
 use Rattle.lockstep.specs.Walk.{pattern_node, expression_node}
+use Rattle.std.specs.Prelude.{Option}
+use Rattle.said.specs.Said.{field_of}
+use Rattle.said.specs.declared.Field.{Field}
 use Rattle.said.specs.declared.Said.{Said}
-use Rattle.filled.specs.Filled.{value_at, number_at, faced_value_at, body_at, application_at, face_at}
+use Rattle.filled.specs.Filled.{value_in, value_at, number_at, faced_value_at, body_in, application_at, face_at}
 
--- A metavariable that is given no value, and one that is given one
-module _ (ts : List ℕ) (s : Said) (es : List ℕ) (m j : ℕ) where
-  pub without_value : (at s.tags m ≡ 8 → ⊥) → value_at ts s es m j ≡ false
-  unfolding value_at
-  without_value h = ap (λ (b : Bool). b && same_across ts (at s.nodes m) es j) (ne_eqb (at s.tags m) 8 h)
-
-  pub with_value : at s.tags m ≡ 8 → value_at ts s es m j ≡ same_across ts (at s.nodes m) es j
-  unfolding value_at
-  with_value e = ap (λ (b : Bool). b && same_across ts (at s.nodes m) es j) (eq-eqb (at s.tags m) 8 e)
+-- The value that the text gives a metavariable, by its field
+pub value_says : (ts : List ℕ) (s : Said) (es : List ℕ) (m j : ℕ) (f : Option Field) → field_of s m ≡ f
+    → value_at ts s es m j ≡ value_in ts f es j
+unfolding value_at
+value_says ts s es m j f e = ap (λ (o : Option Field). value_in ts o es j) e
 
 module _ (ps es ts : List ℕ) (s : Said) (n : ℕ) where
-  -- A function that is given no body, and one that is given one
-  abbrev body : Bool
-  body = body_at ps es ts s (at s.nodes (number_at ps n)) (pattern_node n + 1) (expression_node n)
-
-  pub without_body : (at s.tags (number_at ps n) ≡ 9 → ⊥) → application_at ps es ts s n ≡ false
+  -- The body that it gives a function, by its field
+  pub body_says : (m : ℕ) → number_at ps n ≡ m → (f : Option Field) → field_of s m ≡ f
+      → application_at ps es ts s n ≡ body_in ps es ts s f (pattern_node n + 1) (expression_node n)
   unfolding application_at
-  without_body h = ap (λ (b : Bool). b && body) (ne_eqb (at s.tags (number_at ps n)) 9 h)
-
-  pub with_body : at s.tags (number_at ps n) ≡ 9
-      → application_at ps es ts s n ≡ body_at ps es ts s (at s.nodes (number_at ps n)) (pattern_node n + 1) (expression_node n)
-  unfolding application_at
-  with_body e = ap (λ (b : Bool). b && body) (eq-eqb (at s.tags (number_at ps n)) 9 e)
+  body_says m k f e =
+      ap (λ (o : Option Field). body_in ps es ts s o (pattern_node n + 1) (expression_node n)) (ap (field_of s) k ∙ e)
 
   -- The face of a metavariable, and that of an application
   pub plain_face : (tag_in (at ps (pattern_node n)) ≡ 6 → ⊥) → face_at ps es ts s n ≡ faced_value_at ps es ts s n

@@ -1,27 +1,30 @@
 -- What the code of the test owes: the law of each return and of each turn of a loop, over the numbers and lists that the code holds.
 --   Testing   a loop that has passed k recorded faces: those that are left decide
 use mathlib.Core.Path.{◌≡◌, ap, sym, ◌∙◌, subst}
-use mathlib.Core.Bool.{Bool, true, false, ◌&&◌, not}
+use mathlib.Core.Bool.{Bool, true, false, ◌&&◌}
 use mathlib.Core.List.{List, ◌∷◌}
 use mathlib.Core.Option.{Option, none, some}
 use Prim.Native.Nat.{ℕ, suc, ◌+◌, ◌<◌, ◌≤◌}
 use native.Mathlib.Omega.{arith}
 use lib.ListN.{length, take, drop, drop_of_length-le}
 use lib.Seq.{drop-cons}
-use borrow.Author.Tests.{not-true, not-false}
 use Rattle.meaning.specs.Limits.{metavariable_count}
 use Rattle.meaning.specs.Basics.{All, every, holds}
 use Rattle.tokens.specs.Token.{tag_in, depth_in, size_in}
 use Rattle.tokens.specs.Key.{at, Inside}
-use Rattle.lockstep.specs.declared.Shapes.{Shapes}
 use Rattle.lockstep.specs.Walk.{pattern_node, expression_node}
 use Rattle.lockstep.specs.Span.{span_walk, Lent, Walked}
 use Rattle.lockstep.proofs.Answers.{Found}
+use Rattle.std.specs.Prelude.{Some}
+use Rattle.std.specs.Prelude as std
+use Rattle.said.specs.Said.{field_of}
+use Rattle.said.specs.declared.Field.{Field}
+use Rattle.said.specs.declared.Field.TheVariants.{Body}
 use Rattle.said.specs.declared.Said.{Said}
-use Rattle.filled.specs.Filled.{span_across, walk_across, value_at, number_at, faced_value_at, argument_at, hole_at, body_at, application_at}
+use Rattle.filled.specs.Filled.{span_across, walk_across, value_at, number_at, faced_value_at, argument_at, hole_at, body_at, body_in, application_at}
 use Rattle.filled.specs.Filled.{face_at}
-use Rattle.filled.specs.Ready.{Crossing, ProblemTables, Text, SaidOf, Faced, Argued, ArguedAt, Bodied, Applied}
-use Rattle.filled.proofs.Cases.{without_body, with_body, plain_face, applied_face}
+use Rattle.filled.specs.Ready.{Crossing, Rooms, SaidOf, Faced, Argued, ArguedAt, Bodied, Applied}
+use Rattle.filled.proofs.Cases.{body_says, plain_face, applied_face}
 
 -- ---- the walk of two subterms, from the parts of their tokens
 
@@ -35,7 +38,7 @@ module _ (t u : List ℕ) (i j long deep across : ℕ) (size : long ≡ size_in 
     room = omega (arith, c.inside.ends, c.room);
   }
 
-  pub across_walked : deep ≡ depth_in (at t i) → across ≡ depth_in (at u j) → (old new : List ℕ) (r : Shapes)
+  pub across_walked : deep ≡ depth_in (at t i) → across ≡ depth_in (at u j) → (old new : List ℕ) (r : std.Option ℕ)
       → Walked (span_walk t u (record { from = i; to = i + long; at = j; d = deep; e = across })) old new r
       → Walked (walk_across t i u j) old new r
   unfolding walk_across span_across
@@ -72,24 +75,21 @@ module _ {ready : ℕ → Type 0} {test : ℕ → Bool} {ns : List ℕ} {k : ℕ
     goes = sym (ap (every test) (drop-cons ns k 0 h)) ∙ g.leads
 
     module _ (r : Bool) (is : r ≡ test (at ns k)) where
-      pub testing_fails : not r ≡ true → false ≡ every test ns
-      testing_fails e = sym (ap (λ (b : Bool). b && every test (drop (suc k) ns)) (sym is ∙ not-true r e)) ∙ goes
+      pub testing_fails : r ≡ false → false ≡ every test ns
+      testing_fails e = sym (ap (λ (b : Bool). b && every test (drop (suc k) ns)) (sym is ∙ e)) ∙ goes
 
-      pub testing_goes : not r ≡ false → Testing ready test ns (k + 1)
+      pub testing_goes : r ≡ true → Testing ready test ns (k + 1)
       testing_goes e =
           let z : k + 1 ≡ suc k = omega arith in
           rw z (record {
             left = both.1;
-            leads = sym (ap (λ (b : Bool). b && every test (drop (suc k) ns)) (sym is ∙ not-false r e)) ∙ goes;
+            leads = sym (ap (λ (b : Bool). b && every test (drop (suc k) ns)) (sym is ∙ e)) ∙ goes;
           })
 
 -- What is lent keeps its length
-pub problem_again : (ps es old new : List ℕ) → ProblemTables ps es old → length new ≡ length old → ProblemTables ps es new
-problem_again ps es old new t e =
-    record { patterns = t.patterns; expressions = t.expressions; room = subst (λ (n : ℕ). length ps ≤ n) (sym e) t.room }
-
-pub text_again : (ts old new : List ℕ) → Text ts old → length new ≡ length old → Text ts new
-text_again ts old new t e = record { table = t.table; room = subst (λ (n : ℕ). length ts ≤ n) (sym e) t.room }
+pub rooms_again : (ps ts holes scratch holes' scratch' : List ℕ) → Rooms ps ts holes scratch → length holes' ≡ length holes
+    → length scratch' ≡ length scratch → Rooms ps ts holes' scratch'
+rooms_again ps ts holes scratch holes' scratch' r e f = record { bodies = rw e r.bodies; arguments = rw f r.arguments }
 
 -- ---- a walk, and then a test of what it recorded
 
@@ -136,20 +136,13 @@ module _ (ps es ts : List ℕ) (s : Said) (n f : ℕ) (number : f ≡ number_at 
   pub application_number : Applied ps es ts s n → f < metavariable_count
   application_number a = subst (λ (m : ℕ). m < metavariable_count) (sym number) a.faced.said.number
 
-  pub application_without : (at s.tags f ≡ 9 → ⊥) → false ≡ application_at ps es ts s n
-  application_without h = sym (without_body ps es ts s n (λ q. h (ap (at s.tags) number ∙ q)))
+  pub application_says : (o : std.Option Field) → field_of s f ≡ o → (r : Bool)
+      → r ≡ body_in ps es ts s o (pattern_node n + 1) (expression_node n) → r ≡ application_at ps es ts s n
+  application_says o e r q = q ∙ sym (body_says ps es ts s n f (sym number) o e)
 
-  module _ (given : at s.tags f ≡ 9) where
-    pub application_bodied : Applied ps es ts s n → Bodied ps es ts s (at s.nodes f) (pattern_node n + 1) (expression_node n)
-    application_bodied a =
-        subst (λ (m : ℕ). at s.tags m ≡ 9 → Bodied ps es ts s (at s.nodes m) (pattern_node n + 1) (expression_node n)) (sym number)
-        a.bodied given
-
-    pub application_given : (r : Bool) → r ≡ body_at ps es ts s (at s.nodes f) (pattern_node n + 1) (expression_node n)
-        → r ≡ application_at ps es ts s n
-    application_given r e =
-        e ∙ ap (λ (m : ℕ). body_at ps es ts s (at s.nodes m) (pattern_node n + 1) (expression_node n)) number
-        ∙ sym (with_body ps es ts s n (ap (at s.tags) (sym number) ∙ given))
+  pub application_bodied : (b : ℕ) → field_of s f ≡ Some (Body b) → Applied ps es ts s n
+      → Bodied ps es ts s b (pattern_node n + 1) (expression_node n)
+  application_bodied b e a = a.bodied b (ap (field_of s) (sym number) ∙ e)
 
 -- ---- one face, by the tag of its slot
 

@@ -39,7 +39,7 @@ use Rattle.sources.proofs.RecordedDemands.{slot_fits}
 use Rattle.said.specs.Said.{SaidBy}
 use Rattle.said.specs.declared.Said.{Said}
 use Rattle.filled.specs.Filled.{faced_value_at, application_at, face_at, filled_at}
-use Rattle.filled.specs.Ready.{ProblemTables, Text, Slotted}
+use Rattle.filled.specs.Ready.{Rooms, Slotted}
 use Rattle.filled.specs.Grounded.{Grounded}
 use Rattle.filled.proofs.Cases.{plain_face, applied_face}
 use Rattle.filled.proofs.Deciding.{Decides, fill_decided}
@@ -148,15 +148,14 @@ meets_disagree p σ e =
 
 -- THE CODE CAN BE CALLED
 module _ (ps es ns ts : List ℕ) (s : Said) (holes scratch : List ℕ) (g : Grounded ps es ns ts s holes scratch) where
-  pub grounded_tables : ProblemTables ps es scratch
-  grounded_tables = record {
-    patterns = subst Table (sym g.patterns) (pattern_table_lem g.problem g.accepted.within);
-    expressions = subst Table (sym g.expressions) (expression_table_lem g.problem g.accepted.within);
-    room = g.argument_room;
-  }
+  pub grounded_patterns : Table ps
+  grounded_patterns = subst Table (sym g.patterns) (pattern_table_lem g.problem g.accepted.within)
 
-  pub grounded_text : Text ts holes
-  grounded_text = record { table = g.says.is_table; room = g.body_room }
+  pub grounded_expressions : Table es
+  grounded_expressions = subst Table (sym g.expressions) (expression_table_lem g.problem g.accepted.within)
+
+  pub grounded_rooms : Rooms ps ts holes scratch
+  grounded_rooms = record { bodies = g.body_room; arguments = g.argument_room }
 
   pub grounded_slots : All (Slotted ps es ts s) ns
   grounded_slots =

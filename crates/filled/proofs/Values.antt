@@ -1,10 +1,9 @@
 -- What a text says of a metavariable, against what the metavariable faces.
 use mathlib.Core.Path.{◌≡◌, refl, ap, sym, ◌∙◌, subst}
 use mathlib.Core.Logic.{◌↔◌}
-use mathlib.Core.Bool.{true, false≢true}
+use mathlib.Core.Bool.{true, false, false≢true}
 use mathlib.Core.List.{List, []}
 use Prim.Native.Nat.{ℕ, ◌<◌}
-use native.Mathlib.Omega.{arith}
 use lib.ListN.{length}
 use Rattle.meaning.specs.Limits.{max_depth, metavariable_count}
 use Rattle.meaning.specs.Term.{nil, one, slot, Slot, metavariable, NamedTerm, Terms, Term, IsExpression}
@@ -16,17 +15,19 @@ use Rattle.meaning.specs.Text.{Item, meant, said}
 use Rattle.meaning.proofs.Lists.{never}
 use Rattle.meaning.proofs.ViewLaws.{nameless_closed, equal_closed, closed_equal}
 use Rattle.tokens.specs.Token.{payload_of}
-use Rattle.tokens.specs.Key.{at, level_from, same_across, Inside}
+use Rattle.tokens.specs.Key.{level_from, same_across, Inside}
 use Rattle.tokens.proofs.KeyLaws.{across_means}
 use Rattle.lockstep.specs.Walk.{pattern_node, expression_node}
 use Rattle.faces.proofs.NodeTokens.{AtNode, node_inside, node_payload}
 use Rattle.sources.proofs.RecordedDemands.{slot_fits}
-use Rattle.said.specs.Said.{item_of, entry_tag, TermAt, EntryAt, SaidBy}
+use Rattle.std.specs.Prelude.{Some, None}
+use Rattle.said.specs.declared.Field.TheVariants.{Value, Body, Open}
+use Rattle.said.specs.Said.{item_of, field_of, TermAt, HeldAs, SaidBy}
 use Rattle.said.specs.declared.Said.{Said}
 use Rattle.said.proofs.SaidLaws.{said_item}
 use Rattle.filled.specs.Filled.{value_at, number_at, faced_value_at}
 use Rattle.filled.specs.Ready.{SaidOf, Faced}
-use Rattle.filled.proofs.Cases.{without_value, with_value}
+use Rattle.filled.proofs.Cases.{value_says}
 use Rattle.filled.proofs.Deciding.{Decides}
 use Rattle.filled.proofs.Moved.{ClosedValues}
 use Rattle.filled.proofs.Across.{node_whole}
@@ -67,37 +68,36 @@ text_node ts n ctx t a =
 module _ (ts : List ℕ) (is : List Item) (s : Said) (by : SaidBy ts is s) where
   module _ (m : ℕ) (small : m < metavariable_count) where
     said_of : SaidOf ts s m
-    said_of = record { number = small; value = λ e. go (item_of is m) (by.tags m small) (by.nodes m small) e }
+    said_of = record { number = small; value = λ n e. go (item_of is m) (by.fields m small) n e }
       where
-        go : (o : Entry NamedTerm) → at s.tags m ≡ entry_tag o → EntryAt ts (at s.nodes m) o → at s.tags m ≡ 8
-            → Inside ts (at s.nodes m)
-        go absent e a q = absurd (omega arith)
-        go left_open e a q = absurd (omega arith)
-        go (value t) e a q = node_whole ts (at s.nodes m) (nameless_term [] t) (text_node ts (at s.nodes m) _ t a)
-        go (body t) e a q = absurd (omega arith)
+        go : (o : Entry NamedTerm) → HeldAs ts o (field_of s m) → (n : ℕ) → field_of s m ≡ Some (Value n) → Inside ts n
+        go absent h n q = never (cc)
+        go left_open h n q = never (cc)
+        go (value t) h n q =
+            let e = h.1 in
+            let same : h.0 ≡ n = cc in
+            subst (Inside ts) same (node_whole ts h.0 (nameless_term [] t) (text_node ts h.0 _ t h.2))
+        go (body t) h n q = never (let e = h.1 in cc)
 
     module _ (es : List ℕ) (j : ℕ) (t : Term) (there : AtNode es j t) (expression : IsExpression (one t)) where
-      no_value : (at s.tags m ≡ 8 → ⊥) → (value_at ts s es m j ≡ true) ↔ (◌≡◌ {A = Term} (slot (metavariable m), nil) t)
-      no_value h = (
-        λ q. absurd (false≢true (sym (without_value ts s es m j h) ∙ q)),
-        λ e. absurd (slot_never (metavariable m) nil t expression e),
-      )
+      no_value : value_at ts s es m j ≡ false → (value_at ts s es m j ≡ true) ↔ (◌≡◌ {A = Term} (slot (metavariable m), nil) t)
+      no_value n = (λ q. absurd (false≢true (sym n ∙ q)), λ e. absurd (slot_never (metavariable m) nil t expression e))
 
-      value_given : (o : Entry NamedTerm) → at s.tags m ≡ entry_tag o → EntryAt ts (at s.nodes m) o
+      value_given : (o : Entry NamedTerm) → HeldAs ts o (field_of s m)
           → (value_at ts s es m j ≡ true) ↔ (value_or m (meant o) ≡ t)
-      value_given absent e a = no_value (λ q. omega arith)
-      value_given left_open e a = no_value (λ q. omega arith)
-      value_given (value u) e a =
-          let w = across_same ts es (at s.nodes m) j (nameless_term [] u) t (text_node ts (at s.nodes m) _ u a) there
-          (nameless_closed [] (one u)) in
-          (λ q. w.0 (sym (with_value ts s es m j e) ∙ q), λ q. with_value ts s es m j e ∙ w.1 q)
-      value_given (body u) e a = no_value (λ q. omega arith)
+      value_given absent h = no_value (value_says ts s es m j None h)
+      value_given left_open h = no_value (value_says ts s es m j (Some Open) h)
+      value_given (value u) h =
+          let w = across_same ts es h.0 j (nameless_term [] u) t (text_node ts h.0 _ u h.2) there (nameless_closed [] (one u)) in
+          let same : value_at ts s es m j ≡ same_across ts h.0 es j = value_says ts s es m j (Some (Value h.0)) h.1 in
+          (λ q. w.0 (sym same ∙ q), λ q. same ∙ w.1 q)
+      value_given (body u) h = no_value (value_says ts s es m j (Some (Body h.0)) h.1)
 
       -- THE VALUE
       value_means : (value_at ts s es m j ≡ true) ↔ (value_or m (said is m) ≡ t)
       value_means =
           subst (λ (o : Entry Term). (value_at ts s es m j ≡ true) ↔ (value_or m o ≡ t)) (sym (said_item is m))
-          (value_given (item_of is m) (by.tags m small) (by.nodes m small))
+          (value_given (item_of is m) (by.fields m small))
 
   -- A recorded face of whatever kind, by the number that its token has
   pub faced_at : (ps es : List ℕ) (n m : ℕ) → pattern_node n < length ps → number_at ps n ≡ m → m < metavariable_count

@@ -1,19 +1,21 @@
 -- What the code asks of the tables, said of the numbers alone. The tables of a problem and of a text have all of it (`grounded_slots`, in
 -- proofs/Meaning).
 --   Crossing   two subterms that can be walked together, with room for the faces
---   ProblemTables   those of the problem, with room for the faces of an argument; Text, that of the text, with room for those of a body
+--   Rooms      room for the faces of a body, and for those of an argument
 --   SaidOf     a metavariable's number, and where it is given a value, that stands in the text's table
 --   Faced      a recorded face can be looked up
 --   Argued     an argument and what stands across can be walked, and each face that is recorded be looked up
 --   Bodied     a body and what stands across can be walked, and so can the argument and what stands across each hole
 --   Applied    a recorded face of an application; Slotted, one of whatever kind
-use Rattle.std.specs.Prelude.{◌≡◌, ℕ, ◌+◌, ◌<◌, ◌≤◌, List, length}
+use Rattle.std.specs.Prelude.{◌≡◌, ℕ, ◌+◌, ◌<◌, ◌≤◌, List, length, Some}
 use Rattle.std.proofs.Math.Option.{some}
 use Rattle.meaning.specs.Limits.{metavariable_count}
 use Rattle.meaning.specs.Basics.{All}
 use Rattle.tokens.specs.Token.{Table, tag_in}
 use Rattle.tokens.specs.Key.{at, Inside}
 use Rattle.lockstep.specs.Walk.{pattern_node, expression_node}
+use Rattle.said.specs.Said.{field_of}
+use Rattle.said.specs.declared.Field.TheVariants.{Value, Body}
 use Rattle.said.specs.declared.Said.{Said}
 use Rattle.filled.specs.Filled.{walk_across, number_at}
 
@@ -24,18 +26,13 @@ pub record Crossing (t : List ℕ) (i : ℕ) (u : List ℕ) (j : ℕ) (out : Lis
   pub across : j < length u
   pub room : length t ≤ length out
 
-pub record ProblemTables (ps es scratch : List ℕ) : Type 0 where
-  pub patterns : Table ps
-  pub expressions : Table es
-  pub room : length ps ≤ length scratch
-
-pub record Text (ts holes : List ℕ) : Type 0 where
-  pub table : Table ts
-  pub room : length ts ≤ length holes
+pub record Rooms (ps ts holes scratch : List ℕ) : Type 0 where
+  pub bodies : length ts ≤ length holes
+  pub arguments : length ps ≤ length scratch
 
 pub record SaidOf (ts : List ℕ) (s : Said) (m : ℕ) : Type 0 where
   pub number : m < metavariable_count
-  pub value : at s.tags m ≡ 8 → Inside ts (at s.nodes m)
+  pub value : (n : ℕ) → field_of s m ≡ Some (Value n) → Inside ts n
 
 pub record Faced (ps es ts : List ℕ) (s : Said) (n : ℕ) : Type 0 where
   pub slot : pattern_node n < length ps
@@ -58,8 +55,8 @@ pub record Bodied (ps es ts : List ℕ) (s : Said) (b i j : ℕ) : Type 0 where
 
 pub record Applied (ps es ts : List ℕ) (s : Said) (n : ℕ) : Type 0 where
   pub faced : Faced ps es ts s n
-  pub bodied : at s.tags (number_at ps n) ≡ 9
-      → Bodied ps es ts s (at s.nodes (number_at ps n)) (pattern_node n + 1) (expression_node n)
+  pub bodied : (b : ℕ) → field_of s (number_at ps n) ≡ Some (Body b)
+      → Bodied ps es ts s b (pattern_node n + 1) (expression_node n)
 
 pub record Slotted (ps es ts : List ℕ) (s : Said) (n : ℕ) : Type 0 where
   pub faced : Faced ps es ts s n

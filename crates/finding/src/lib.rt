@@ -5,8 +5,8 @@ ghost use Rattle.std.specs.Prelude.{◌≤◌, length};
 ghost use Rattle.meaning.specs.Limits.{largest_written};
 ghost use Rattle.finding.specs.Finding.{Finds};
 
-use copying::Written;
 use places::Place;
+use refusal::Refusal;
 use search::call::search;
 use seeking::{Answer, Searched};
 use writing::write::write;
@@ -18,27 +18,15 @@ pub struct Finding {
     pub length: usize,
 }
 
-pub fn find(problem: &[u8], place: Place, n: u32, text: &mut [u8]) -> Finding
+pub fn find(problem: &[u8], place: Place, n: u32, text: &mut [u8]) -> Result<Finding, Refusal>
     requires { largest_written ≤ length text.old }
     ensures { Finds problem.now place n text.old text.new result }
 {
-    let searched = search(problem, place, n);
-    let answer = searched.answer;
-    let Answer::Found = answer else {
-        return Finding {
-            searched: searched,
-            length: 0,
-        };
+    let searched = search(problem, place, n)?;
+    let length = match searched.answer {
+        // There is room for any text, and the row of a Found is not refused.
+        Answer::Found(row) => write(problem, Place::at(row), text)?,
+        Answer::End | Answer::Paused => 0,
     };
-    let row = searched.row;
-    let written = write(problem, Place::at(row), text);
-    let mut length = 0;
-    // There is room for any text, and the row of a Found is not refused.
-    if let Written::Wrote(n) = written {
-        length = n;
-    }
-    Finding {
-        searched: searched,
-        length: length,
-    }
+    Ok(Finding { searched, length })
 }

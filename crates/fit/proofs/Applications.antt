@@ -25,7 +25,6 @@ use Rattle.meaning.specs.PlaceValue.{mask_of}
 use Rattle.meaning.proofs.Lists.{never, choose_true, choose_false}
 use Rattle.meaning.proofs.RowBodies.{punch_one}
 use Rattle.tokens.specs.Token.{pattern_tokens, expression_tokens}
-use Rattle.tokens.proofs.ProblemTokens.{expression_table_lem}
 use Rattle.numbers.specs.Tests.{Tests, Tells}
 use Rattle.lockstep.specs.Walk.{expression_node}
 use Rattle.lockstep.specs.Span.{span_walk}
@@ -39,7 +38,7 @@ use Rattle.bodies.specs.Suits.{suits_at}
 use Rattle.bodies.proofs.MarkLaws.{lowest_mark, empty_mask}
 use Rattle.bodies.proofs.HoleTests.{Spotted}
 use Rattle.bodies.proofs.SuitsMeaning.{suits_means}
-use Rattle.sources.specs.Demand.{demands_in, kept_after}
+use Rattle.sources.specs.Demand.{Nodes, demands_in, kept_after}
 use Rattle.sources.proofs.KeptMeaning.{Firsts, kept_means}
 use Rattle.fit.specs.Judging.{argument_span, argument_kept, application_kept}
 use Rattle.fit.proofs.Steps.{Step, step_nothing, step_none, step_told, step_guard, step_as}
@@ -121,7 +120,7 @@ module _ (p : Problem) (w : WithinLimits p) (n f : ℕ) (x : Face) (recorded : R
         ap (λ (v : Option (List Face)). and_then v (λ hs. each_some (place_demands x hs) (up_to 1))) s.found
         ∙ ap (λ (v : Option Face). join (lowest_demand x.under t v) (some [])) e
 
-    argued_step : (a : Argued p n mask x s.holes) (kept : List ℕ) (ks : List Source) → Firsts es kept ks
+    argued_step : (a : Argued p n mask x s.holes) (kept : Nodes) (ks : List Source) → Firsts es kept ks
         → Step es (argument_kept q ps es n mask kept) ks (Unit {0}) (application_lowest body 1 x)
     unfolding argument_kept
     argued_step a kept ks first =
@@ -146,20 +145,20 @@ module _ (p : Problem) (w : WithinLimits p) (n f : ℕ) (x : Face) (recorded : R
             (some (each source_of ys ++ [])) (λ u. u) (λ u. u)
             (ap some (sym (append-nil (each source_of ys))))
             (step_told es ks (kept_after q kept (demands_in ps ns)) (each source_of ys)
-            (kept_means es (expression_table_lem p w).small q tells kept ks (demands_in ps ns) (each source_of ys) first m.0))
+            (kept_means es q tells kept ks (demands_in ps ns) (each source_of ys) first m.0))
 
-    suited_step : Holes s → (kept : List ℕ) (ks : List Source) → Firsts es kept ks
+    suited_step : Holes s → (kept : Nodes) (ks : List Source) → Firsts es kept ks
         → Step es (choose (eqb mask 0) (some kept) (argument_kept q ps es n mask kept)) ks (Unit {0}) (application_lowest body 1 x)
     suited_step (without z e) kept ks first =
-        subst (λ (o : Option (List ℕ)). Step es o ks (Unit {0}) (application_lowest body 1 x)) (sym (choose_true _ _ (eq-eqb mask 0 z)))
+        subst (λ (o : Option Nodes). Step es o ks (Unit {0}) (application_lowest body 1 x)) (sym (choose_true _ _ (eq-eqb mask 0 z)))
         (step_as es ks (some kept) (Unit {0}) (Unit {0}) (some []) (application_lowest body 1 x) (λ u. u) (λ u. u) (sym (lowest_is none e))
         (step_nothing es ks kept first))
     suited_step (with_lowest z a) kept ks first =
-        subst (λ (o : Option (List ℕ)). Step es o ks (Unit {0}) (application_lowest body 1 x)) (sym (choose_false _ _ (ne_eqb mask 0 z)))
+        subst (λ (o : Option Nodes). Step es o ks (Unit {0}) (application_lowest body 1 x)) (sym (choose_false _ _ (ne_eqb mask 0 z)))
         (argued_step a kept ks first)
 
   -- THE APPLICATION
-  pub application_step : (kept : List ℕ) (ks : List Source) → Firsts es kept ks
+  pub application_step : (kept : Nodes) (ks : List Source) → Firsts es kept ks
       → Step es (application_kept q ps es n node mask kept) ks (Suits body x.term) (application_lowest body 1 x)
   unfolding application_kept
   application_step kept ks first =

@@ -1,8 +1,8 @@
 -- What the code of the test owes: the law of each return and of each turn of the loops.
 use mathlib.Core.Path.{◌≡◌, refl, ap, ap₂, sym, ◌∙◌, subst}
-use mathlib.Core.Bool.{Bool, true, false, ◌&&◌, not, not-not}
+use mathlib.Core.Bool.{Bool, true, false, ◌&&◌}
 use mathlib.Core.List.{List, [], ◌∷◌}
-use mathlib.Core.Option.{Option, none, some}
+use mathlib.Core.Option.{Option, some}
 use Prim.Native.Nat.{ℕ, suc, ◌+◌, ◌<◌, ◌≤◌}
 use native.Mathlib.Omega.{arith}
 use lib.ListN.{length, get_or, take, drop, drop_of_length-le, get_or-replicate}
@@ -15,31 +15,34 @@ use Rattle.meaning.proofs.Lists.{never, by_test, choose_true, choose_false, all_
 use Rattle.demands.proofs.Answers.{then_some}
 use Rattle.masks.specs.Sets.{mask, masks_in}
 use Rattle.masks.specs.declared.NodeSet.{NodeSet}
-use Rattle.masks.proofs.Words.{masks_at}
-use Rattle.tokens.specs.Token.{tag_in, depth_in, size_in}
+use Rattle.masks.proofs.Words.{no_nodes, masks_at}
+use Rattle.tokens.specs.Token.{tag_in, depth_in, size_in, Table}
 use Rattle.tokens.specs.Key.{at}
 use Rattle.numbers.specs.Tests.{told}
 use Rattle.lockstep.specs.Walk.{pattern_node, expression_node}
-use Rattle.lockstep.specs.Span.{span_walk, Lent}
-use Rattle.lockstep.proofs.Answers.{Found}
+use Rattle.lockstep.specs.Span.{span_walk, Lent, Walked}
+use Rattle.lockstep.specs.declared.Span.{Span}
+use Rattle.lockstep.proofs.Answers.{Found, found, disagreed}
 use Rattle.faces.specs.First.{listed}
 use Rattle.faces.specs.declared.first.Firsts.{Firsts}
 use Rattle.bodies.specs.Marked.{lowest_marked}
 use Rattle.bodies.specs.BodyClosed.{body_closed_at}
 use Rattle.bodies.specs.Suits.{suits_at}
-use Rattle.sources.specs.Demand.{open_node, demand_at, demands_in, kept_after}
-use Rattle.sources.specs.Kept.{Kept, Askable, Demandable, Answers}
-use Rattle.sources.specs.declared.Agreed.{Agreed}
+use Rattle.std.specs.Prelude.{Some, None}
+use Rattle.std.specs.Prelude as std
+use Rattle.sources.specs.Demand.{Nodes, first_of, demand_at, demands_in, kept_after}
+use Rattle.sources.specs.Kept.{Kept, Askable, Demandable, sources_of, Answers}
+use Rattle.sources.specs.declared.Sources.{Sources}
 use Rattle.sources.proofs.KeptLaws.{answer_some, answer_none, kept_stays}
 use Rattle.fit.specs.Judging.{bodies_closed, argument_span, argument_kept, application_kept, rank_at, face_kept, faces_kept, none_kept}
-use Rattle.fit.specs.Judging.{demanded_at, judged_at, Judges}
-use Rattle.fit.specs.Ready.{Tables, Walkable, Applicable, Slots}
+use Rattle.fit.specs.Judging.{demanded_at, judged_at}
+use Rattle.fit.specs.Ready.{Walkable, Applicable, Slots}
 
 -- ---- the bodies, from function k on
 
 -- As the code reads a set out of a row
 pub read_mask : (es nodes : List ℕ) (row : List NodeSet) (k : ℕ) {b : Bool}
-    → b ≡ body_closed_at es (at nodes k) (mask (get_or row k (record { w0 = 0; w1 = 0; w2 = 0; w3 = 0 })))
+    → b ≡ body_closed_at es (at nodes k) (mask (get_or row k no_nodes))
     → b ≡ body_closed_at es (at nodes k) (at (masks_in row) k)
 read_mask es nodes row k e = e ∙ ap (body_closed_at es (at nodes k)) (masks_at row k)
 
@@ -63,17 +66,14 @@ module _ (es nodes row : List ℕ) (end k : ℕ) (fits : end ≤ length nodes) (
         ∙ ap (λ (j : ℕ). j ∷ drop (suc k) (take end nodes)) (get_or-take end nodes k 0 h))
         (drop-cons row k 0 (omega arith))
 
-    pub closed_fails : not (body_closed_at es (at nodes k) (at row k)) ≡ true → false ≡ bodies_closed es (drop k (take end nodes)) (drop k row)
-    closed_fails e =
-        let f : body_closed_at es (at nodes k) (at row k) ≡ false = sym (not-not _) ∙ ap not e in
-        sym (closed_one ∙ ap (λ (b : Bool). b && bodies_closed es (drop (suc k) (take end nodes)) (drop (suc k) row)) f)
+    pub closed_fails : body_closed_at es (at nodes k) (at row k) ≡ false → false ≡ bodies_closed es (drop k (take end nodes)) (drop k row)
+    closed_fails e = sym (closed_one ∙ ap (λ (b : Bool). b && bodies_closed es (drop (suc k) (take end nodes)) (drop (suc k) row)) e)
 
-    pub closed_next : not (body_closed_at es (at nodes k) (at row k)) ≡ false
+    pub closed_next : body_closed_at es (at nodes k) (at row k) ≡ true
         → bodies_closed es (drop (k + 1) (take end nodes)) (drop (k + 1) row) ≡ bodies_closed es (drop k (take end nodes)) (drop k row)
     closed_next e =
-        let f : body_closed_at es (at nodes k) (at row k) ≡ true = sym (not-not _) ∙ ap not e in
         let z : k + 1 ≡ suc k = omega arith in
-        sym (closed_one ∙ ap (λ (b : Bool). b && bodies_closed es (drop (suc k) (take end nodes)) (drop (suc k) row)) f
+        sym (closed_one ∙ ap (λ (b : Bool). b && bodies_closed es (drop (suc k) (take end nodes)) (drop (suc k) row)) e
         ∙ ap (λ (i : ℕ). bodies_closed es (drop i (take end nodes)) (drop i row)) (sym z))
 
 -- ---- one argument
@@ -86,71 +86,67 @@ pub span_is : (ps es : List ℕ) (n mask low long deep across : ℕ) → low ≡
 unfolding argument_span
 span_is ps es n mask low long deep across l s d e = rw (e, d, s, l) refl
 
-pub argument_lent : (ps es ns scratch : List ℕ) (n mask : ℕ) → Tables ps es ns scratch → Walkable ps es ns n mask
-    → Lent ps es scratch (argument_span ps es n mask)
-unfolding argument_span
-argument_lent ps es ns scratch n mask t w =
-    record { patterns = t.patterns; expressions = t.expressions; inside = w.ends; room = omega (arith, w.ends, t.room) }
+module _ (ps es ns : List ℕ) (n mask : ℕ) (span : Span) (is : span ≡ argument_span ps es n mask) where
+  pub argument_lent : (scratch : List ℕ) → Table ps → Table es → length ps ≤ length scratch → Walkable ps es ns n mask → Lent ps es scratch span
+  unfolding argument_span
+  argument_lent scratch p e room w =
+      subst (Lent ps es scratch) (sym is)
+      (record { patterns = p; expressions = e; inside = w.ends; room = omega (arith, w.ends, room) })
 
--- What is recorded makes demands that can be looked up
-pub argument_reads : (ps es ns new : List ℕ) (n mask count : ℕ) → Walkable ps es ns n mask
-    → Found (span_walk ps es (argument_span ps es n mask)) new count
-    → All (Demandable ps ns) (take count new)
-argument_reads ps es ns new n mask count w f = subst (All (Demandable ps ns)) (sym f.front) (w.reads f.faces f.walked)
+  -- After the walk
+  module _ (old new : List ℕ) (r : std.Option ℕ) (w : Walked (span_walk ps es span) old new r) where
+    walked : Walked (span_walk ps es (argument_span ps es n mask)) old new r
+    walked = subst (λ (s : Span). Walked (span_walk ps es s) old new r) is w
 
--- An answer of no
-answers_no : (nodes : List ℕ) → Answers none (record { ok = false; sources = record { nodes = nodes } })
-answers_no nodes = record { ok = refl; nodes = λ kept e. never (cc) }
+    pub argument_disagrees : r ≡ None → (kept : Nodes) → Answers (argument_kept (told ns) ps es n mask kept) None
+    unfolding argument_kept
+    argument_disagrees e kept = let d = disagreed _ old new r walked e in rw d refl
 
-answers_yes : (nodes : List ℕ) → Answers (some nodes) (record { ok = true; sources = record { nodes = nodes } })
-answers_yes nodes = record { ok = refl; nodes = λ kept e. cc }
+    module _ (count : ℕ) (e : r ≡ Some count) where
+      recorded : Found (span_walk ps es (argument_span ps es n mask)) new count
+      recorded = found _ old new r walked count e
 
-module _ (ps es ns : List ℕ) (n mask : ℕ) (kept : List ℕ) where
-  pub argument_disagrees : span_walk ps es (argument_span ps es n mask) ≡ none
-      → Answers (argument_kept (told ns) ps es n mask kept) (record { ok = false; sources = record { nodes = kept } })
-  unfolding argument_kept
-  argument_disagrees e = rw e (answers_no kept)
+      pub argument_room : count ≤ length new
+      argument_room = recorded.room
 
-  pub argument_demands : (new : List ℕ) (count : ℕ) → Found (span_walk ps es (argument_span ps es n mask)) new count → (r : Agreed)
-      → Answers (kept_after (told ns) kept (demands_in ps (take count new))) r → Answers (argument_kept (told ns) ps es n mask kept) r
-  unfolding argument_kept
-  argument_demands new count f r a = rw (f.walked, ← f.front) a
+      -- What is recorded makes demands that can be looked up
+      pub argument_reads : Walkable ps es ns n mask → All (Demandable ps ns) (take count new)
+      argument_reads a = subst (All (Demandable ps ns)) (sym recorded.front) (a.reads recorded.faces recorded.walked)
+
+      pub argument_demands : (kept : Nodes) (a : std.Option Sources) → Answers (kept_after (told ns) kept (demands_in ps (take count new))) a
+          → Answers (argument_kept (told ns) ps es n mask kept) a
+      unfolding argument_kept
+      argument_demands kept a d = rw (recorded.walked, ← recorded.front) d
 
 -- ---- one application
 
-module _ (ps es ns : List ℕ) (n node mask : ℕ) (kept : List ℕ) (suits : Bool)
+module _ (ps es ns : List ℕ) (n node mask : ℕ) (kept : Nodes) (suits : Bool)
     (is : suits ≡ suits_at (told ns) es node (expression_node n) mask) where
-  pub application_unsuited : not suits ≡ true
-      → Answers (application_kept (told ns) ps es n node mask kept) (record { ok = false; sources = record { nodes = kept } })
+  pub application_unsuited : suits ≡ false → Answers (application_kept (told ns) ps es n node mask kept) None
   unfolding application_kept
-  application_unsuited e =
-      let f : suits_at (told ns) es node (expression_node n) mask ≡ false = sym is ∙ sym (not-not suits) ∙ ap not e in
-      rw f (answers_no kept)
+  application_unsuited e = rw (← is, e) refl
 
-  module _ (e : not suits ≡ false) where
-    pub application_suited : suits_at (told ns) es node (expression_node n) mask ≡ true
-    application_suited = sym is ∙ sym (not-not suits) ∙ ap not e
-
+  module _ (e : suits ≡ true) where
     pub application_open : mask ≡ 0
-        → Answers (application_kept (told ns) ps es n node mask kept) (record { ok = true; sources = record { nodes = kept } })
+        → Answers (application_kept (told ns) ps es n node mask kept) (Some (record { nodes = kept }))
     unfolding application_kept
-    application_open z = rw (application_suited, eq-eqb mask 0 z) (answers_yes kept)
+    application_open z = rw (← is, e, eq-eqb mask 0 z) refl
 
-    pub application_filled : (mask ≡ 0 → ⊥) → (r : Agreed) → Answers (argument_kept (told ns) ps es n mask kept) r
+    pub application_filled : (mask ≡ 0 → ⊥) → (r : std.Option Sources) → Answers (argument_kept (told ns) ps es n mask kept) r
         → Answers (application_kept (told ns) ps es n node mask kept) r
     unfolding application_kept
-    application_filled z r a = rw (application_suited, ne_eqb mask 0 z) a
+    application_filled z r a = rw (← is, e, ne_eqb mask 0 z) a
 
 -- ---- one face
 
-module _ (ps es ns : List ℕ) (functions : ℕ) (nodes row : List ℕ) (n : ℕ) (kept : List ℕ) (tag : ℕ)
+module _ (ps es ns : List ℕ) (functions : ℕ) (nodes row : List ℕ) (n : ℕ) (kept : Nodes) (tag : ℕ)
     (is : tag ≡ tag_in (at ps (pattern_node n))) where
   pub face_plain : (tag ≡ 6 → ⊥)
-      → Answers (face_kept (told ns) ps es functions nodes row n kept) (record { ok = true; sources = record { nodes = kept } })
+      → Answers (face_kept (told ns) ps es functions nodes row n kept) (Some (record { nodes = kept }))
   unfolding face_kept
-  face_plain h = rw (← is, ne_eqb tag 6 h) (answers_yes kept)
+  face_plain h = rw (← is, ne_eqb tag 6 h) refl
 
-  pub face_applies : tag ≡ 6 → (k mask : ℕ) → k ≡ rank_at ps functions n → mask ≡ at row k → (r : Agreed)
+  pub face_applies : tag ≡ 6 → (k mask : ℕ) → k ≡ rank_at ps functions n → mask ≡ at row k → (r : std.Option Sources)
       → Answers (application_kept (told ns) ps es n (at nodes k) mask kept) r
       → Answers (face_kept (told ns) ps es functions nodes row n kept) r
   unfolding face_kept
@@ -161,7 +157,7 @@ reads_ask : (ps ns ms : List ℕ) → All (Demandable ps ns) ms → All (Askable
 reads_ask ps ns [] r = tt
 reads_ask ps ns (m ∷ ms) r = all_append (Askable ns) (demand_at ps m) (demands_in ps ms) r.0.asks (reads_ask ps ns ms r.1)
 
-application_stays : (ps es ns : List ℕ) (n node mask : ℕ) (kept kept' : List ℕ) → Applicable ps es ns n node mask → Kept ns kept
+application_stays : (ps es ns : List ℕ) (n node mask : ℕ) (kept kept' : Nodes) → Applicable ps es ns n node mask → Kept ns kept
     → application_kept (told ns) ps es n node mask kept ≡ some kept' → Kept ns kept'
 unfolding application_kept argument_kept
 application_stays ps es ns n node mask kept kept' a k e =
@@ -181,7 +177,7 @@ application_stays ps es ns n node mask kept kept' a k e =
         (λ z. let i : some kept ≡ some kept' = sym (choose_true _ _ z) ∙ q in subst (Kept ns) (let same : kept ≡ kept' = cc in same) k)
         (λ z. demanded (eqb-false mask 0 z) t (sym (choose_false _ _ z) ∙ q))
 
-face_stays : (ps es ns : List ℕ) (functions : ℕ) (nodes row : List ℕ) (n : ℕ) (kept kept' : List ℕ) → Slots ps es ns functions nodes row n
+face_stays : (ps es ns : List ℕ) (functions : ℕ) (nodes row : List ℕ) (n : ℕ) (kept kept' : Nodes) → Slots ps es ns functions nodes row n
     → Kept ns kept
     → face_kept (told ns) ps es functions nodes row n kept ≡ some kept' → Kept ns kept'
 unfolding face_kept
@@ -193,24 +189,20 @@ face_stays ps es ns functions nodes row n kept kept' s k e =
 
 -- ---- all faces, from face k on: what is kept so far leads where all faces lead from the start
 
-pub tables_again : (ps es ns old new : List ℕ) → Tables ps es ns old → length new ≡ length old → Tables ps es ns new
-tables_again ps es ns old new t e =
-    record { patterns = t.patterns; expressions = t.expressions; nested = t.nested; numbers = t.numbers; room = omega (arith, t.room) }
-
-pub record Going (ps es ns : List ℕ) (functions : ℕ) (nodes row faces : List ℕ) (end : Option (List ℕ)) (k : ℕ) (kept : List ℕ)
+pub record Going (ps es ns : List ℕ) (functions : ℕ) (nodes row faces : List ℕ) (end : Option Nodes) (k : ℕ) (kept : Nodes)
     : Type 0 where
   pub inside : Kept ns kept
   pub slots : All (Slots ps es ns functions nodes row) (drop k faces)
   pub leads : faces_kept (told ns) ps es functions nodes row (drop k faces) kept ≡ end
 
-module _ (ps es ns : List ℕ) (functions : ℕ) (nodes row faces : List ℕ) (end : Option (List ℕ)) (k : ℕ) (kept : List ℕ)
+module _ (ps es ns : List ℕ) (functions : ℕ) (nodes row faces : List ℕ) (end : Option Nodes) (k : ℕ) (kept : Nodes)
     (g : Going ps es ns functions nodes row faces end k kept) where
-  pub going_ends : length faces ≤ k → Answers end (record { ok = true; sources = record { nodes = kept } })
+  pub going_ends : length faces ≤ k → Answers end (Some (record { nodes = kept }))
   unfolding faces_kept
   going_ends h =
-      subst (λ (o : Option (List ℕ)). Answers o (record { ok = true; sources = record { nodes = kept } }))
+      subst (λ (o : Option Nodes). Answers o (Some (record { nodes = kept })))
       (sym (ap (λ (ms : List ℕ). faces_kept (told ns) ps es functions nodes row ms kept) (drop_of_length-le faces {i = k} h)) ∙ g.leads)
-      (answers_yes kept)
+      refl
 
   module _ (h : k < length faces) where
     rest : drop k faces ≡ at faces k ∷ drop (suc k) faces
@@ -222,29 +214,27 @@ module _ (ps es ns : List ℕ) (functions : ℕ) (nodes row faces : List ℕ) (e
     pub going_slots : Slots ps es ns functions nodes row (at faces k)
     going_slots = both.0
 
-    next : Option (List ℕ) → Option (List ℕ)
+    next : Option Nodes → Option Nodes
     next o = and_then o (λ ms. faces_kept (told ns) ps es functions nodes row (drop (suc k) faces) ms)
 
     goes : next (face_kept (told ns) ps es functions nodes row (at faces k) kept) ≡ end
     unfolding faces_kept next
     goes = sym (ap (λ (ms : List ℕ). faces_kept (told ns) ps es functions nodes row ms kept) rest) ∙ g.leads
 
-    module _ (r : Agreed) (a : Answers (face_kept (told ns) ps es functions nodes row (at faces k) kept) r) where
-      pub going_fails : not r.ok ≡ true → Answers end r
+    module _ (r : std.Option Sources) (a : Answers (face_kept (told ns) ps es functions nodes row (at faces k) kept) r) where
+      pub going_fails : r ≡ None → Answers end None
       unfolding next
-      going_fails t =
-          let e : r.ok ≡ false = sym (not-not r.ok) ∙ ap not t in
+      going_fails e =
           let q = answer_none (face_kept (told ns) ps es functions nodes row (at faces k) kept) r a e in
-          subst (λ (o : Option (List ℕ)). Answers o r) (sym (ap next q) ∙ goes) (record { ok = e; nodes = λ ms f. never (cc) })
+          ap sources_of (sym (ap next q) ∙ goes)
 
-      pub going_on : not r.ok ≡ false → Going ps es ns functions nodes row faces end (k + 1) r.sources.nodes
+      pub going_on : (t : Sources) → r ≡ Some t → Going ps es ns functions nodes row faces end (k + 1) t.nodes
       unfolding next
-      going_on t =
-          let q =
-          answer_some (face_kept (told ns) ps es functions nodes row (at faces k) kept) r a (sym (not-not r.ok) ∙ ap not t) in
+      going_on t e =
+          let q = answer_some (face_kept (told ns) ps es functions nodes row (at faces k) kept) r a t e in
           let z : k + 1 ≡ suc k = omega arith in
           rw z (record {
-            inside = face_stays ps es ns functions nodes row (at faces k) kept r.sources.nodes both.0 g.inside q;
+            inside = face_stays ps es ns functions nodes row (at faces k) kept t.nodes both.0 g.inside q;
             slots = both.1;
             leads = sym (ap next q) ∙ goes;
           })
@@ -254,26 +244,25 @@ module _ (ps es ns : List ℕ) (functions : ℕ) (nodes row faces : List ℕ) (e
 -- Before any demand
 pub none_kept_lem : (ns : List ℕ) → Kept ns none_kept
 unfolding metavariable_count
-none_kept_lem ns = record { long = refl; inside = λ m h o. absurd (o (get_or-replicate 32 m open_node 0 h)) }
+none_kept_lem ns = record { long = refl; inside = λ m h node e. let q : first_of none_kept m ≡ None = get_or-replicate 32 m None None h in never (cc) }
 
-module _ (ps es ns faces : List ℕ) (functions : ℕ) (firsts : Firsts) (row : List ℕ) (r : Agreed)
+module _ (ps es ns faces : List ℕ) (functions : ℕ) (firsts : Firsts) (row : List ℕ) (r : std.Option Sources)
     (a : Answers (kept_after (told ns) none_kept (demands_in ps faces)) r) where
-  pub plain_fails : not r.ok ≡ true → Answers (demanded_at (told ns) ps es faces functions firsts row) r
+  pub plain_fails : r ≡ None → Answers (demanded_at (told ns) ps es faces functions firsts row) None
   unfolding demanded_at
-  plain_fails t =
-      let e : r.ok ≡ false = sym (not-not r.ok) ∙ ap not t in
+  plain_fails e =
       let q = answer_none (kept_after (told ns) none_kept (demands_in ps faces)) r a e in
-      rw q (record { ok = e; nodes = λ ms f. never (cc) })
+      rw q refl
 
-  module _ (t : not r.ok ≡ false) where
-    plain_some : kept_after (told ns) none_kept (demands_in ps faces) ≡ some r.sources.nodes
-    plain_some = answer_some (kept_after (told ns) none_kept (demands_in ps faces)) r a (sym (not-not r.ok) ∙ ap not t)
+  module _ (t : Sources) (e : r ≡ Some t) where
+    plain_some : kept_after (told ns) none_kept (demands_in ps faces) ≡ some t.nodes
+    plain_some = answer_some (kept_after (told ns) none_kept (demands_in ps faces)) r a t e
 
-    pub plain_stays : All (Demandable ps ns) faces → Kept ns r.sources.nodes
+    pub plain_stays : All (Demandable ps ns) faces → Kept ns t.nodes
     plain_stays s =
-        kept_stays (told ns) ns none_kept (demands_in ps faces) r.sources.nodes (none_kept_lem ns) (reads_ask ps ns faces s) plain_some
+        kept_stays (told ns) ns none_kept (demands_in ps faces) t.nodes (none_kept_lem ns) (reads_ask ps ns faces s) plain_some
 
-    pub then_applied : (v : Agreed) → Answers (faces_kept (told ns) ps es functions firsts.nodes row faces r.sources.nodes) v
+    pub then_applied : (v : std.Option Sources) → Answers (faces_kept (told ns) ps es functions firsts.nodes row faces t.nodes) v
         → Answers (demanded_at (told ns) ps es faces functions firsts row) v
     unfolding demanded_at
     then_applied v w = rw plain_some w
@@ -281,19 +270,25 @@ module _ (ps es ns faces : List ℕ) (functions : ℕ) (firsts : Firsts) (row : 
 -- ---- the answer
 
 module _ (ps es ns faces : List ℕ) (functions : ℕ) (firsts : Firsts) (row : List ℕ) where
-  pub judges_open : not (bodies_closed es (listed firsts) row) ≡ true → (nodes : List ℕ)
-      → Judges (judged_at (told ns) ps es faces functions firsts row) (record { solves = false; sources = record { nodes = nodes } })
+  pub judges_open : bodies_closed es (listed firsts) row ≡ false → Answers (judged_at (told ns) ps es faces functions firsts row) None
   unfolding judged_at
-  judges_open e nodes =
-      let f : bodies_closed es (listed firsts) row ≡ false = sym (not-not _) ∙ ap not e in
-      rw f (record { solves = refl; nodes = λ kept q. never (cc) })
+  judges_open e = rw e refl
 
-  pub closed_all : not (bodies_closed es (listed firsts) row) ≡ false → bodies_closed es (listed firsts) row ≡ true
-  closed_all e = sym (not-not _) ∙ ap not e
-
-  pub judges_closed : bodies_closed es (listed firsts) row ≡ true → (r : Agreed)
-      → Answers (demanded_at (told ns) ps es faces functions firsts row) r
-      → Judges (judged_at (told ns) ps es faces functions firsts row)
-      (record { solves = r.ok; sources = record { nodes = r.sources.nodes } })
+  pub judges_closed : bodies_closed es (listed firsts) row ≡ true → (r : std.Option Sources)
+      → Answers (demanded_at (told ns) ps es faces functions firsts row) r → Answers (judged_at (told ns) ps es faces functions firsts row) r
   unfolding judged_at
-  judges_closed e r a = rw e (record { solves = a.ok; nodes = a.nodes })
+  judges_closed e r a = rw e a
+
+-- ---- what each function cites
+
+pub ruleset closing = (read_mask, closed_ends, closed_fails, closed_next)
+
+pub ruleset applying = (application_unsuited, application_open, application_filled)
+
+pub ruleset facing = (masks_at, face_plain, face_applies)
+
+pub ruleset going = (going_slots, going_fails, going_ends)
+
+pub ruleset plain = (plain_fails, plain_stays)
+
+pub ruleset judging = (judges_open, judges_closed)

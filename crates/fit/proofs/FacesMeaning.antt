@@ -33,7 +33,6 @@ use Rattle.meaning.proofs.ChoiceLaws.{rows_are}
 use Rattle.meaning.proofs.Solutions.{row_body_shape}
 use Rattle.tokens.specs.Token.{tag_in, payload_in, payload_of, pattern_tokens, expression_tokens}
 use Rattle.tokens.specs.Key.{at}
-use Rattle.tokens.proofs.ProblemTokens.{expression_table_lem}
 use Rattle.numbers.specs.Tests.{Tests}
 use Rattle.metavariables.specs.Survey.{count}
 use Rattle.lockstep.specs.Walk.{pattern_node}
@@ -43,7 +42,8 @@ use Rattle.faces.proofs.NodeTokens.{AtNode, node_tag, node_payload, pattern_node
 use Rattle.demands.specs.Demand.{each_some, application_lowest, slot_lowest, lowest_in}
 use Rattle.demands.specs.Fit.{Suits}
 use Rattle.bodies.proofs.HoleTests.{Spotted}
-use Rattle.sources.specs.Demand.{open_node, demands_in, kept_after}
+use Rattle.std.specs.Prelude.{None}
+use Rattle.sources.specs.Demand.{Nodes, demands_in, kept_after}
 use Rattle.sources.proofs.KeptMeaning as meaning
 use Rattle.sources.proofs.KeptMeaning.{kept_means}
 use Rattle.sources.proofs.RecordedDemands.{MovedFace, slot_fits, recorded_say}
@@ -73,7 +73,7 @@ pub record Applied (p : Problem) (s : ℕ) (firsts : Firsts) (r : Row) (n : ℕ)
 -- Before any demand nothing is kept
 none_first : (es : List ℕ) → meaning.Firsts es none_kept []
 unfolding metavariable_count
-none_first es = record { long = refl; nodes = λ m h. get_or-replicate 32 m open_node 0 h; said = λ m k e. never (cc) }
+none_first es = record { long = refl; nodes = λ m h. get_or-replicate 32 m None None h; said = λ m k e. never (cc) }
 
 -- A term stands under no more binders than it does
 still : (es : List ℕ) (j : ℕ) (t : Term) → AtNode es j t → meaning.MovedAt es j t
@@ -135,7 +135,7 @@ module _ (p : Problem) (q : Tests) (ns : List ℕ) (s : ℕ) (firsts : Firsts)
       }
 
   -- A face of another kind makes no test
-  plain_slot : (n : ℕ) (x : Face) → RecordedFace p n x → (kept : List ℕ) → eqb (tag_of (slot x.what)) 6 ≡ false
+  plain_slot : (n : ℕ) (x : Face) → RecordedFace p n x → (kept : Nodes) → eqb (tag_of (slot x.what)) 6 ≡ false
       → face_kept q ps es s firsts.nodes row n kept ≡ some kept
   unfolding face_kept
   plain_slot n x recorded kept e =
@@ -148,7 +148,7 @@ module _ (p : Problem) (q : Tests) (ns : List ℕ) (s : ℕ) (firsts : Firsts)
     -- That of an application
     application_face : (n : ℕ) (x : Face) → RecordedFace p n x → Spotted es 0 x → (f k : ℕ) → x.what ≡ function f k
         → Applied p s firsts r n x f
-        → (kept : List ℕ) (ks : List Source) → meaning.Firsts es kept ks
+        → (kept : Nodes) (ks : List Source) → meaning.Firsts es kept ks
         → Step es (face_kept q ps es s firsts.nodes row n kept) ks (Suits (row_body p r f) x.term)
         (application_lowest (row_body p r f) k x)
     unfolding face_kept row_body
@@ -161,13 +161,13 @@ module _ (p : Problem) (q : Tests) (ns : List ℕ) (s : ℕ) (firsts : Firsts)
         (choose_true _ _ (ap (λ (g : ℕ). eqb g 6) a.tag)) in
         subst (λ (c : ℕ). Step es (face_kept q ps es s firsts.nodes row n kept) ks (Suits (row_body p r f) x.term)
         (application_lowest (row_body p r f) c x)) one_argument
-        (subst (λ (o : Option (List ℕ)). Step es o ks (Suits (row_body p r f) x.term) (application_lowest (row_body p r f) 1 x)) same
+        (subst (λ (o : Option Nodes). Step es o ks (Suits (row_body p r f) x.term) (application_lowest (row_body p r f) 1 x)) same
         (application_step p l.accepted.within n f x recorded a.applies spotted node (face_of p f) a.rank.face a.is_face ms
         a.rank.choice
         a.rank.small a.is_body (closed f a.is_function) q l.tells kept ks first))
 
     -- One face
-    face_step : (n : ℕ) (x : Face) → RecordedFace p n x → x ∈ l.found → Spotted es 0 x → (kept : List ℕ) (ks : List Source)
+    face_step : (n : ℕ) (x : Face) → RecordedFace p n x → x ∈ l.found → Spotted es 0 x → (kept : Nodes) (ks : List Source)
         → meaning.Firsts es kept ks
         → Step es (face_kept q ps es s firsts.nodes row n kept) ks (SlotFits (row_body p r) x x.what)
         (slot_lowest (row_body p r) x x.what)
@@ -176,7 +176,7 @@ module _ (p : Problem) (q : Tests) (ns : List ℕ) (s : ℕ) (firsts : Firsts)
         plain : (z : Slot) → x.what ≡ z → eqb (tag_of (slot z)) 6 ≡ false
             → Step es (face_kept q ps es s firsts.nodes row n kept) ks (Unit {0}) (some [])
         plain z e t =
-            subst (λ (o : Option (List ℕ)). Step es o ks (Unit {0}) (some []))
+            subst (λ (o : Option Nodes). Step es o ks (Unit {0}) (some []))
             (sym (plain_slot n x recorded kept (ap (λ (y : Slot). eqb (tag_of (slot y)) 6) e ∙ t))) (step_nothing es ks kept first)
 
         go : (z : Slot) → x.what ≡ z
@@ -187,7 +187,7 @@ module _ (p : Problem) (q : Tests) (ns : List ℕ) (s : ℕ) (firsts : Firsts)
 
     -- All of them
     faces_step : (ms : List ℕ) (xs : List Face) → Recorded p ms xs → ((x : Face) → x ∈ xs → x ∈ l.found) → All (Spotted es 0) xs
-        → (kept : List ℕ) (ks : List Source) → meaning.Firsts es kept ks
+        → (kept : Nodes) (ks : List Source) → meaning.Firsts es kept ks
         → Step es (faces_kept q ps es s firsts.nodes row ms kept) ks (All (λ x. SlotFits (row_body p r) x x.what) xs)
         (each_some (λ x. slot_lowest (row_body p r) x x.what) xs)
     unfolding faces_kept
@@ -210,7 +210,7 @@ module _ (p : Problem) (q : Tests) (ns : List ℕ) (s : ℕ) (firsts : Firsts)
         (All (λ x. SlotFits (row_body p r) x x.what) l.found) (some (each source_of l.found))
         (each_some (λ x. slot_lowest (row_body p r) x x.what) l.found)
         (step_told es [] (kept_after q none_kept (demands_in ps ns)) (each source_of l.found)
-        (kept_means es (expression_table_lem p l.accepted.within).small q l.tells none_kept [] (demands_in ps ns)
+        (kept_means es q l.tells none_kept [] (demands_in ps ns)
         (each source_of l.found) (none_first es)
         (recorded_say ps es _ _ _ (pattern_node_lem p l.accepted.within) ns l.found l.recorded
         (recorded_moved p ns l.found l.recorded all_spotted))))

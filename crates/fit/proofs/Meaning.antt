@@ -2,7 +2,7 @@
 use mathlib.Core.Path.{◌≡◌, refl, ap, sym, ◌∙◌, subst}
 use mathlib.Core.Bool.{Bool, true, false}
 use mathlib.Core.List.{List}
-use mathlib.Core.Option.{Option, some}
+use mathlib.Core.Option.{Option, none, some}
 use Prim.Native.Nat.{ℕ, ◌<◌}
 use Rattle.meaning.specs.Limits.{metavariable_count}
 use Rattle.meaning.specs.Basics.{All, guard, is_some, ◌∈◌, and_then}
@@ -20,7 +20,6 @@ use Rattle.meaning.proofs.Proper.{accepted_proper, applied_functions}
 use Rattle.meaning.proofs.OneWay.{faces_walk}
 use Rattle.meaning.proofs.Slots.{faced_applied}
 use Rattle.tokens.specs.Token.{pattern_tokens, expression_tokens}
-use Rattle.tokens.specs.Key.{at}
 use Rattle.numbers.specs.Tests.{Tests}
 use Rattle.masks.proofs.Cases.{same_truth}
 use Rattle.faces.specs.First.{listed}
@@ -32,9 +31,15 @@ use Rattle.demands.proofs.DemandedSources.{demands_are_sources}
 use Rattle.demands.proofs.FitLaws.{faced_by_lem, by_faced, solves_together}
 use Rattle.sources.proofs.KeptMeaning as meaning
 use Rattle.sources.proofs.KeptMeaning.{node_of}
-use Rattle.fit.specs.Judging.{bodies_closed, demanded_at, judged_at, Judges}
+use Rattle.sources.specs.Demand.{Nodes, first_of}
+use Rattle.sources.specs.Kept.{sources_of, Answers}
+use Rattle.sources.specs.declared.Sources.{Sources}
+use Rattle.sources.proofs.KeptLaws.{answer_some}
+use Rattle.fit.specs.Judging.{bodies_closed, demanded_at, judged_at}
 use Rattle.fit.specs.Laid.{Laid, RowOf}
-use Rattle.fit.specs.declared.Judged.{Judged}
+use Rattle.std.specs.Prelude.{Some}
+use Rattle.std.specs.Prelude as std
+use Rattle.std.specs.Option as answered
 use Rattle.fit.proofs.Functions.{laid_own, bodies_closed_in, bodies_closed_out}
 use Rattle.fit.proofs.FacesMeaning.{SlotFits, demanded_step}
 
@@ -48,7 +53,7 @@ module _ (p : Problem) (q : Tests) (ns : List ℕ) (s : ℕ) (firsts : Firsts)
   abbrev es : List ℕ
   es = expression_tokens p
 
-  abbrev answer : Option (List ℕ)
+  abbrev answer : Option Nodes
   answer = judged_at q (pattern_tokens p) es ns s firsts (masks_of r)
 
   abbrev fits : Face → Type 0
@@ -62,7 +67,7 @@ module _ (p : Problem) (q : Tests) (ns : List ℕ) (s : ℕ) (firsts : Firsts)
   demands_are = ap (λ (o : Option (List Face)). and_then o (lowest_in b)) l.agree
 
   -- An answer is that of a row that fits, and its nodes are those of the sources
-  judged_in : (kept : List ℕ) → answer ≡ some kept → FitsTogether p r × meaning.Firsts es kept (sources p r)
+  judged_in : (kept : Nodes) → answer ≡ some kept → FitsTogether p r × meaning.Firsts es kept (sources p r)
   unfolding judged_at row_body
   judged_in kept e =
       let (c, d) =
@@ -109,29 +114,36 @@ module _ (p : Problem) (q : Tests) (ns : List ℕ) (s : ℕ) (firsts : Firsts)
       (λ b. let (kept, e) = is_some_lem answer b in t.1 (judged_in kept e).0)
       (λ b. judged_out (t.0 b))
 
-  judged_sources : (kept : List ℕ) → answer ≡ some kept → (m : ℕ) → m < metavariable_count → at kept m ≡ node_of (lookup m (sources p r))
+  judged_sources : (kept : Nodes) → answer ≡ some kept → (m : ℕ) → m < metavariable_count → first_of kept m ≡ node_of (lookup m (sources p r))
   judged_sources kept e m h = (judged_in kept e).1.nodes m h
 
 -- The answer for a row
-pub record Judgement (p : Problem) (r : Row) (a : Judged) : Type 0 where
-  pub solution : a.solves ≡ solves p r
+pub record Judgement (p : Problem) (r : Row) (a : std.Option Sources) : Type 0 where
+  pub solution : answered.is_some a ≡ solves p r
   -- "A value comes from the metavariable's first occurrence outside arguments, else from the first application ..": its node, or none
-  pub source : a.solves ≡ true → (m : ℕ) → m < metavariable_count → at a.sources.nodes m ≡ node_of (lookup m (sources p r))
+  pub source : (t : Sources) → a ≡ Some t → (m : ℕ) → m < metavariable_count → first_of t.nodes m ≡ node_of (lookup m (sources p r))
+
+-- Whether there is an answer
+pub answers_some : (o : Option Nodes) (a : std.Option Sources) → Answers o a → answered.is_some a ≡ is_some o
+answers_some o a e = ap (λ (x : std.Option Sources). answered.is_some x) e ∙ by_cases o
+  where
+    by_cases : (w : Option Nodes) → answered.is_some (sources_of w) ≡ is_some w
+    by_cases none = refl
+    by_cases (some kept) = refl
 
 -- THE THEOREM
 pub judge_means : (p : Problem) (q : Tests) (ps es ns : List ℕ) (s : ℕ) (firsts : Firsts) → Laid p q ps es ns s firsts
-    → (row : List ℕ) (o : RowOf p row) (a : Judged)
-    → Judges (judged_at q ps es ns s firsts row) a → Judgement p o.choices a
+    → (row : List ℕ) (o : RowOf p row) (a : std.Option Sources)
+    → Answers (judged_at q ps es ns s firsts row) a → Judgement p o.choices a
 judge_means p q ps es ns s firsts l row o a j =
     let own = laid_own p q ps es ns s firsts l in
     let r : Row = o.choices in
-    let mine : Judges (judged_at q (pattern_tokens p) (expression_tokens p) ns s firsts (masks_of r)) a =
-    subst (λ (t : List ℕ). Judges (judged_at q (pattern_tokens p) (expression_tokens p) ns s firsts t) a) o.masks
-    (subst (λ (t : List ℕ). Judges (judged_at q (pattern_tokens p) t ns s firsts row) a) l.expressions
-    (subst (λ (t : List ℕ). Judges (judged_at q t es ns s firsts row) a) l.patterns j)) in
+    let mine : Answers (judged_at q (pattern_tokens p) (expression_tokens p) ns s firsts (masks_of r)) a =
+    subst (λ (t : List ℕ). Answers (judged_at q (pattern_tokens p) (expression_tokens p) ns s firsts t) a) o.masks
+    (subst (λ (t : List ℕ). Answers (judged_at q (pattern_tokens p) t ns s firsts row) a) l.expressions
+    (subst (λ (t : List ℕ). Answers (judged_at q t es ns s firsts row) a) l.patterns j)) in
+    let judged : Option Nodes = judged_at q (pattern_tokens p) (expression_tokens p) ns s firsts (masks_of r) in
     record {
-      solution = mine.solves ∙ solved p q ns s firsts own r o.is_row;
-      source = λ b m h.
-          let (kept, e) = is_some_lem (judged_at q (pattern_tokens p) (expression_tokens p) ns s firsts (masks_of r)) (sym mine.solves ∙ b) in
-          ap (λ (ks : List ℕ). at ks m) (mine.nodes kept e) ∙ judged_sources p q ns s firsts own r o.is_row kept e m h;
+      solution = answers_some judged a mine ∙ solved p q ns s firsts own r o.is_row;
+      source = λ t e m h. judged_sources p q ns s firsts own r o.is_row t.nodes (answer_some judged a mine t e) m h;
     }

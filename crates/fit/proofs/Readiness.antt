@@ -20,7 +20,6 @@ use Rattle.meaning.specs.PlaceValue.{masks_of}
 use Rattle.meaning.proofs.Lists.{never}
 use Rattle.tokens.specs.Token.{tag_in, pattern_tokens, expression_tokens}
 use Rattle.tokens.specs.Key.{at, Inside}
-use Rattle.tokens.proofs.ProblemTokens.{pattern_table_lem, expression_table_lem}
 use Rattle.tokens.proofs.KeyLaws.{stands_inside}
 use Rattle.numbers.specs.Tests.{told}
 use Rattle.lockstep.specs.Walk.{pattern_node}
@@ -31,7 +30,6 @@ use Rattle.faces.specs.declared.first.Firsts.{Firsts}
 use Rattle.faces.proofs.NodeTokens.{AtNode, node_inside, node_tag, pattern_node_lem, expression_node_lem}
 use Rattle.faces.proofs.ArgumentWalk.{argument_inside}
 use Rattle.bodies.proofs.HoleTests.{Spotted}
-use Rattle.numbers.proofs.ProblemTable.{table_numerable}
 use Rattle.sources.specs.Kept.{Demandable}
 use Rattle.sources.proofs.RecordedDemands.{recorded_reads}
 use Rattle.fit.specs.Judging.{rank_at}
@@ -68,7 +66,6 @@ module _ (p : Problem) (ks ns : List ℕ) (s : ℕ) (firsts : Firsts) (l : Laid 
 
   bodies_ready : Bodies es firsts row
   bodies_ready = record {
-    table = expression_table_lem p l.accepted.within;
     fits = l.fits;
     inside = λ k h.
         let (f, e) =
@@ -139,13 +136,7 @@ module _ (p : Problem) (ks ns : List ℕ) (s : ℕ) (firsts : Firsts) (l : Laid 
 
   ready : (scratch : List ℕ) → length ps ≤ length scratch → Ready ps es ks ns s firsts row scratch
   ready scratch room = record {
-    tables = record {
-      patterns = pattern_table_lem p l.accepted.within;
-      expressions = expression_table_lem p l.accepted.within;
-      nested = (table_numerable p l.accepted.within).inside;
-      numbers = long;
-      room = room;
-    };
+    room = room;
     bodies = bodies_ready;
     reads = recorded_reads ps es _ _ _ (pattern_node_lem p l.accepted.within) ks long ns l.found l.recorded
         (recorded_moved p ns l.found l.recorded spotted);

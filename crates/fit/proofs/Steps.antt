@@ -10,10 +10,11 @@ use Rattle.meaning.specs.Value.{Source, lookup}
 use Rattle.meaning.proofs.Lists.{never, T_true, true_T, and_T, T_and, is_some_lem}
 use Rattle.demands.specs.Agreeing.{agrees_with, agree_after}
 use Rattle.demands.proofs.Answers.{then_some, joined}
+use Rattle.sources.specs.Demand.{Nodes}
 use Rattle.sources.proofs.KeptMeaning.{Firsts, Told}
 
-pub record Step (es : List ℕ) (o : Option (List ℕ)) (ks : List Source) (fits : Type 0) (demands : Option (List Source)) : Type 0 where
-  pub into : (kept : List ℕ) → o ≡ some kept
+pub record Step (es : List ℕ) (o : Option Nodes) (ks : List Source) (fits : Type 0) (demands : Option (List Source)) : Type 0 where
+  pub into : (kept : Nodes) → o ≡ some kept
       → fits × ((ds : List Source) × (demands ≡ some ds) × (agree_after ks ds ≡ true) × Firsts es kept (ks ++ ds))
   pub back : fits → (ds : List Source) → demands ≡ some ds → agree_after ks ds ≡ true → is_some o ≡ true
 
@@ -32,7 +33,7 @@ agree_append ks (d ∷ ds) ds' =
 
 module _ (es : List ℕ) (ks : List Source) where
   -- Nothing is demanded
-  pub step_nothing : (kept : List ℕ) → Firsts es kept ks → Step es (some kept) ks (Unit {0}) (some [])
+  pub step_nothing : (kept : Nodes) → Firsts es kept ks → Step es (some kept) ks (Unit {0}) (some [])
   step_nothing kept f = record {
     into = λ k e. (
       tt,
@@ -40,7 +41,7 @@ module _ (es : List ℕ) (ks : List Source) where
         [],
         refl,
         refl,
-        subst (λ (l : List ℕ). Firsts es l (ks ++ [])) (let q : kept ≡ k = cc in q)
+        subst (λ (l : Nodes). Firsts es l (ks ++ [])) (let q : kept ≡ k = cc in q)
             (subst (Firsts es kept) (sym (append-nil ks)) f),
       ),
     );
@@ -52,14 +53,14 @@ module _ (es : List ℕ) (ks : List Source) where
   step_none fits = record { into = λ k e. never (cc); back = λ u ds e a. never (cc) }
 
   -- Demands on the table
-  pub step_told : (o : Option (List ℕ)) (ss : List Source) → Told es o ks ss → Step es o ks (Unit {0}) (some ss)
+  pub step_told : (o : Option Nodes) (ss : List Source) → Told es o ks ss → Step es o ks (Unit {0}) (some ss)
   step_told o ss t = record {
     into = λ k e. (tt, (ss, refl, sym t.test ∙ ap is_some e, t.nodes k e));
     back = λ u ds e a. t.test ∙ ap (agree_after ks) (let q : ss ≡ ds = cc in q) ∙ a;
   }
 
   -- Something that has to fit besides
-  pub step_guard : (b : Bool) (o : Option (List ℕ)) (fits : Type 0) (demands : Option (List Source)) → (b ≡ true → fits) → (fits → b ≡ true)
+  pub step_guard : (b : Bool) (o : Option Nodes) (fits : Type 0) (demands : Option (List Source)) → (b ≡ true → fits) → (fits → b ≡ true)
       → (fits → Step es o ks (Unit {0}) demands) → Step es (guard b o) ks fits demands
   step_guard true o fits demands to from s = record {
     into = λ k e. (to refl, ((s (to refl)).into k e).1);
@@ -68,13 +69,13 @@ module _ (es : List ℕ) (ks : List Source) where
   step_guard false o fits demands to from s = record { into = λ k e. never (cc); back = λ u ds e a. never (cc (from u)) }
 
   -- One step and then another
-  pub step_then : (o : Option (List ℕ)) (next : List ℕ → Option (List ℕ)) (fits fits' : Type 0) (demands demands' : Option (List Source))
+  pub step_then : (o : Option Nodes) (next : Nodes → Option Nodes) (fits fits' : Type 0) (demands demands' : Option (List Source))
       → Step es o ks fits demands
-      → ((kept : List ℕ) (ds : List Source) → Firsts es kept (ks ++ ds) → Step es (next kept) (ks ++ ds) fits' demands')
+      → ((kept : Nodes) (ds : List Source) → Firsts es kept (ks ++ ds) → Step es (next kept) (ks ++ ds) fits' demands')
       → Step es (and_then o next) ks (fits × fits') (join demands demands')
   step_then o next fits fits' demands demands' s s' = record { into = into; back = back }
     where
-      into : (kept : List ℕ) → and_then o next ≡ some kept
+      into : (kept : Nodes) → and_then o next ≡ some kept
           → (fits × fits') × ((ds : List Source) × (join demands demands' ≡ some ds) × (agree_after ks ds ≡ true) × Firsts es kept
           (ks ++ ds))
       into kept e =
@@ -98,11 +99,11 @@ module _ (es : List ℕ) (ks : List Source) where
           let (k, i) = is_some_lem o (s.back u.0 ds d (T_true t)) in
           let (v, (es', d'', a'', f)) = s.into k i in
           let same : es' ≡ ds = let q : some es' ≡ some ds = sym d'' ∙ d in cc in
-          ap (λ (x : Option (List ℕ)). is_some (and_then x next)) i
+          ap (λ (x : Option Nodes). is_some (and_then x next)) i
           ∙ (s' k ds (subst (λ (l : List Source). Firsts es k (ks ++ l)) same f)).back u.1 ds' d' (T_true t')
 
   -- The same demands, and what fits said in another way
-  pub step_as : (o : Option (List ℕ)) (fits fits' : Type 0) (demands demands' : Option (List Source)) → (fits → fits') → (fits' → fits)
+  pub step_as : (o : Option Nodes) (fits fits' : Type 0) (demands demands' : Option (List Source)) → (fits → fits') → (fits' → fits)
       → demands ≡ demands' → Step es o ks fits demands → Step es o ks fits' demands'
   step_as o fits fits' demands demands' to from e s = record {
     into = λ k q. let (u, (ds, d, a, f)) = s.into k q in (to u, (ds, sym e ∙ d, a, f));

@@ -1,7 +1,6 @@
 -- What the code asks of the tables and of a row, said of the tables' entries alone. The tables of a problem and the masks of one of its rows have
 -- all of it (proofs/Readiness).
 --   ns           the table of the numbers by which what is asked of the expressions' nodes is told, one for each node
---   Tables       the two tables, a number for each node of the expressions, and room for the faces of an argument
 --   Bodies       a face for each function, and a mask
 --   Applicable   of one application, by the face and the mask of its function: what it faces, and, where the body has a hole and suits, the
 --                walk of the argument, can be looked up
@@ -11,26 +10,18 @@ use Rattle.std.specs.Prelude.{◌≡◌, ℕ, ◌+◌, ◌<◌, ◌≤◌, true,
 use Rattle.std.proofs.Math.Option.{some}
 use Rattle.meaning.specs.Limits.{metavariable_count, max_functions}
 use Rattle.meaning.specs.Basics.{All}
-use Rattle.tokens.specs.Token.{Table, tag_in, size_in, payload_in}
+use Rattle.tokens.specs.Token.{tag_in, size_in, payload_in}
 use Rattle.tokens.specs.Key.{at, Inside}
 use Rattle.numbers.specs.Tests.{told}
 use Rattle.lockstep.specs.Walk.{pattern_node, expression_node}
 use Rattle.lockstep.specs.Span.{span_walk}
 use Rattle.faces.specs.First.{listed, FirstsFit}
 use Rattle.faces.specs.declared.first.Firsts.{Firsts}
-use Rattle.bodies.specs.Suits.{suits_at, Nested}
+use Rattle.bodies.specs.Suits.{suits_at}
 use Rattle.sources.specs.Kept.{Demandable}
 use Rattle.fit.specs.Judging.{bodies_closed, hole_node, argument_span, rank_at}
 
-pub record Tables (ps es ns scratch : List ℕ) : Type 0 where
-  pub patterns : Table ps
-  pub expressions : Table es
-  pub nested : Nested es
-  pub numbers : length ns ≡ length es
-  pub room : length ps ≤ length scratch
-
 pub record Bodies (es : List ℕ) (firsts : Firsts) (row : List ℕ) : Type 0 where
-  pub table : Table es
   pub fits : FirstsFit firsts
   pub inside : (k : ℕ) → k < firsts.count → Inside es (at firsts.nodes k)
   pub masks : length row ≡ max_functions
@@ -55,7 +46,8 @@ pub record Slots (ps es ns : List ℕ) (functions : ℕ) (nodes row : List ℕ) 
       → Applicable ps es ns n (at nodes (rank_at ps functions n)) (at row (rank_at ps functions n))
 
 pub record Ready (ps es ns faces : List ℕ) (functions : ℕ) (firsts : Firsts) (row scratch : List ℕ) : Type 0 where
-  pub tables : Tables ps es ns scratch
+  -- for the faces of an argument
+  pub room : length ps ≤ length scratch
   pub bodies : Bodies es firsts row
   pub reads : All (Demandable ps ns) faces
   -- a body that is not closed is never walked

@@ -1,130 +1,93 @@
 // An open search, held from call to call. What is asked for has 5 bytes for each call: 1 where the call is handed the byte 07 in place of
 // the problem, which is refused (2), and else 0; and an allowance of 4 bytes.
-ghost use Rattle.std.specs.Prelude.{◌+◌, ◌≤◌, length};
 ghost use Rattle.matcher.specs.Opened.{OpenAnswers};
 
-use lines::input::number_at;
-use lines::output::{bad, end_line, print, print_number};
+use lines::output::bad;
 use masks::NodeSet;
-use matcher::{Answer, Moved, OpenSearch, Place, Reply, Start, search_open, search_owned};
+use matcher::{Answer, Moved, OpenSearch, Place, search_open};
+use refusal::Refusal;
+use std::io::Result as Written;
 
 // The open search is lent to the call.
-fn lend(kept: OpenSearch, problem: &[u8], n: u32) -> Moved
-    ensures { OpenAnswers problem.now kept.place n result.search.place result.reply }
+pub fn lend(kept: OpenSearch, problem: &[u8], n: u32) -> Moved
+    ensures { OpenAnswers problem.now kept.place n result.search.place result.answer }
 {
     let mut search = kept;
-    let reply = search_open(&mut search, problem, n);
-    Moved {
-        search: search,
-        reply: reply,
+    let answer = search_open(&mut search, problem, n);
+    Moved { search, answer }
+}
+
+fn print_sets(rt: &impl Print, sets: &[NodeSet]) -> Written<()> {
+    for set in sets {
+        for word in set.words {
+            print!(rt; " {word}")?;
+        }
     }
+    Ok(())
 }
 
-// Lent, or handed over and back.
-fn call(lent: bool, kept: OpenSearch, problem: &[u8], n: u32) -> Moved {
-    if lent {
-        lend(kept, problem, n)
-    } else {
-        search_owned(kept, problem, n)
-    }
-}
-
-fn print_word(word: u64) {
-    print(b" ");
-    print_number(word);
-}
-
-fn print_sets(sets: [NodeSet; Place::MAX_FUNCTIONS]) {
-    let mut k = 0;
-    while k < Place::MAX_FUNCTIONS {
-        let set = sets[k];
-        print_word(set.w0);
-        print_word(set.w1);
-        print_word(set.w2);
-        print_word(set.w3);
-        k += 1;
-    }
-}
-
-fn print_place(place: Place) {
-    print(b"holds");
+fn print_place(rt: &impl Print, place: Place) -> Written<()> {
+    print!(rt; "holds")?;
     if place.past {
-        print(b" past the last");
+        println!(rt; " past the last")
     } else {
-        let sets = place.sets;
-        print_sets(sets);
+        print_sets(rt, &place.sets)?;
+        println!(rt; "")
     }
-    end_line();
 }
 
-fn print_reply(reply: Reply) {
-    let answer = reply.answer;
+fn print_answer(rt: &impl Print, answer: Result<Answer, Refusal>) -> Written<()> {
     match answer {
-        Answer::Refused(r) => {
-            print(b"refused ");
-            print_number(r as u64);
+        Err(refusal) => print!(rt; "refused {}", refusal.number())?,
+        Ok(Answer::Found(row)) => {
+            print!(rt; "found")?;
+            print_sets(rt, &row)?;
         }
-        Answer::Found => {
-            let row = reply.row;
-            print(b"found");
-            print_sets(row);
-        }
-        Answer::End => {
-            print(b"end");
-        }
-        Answer::Paused => {
-            print(b"paused");
-        }
+        Ok(Answer::End) => print!(rt; "end")?,
+        Ok(Answer::Paused) => print!(rt; "paused")?,
     }
-    print(b", ");
+    print!(rt; ", ")
 }
 
-// One call of those that are asked for.
-fn call_at(lent: bool, kept: OpenSearch, problem: &[u8], calls: &[u8], at: usize) -> Moved
-    requires { at + 5 ≤ length calls.now }
+fn show_from<F: Fn(OpenSearch, &[u8], u32) -> Moved>(
+    rt: &impl Print,
+    call: F,
+    start: Place,
+    problem: &[u8],
+    calls: &[[u8; 5]],
+) -> Written<()>
+    requires { F.IsAlwaysCallable call }
 {
-    let n = number_at(calls, at + 1, at + 5) % 4294967296;
-    if calls[at] == 0 {
-        call(lent, kept, problem, n as u32)
-    } else {
-        call(lent, kept, b"\x07", n as u32)
-    }
-}
-
-fn show_from(lent: bool, start: Place, problem: &[u8], calls: &[u8]) {
     let mut kept = OpenSearch::at(start);
-    print_place(start);
-    let mut k = 0;
-    while k < calls.len() / 5 {
-        let moved = call_at(lent, kept, problem, calls, 5 * k);
-        let reply = moved.reply;
-        let search = moved.search;
-        let place = search.place;
-        print_reply(reply);
-        print_place(place);
-        kept = search;
-        k += 1;
+    print_place(rt, start)?;
+    for [other, a, b, c, d] in calls {
+        let n = u32::from_be_bytes([*a, *b, *c, *d]);
+        let moved = call(kept, if *other == 0 { problem } else { b"\x07" }, n);
+        print_answer(rt, moved.answer)?;
+        print_place(rt, moved.search.place)?;
+        kept = moved.search;
     }
+    Ok(())
 }
 
-pub fn show_held(lent: bool, label: &[u8], problem: &[u8], calls: &[u8]) {
-    if calls.len() % 5 != 0 {
-        bad(label);
-        return;
+// The calls are made by `call`, which is handed the open search and hands it back.
+pub fn show_held<F: Fn(OpenSearch, &[u8], u32) -> Moved>(
+    rt: &impl Print,
+    call: F,
+    label: &[u8],
+    problem: &[u8],
+    calls: &[u8],
+) -> Written<()>
+    requires { F.IsAlwaysCallable call }
+{
+    let (calls, rest) = calls.as_chunks::<5>();
+    if !rest.is_empty() {
+        return bad(rt, label);
     }
-    print(label);
-    end_line();
-    let started = Place::start(problem);
-    let answer = started.answer;
-    match answer {
-        Start::Refused(r) => {
-            print(b"refused ");
-            print_number(r as u64);
-            end_line();
-        }
-        Start::Begins => {
-            let start = started.place;
-            show_from(lent, start, problem, calls);
-        }
+    rt.write_all(label)?;
+    println!(rt; "")?;
+    match Place::start(problem) {
+        Err(refusal) => println!(rt; "refused {}", refusal.number()),
+        Ok(start) => show_from(rt, call, start, problem, calls),
     }
 }

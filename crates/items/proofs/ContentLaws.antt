@@ -16,21 +16,23 @@ use Rattle.meaning.specs.Term.{NamedTerm, one}
 use Rattle.meaning.specs.Read.{Answer, Context, Parts, after, got, in_body, in_expression, read_term, refused}
 use Rattle.meaning.specs.Filling.{Entry, body, left_open, value}
 use Rattle.meaning.specs.Text.{Item, read_item, read_numbered, read_open}
-use Rattle.meaning.proofs.Lists.{by_test}
+use Rattle.meaning.proofs.Lists.{by_test, never}
 use Rattle.tokens.specs.Token.{tokens}
 use Rattle.slices.proofs.Slices.{drop_take, part_length}
 use Rattle.terms.specs.Reading.{TermDone, Written, term_answer, term_tokens}
-use Rattle.terms.specs.declared.term.Term.{Term}
-use Rattle.terms.specs.declared.term.Term.TheVariants as terms
+use Rattle.std.specs.Prelude.{Option, Some, None, Result, Ok, Err}
+use Rattle.refusal.specs.declared.Refusal.{Refusal}
+use Rattle.fields.specs.Heads.{answer_from}
+use Rattle.terms.specs.declared.term.Took.{Took}
 use Rattle.terms.proofs.Bounds.{term_fine}
-use Rattle.said.specs.Said.{entry_tag}
-use Rattle.items.specs.Fields.{FieldDone, FieldInside, content_read, ended_of, entry_tokens, field_answer, parts_to}
-use Rattle.items.specs.declared.Field.{Field}
-use Rattle.items.specs.declared.Field.TheVariants as fields
+use Rattle.items.specs.Fields.{FieldDone, FieldInside, content_read, ended_of, entry_rule, entry_tokens, field_answer, parts_to}
+use Rattle.items.specs.declared.Rule.{Rule}
+use Rattle.items.specs.declared.Rule.TheVariants as rules
+use Rattle.items.specs.declared.Item as code
 
 -- A field that is refused
 item_refused : (p : Parts) (s o o' : List ℕ) → read_item p ≡ refused 20
-    → FieldDone s (after (read_item p) (λ i. got (i, p.later))) o o' fields.Refused
+    → FieldDone s (after (read_item p) (λ i. got (i, p.later))) o o' None
 unfolding field_answer Written
 item_refused p s o o' e = rw e (record { answer = refl; table = tt })
 
@@ -81,7 +83,7 @@ module _ (s : Bytes) (tag end : ℕ) (h : FieldInside s end) where
   unfolding content
   content_long = part_length 3 end s h.head h.within
 
-  pub content_none : (o : List ℕ) → end ≡ 3 → FieldDone s (content_read tag end s) o o fields.Refused
+  pub content_none : (o : List ℕ) → end ≡ 3 → FieldDone s (content_read tag end s) o o None
   unfolding content
   content_none o z =
       let none : length content ≡ 0 = omega (arith, content_long) in
@@ -96,7 +98,7 @@ module _ (s : Bytes) (tag end : ℕ) (h : FieldInside s end) where
     unfolding content
     number_at = get_or-take (end - 3) (drop 3 s) 0 0 (omega (arith, h.head)) ∙ get_or-drop 3 s 0 0
 
-    pub content_over : (o : List ℕ) → 32 ≤ get_or s 3 0 → FieldDone s (content_read tag end s) o o fields.Refused
+    pub content_over : (o : List ℕ) → 32 ≤ get_or s 3 0 → FieldDone s (content_read tag end s) o o None
     unfolding content metavariable_count
     content_over o l =
         let over : metavariable_count ≤ get_or content 0 0 = omega (arith, number_at) in
@@ -123,7 +125,7 @@ module _ (s : Bytes) (tag end : ℕ) (h : FieldInside s end) where
           rw (some, known, term_at_lem, number_at)
 
       -- A field with a term, 8 or 9
-      module _ (ctx : Context) (says : NamedTerm → Entry NamedTerm) (tagged : (t : NamedTerm) → entry_tag (says t) ≡ tag)
+      module _ (ctx : Context) (says : NamedTerm → Entry NamedTerm) (rule : Rule) (ruled : (t : NamedTerm) → entry_rule (says t) ≡ Some rule)
           (tokened : (t : NamedTerm) → entry_tokens (says t) ≡ tokens [] (one t)) (o o' : List ℕ) where
         term : Bytes
         term = take (end - 4) (drop 4 s)
@@ -138,39 +140,42 @@ module _ (s : Bytes) (tag end : ℕ) (h : FieldInside s end) where
         -- Whether the term takes all that is left
         ended : (t : NamedTerm) (b : Bool) → o' ≡ tokens [] (one t) ++ drop (length (tokens [] (one t))) o
             → FieldDone s (after (choose b (got (get_or s 3 0, says t)) (refused 20)) (λ i. got (i, drop end s))) o o'
-            (choose b (fields.Item end tag (record { 0 = get_or s 3 0 }) (length (tokens [] (one t)))) fields.Refused)
+            (choose b (Some (record { bytes = end; m = record { 0 = get_or s 3 0 }; rule = rule; nodes = length (tokens [] (one t)) })) None)
         unfolding field_answer Written
-        ended t true w = record { answer = rw (taken_whole, tagged t, tokened t); table = rw (tokened t) w }
+        ended t true w = record { answer = rw (taken_whole, ruled t, tokened t); table = rw (tokened t) w }
         ended t false w = record { answer = refl; table = tt }
 
-        term_ended : (a : Answer (NamedTerm × Bytes)) → read_term max_depth ctx term ≡ a → Written (term_tokens []) a o o'
-            → FieldDone s (after (after a item) (λ i. got (i, drop end s))) o o'
-            (ended_of tag (record { 0 = get_or s 3 0 }) end (term_answer [] term a))
-        unfolding term_answer Written field_answer item
-        term_ended (refused r) e w = record { answer = refl; table = tt }
-        term_ended (got x) e w =
+        term_ended : (a : Answer (NamedTerm × Bytes)) (t : Result Took Refusal) → read_term max_depth ctx term ≡ a
+            → answer_from t ≡ term_answer [] term a → Written (term_tokens []) a o o'
+            → FieldDone s (after (after a item) (λ i. got (i, drop end s))) o o' (ended_of rule (record { 0 = get_or s 3 0 }) end t)
+        unfolding Written field_answer item
+        term_ended (refused r) (Err n) e q w = record { answer = refl; table = tt }
+        term_ended (refused r) (Ok k) e q w = never (cc)
+        term_ended (got x) (Err n) e q w = never (cc)
+        term_ended (got x) (Ok k) e q w =
             let fine = term_fine max_depth ctx term x e in
-            rw (all_taken (end - 4) (length term) (length x.1) term_long (omega (arith, fine.room)))
+            let same : k ≡ record { bytes = length term - length x.1; nodes = length (term_tokens [] x) } = cc in
+            rw (same, all_taken (end - 4) (length term) (length x.1) term_long (omega (arith, fine.room)))
             (ended x.0 (eqb (length x.1) 0) w)
 
-        content_term : read_item (parts_to tag end s) ≡ read_numbered ctx says content → (t : Term) (r : Field)
-            → TermDone [] term (read_term max_depth ctx term) o o' t → r ≡ ended_of tag (record { 0 = get_or s 3 0 }) end t
+        content_term : read_item (parts_to tag end s) ≡ read_numbered ctx says content → (t : Result Took Refusal) (r : Option code.Item)
+            → TermDone [] term (read_term max_depth ctx term) o o' t → r ≡ ended_of rule (record { 0 = get_or s 3 0 }) end t
             → FieldDone s (content_read tag end s) o o' r
         unfolding term item
         content_term e t r d f =
-            rw (e, numbered_term ctx says, f, d.answer) (term_ended (read_term max_depth ctx term) refl d.table)
+            rw (e, numbered_term ctx says, f) (term_ended (read_term max_depth ctx term) t refl d.answer d.table)
 
-      pub content_value : (o o' : List ℕ) (t : Term) (r : Field) → tag ≡ 8
+      pub content_value : (o o' : List ℕ) (t : Result Took Refusal) (r : Option code.Item) → tag ≡ 8
           → TermDone [] (take (end - 4) (drop 4 s)) (read_term max_depth in_expression (take (end - 4) (drop 4 s))) o o' t
-          → r ≡ ended_of tag (record { 0 = get_or s 3 0 }) end t → FieldDone s (content_read tag end s) o o' r
+          → r ≡ ended_of rules.Value (record { 0 = get_or s 3 0 }) end t → FieldDone s (content_read tag end s) o o' r
       unfolding term content read_item
-      content_value o o' t r g = content_term in_expression value (λ x. sym g) (λ x. refl) o o' (rw g) t r
+      content_value o o' t r g = content_term in_expression value rules.Value (λ x. refl) (λ x. refl) o o' (rw g) t r
 
-      pub content_body : (o o' : List ℕ) (t : Term) (r : Field) → tag ≡ 9
+      pub content_body : (o o' : List ℕ) (t : Result Took Refusal) (r : Option code.Item) → tag ≡ 9
           → TermDone [] (take (end - 4) (drop 4 s)) (read_term max_depth in_body (take (end - 4) (drop 4 s))) o o' t
-          → r ≡ ended_of tag (record { 0 = get_or s 3 0 }) end t → FieldDone s (content_read tag end s) o o' r
+          → r ≡ ended_of rules.Body (record { 0 = get_or s 3 0 }) end t → FieldDone s (content_read tag end s) o o' r
       unfolding term content read_item
-      content_body o o' t r g = content_term in_body body (λ x. sym g) (λ x. refl) o o' (rw g) t r
+      content_body o o' t r g = content_term in_body body rules.Body (λ x. refl) (λ x. refl) o o' (rw g) t r
 
       -- An open field has no term
       open_test : eqb (length content) 1 ≡ eqb 0 (end - 4)
@@ -179,17 +184,18 @@ module _ (s : Bytes) (tag end : ℕ) (h : FieldInside s end) where
           (λ e. eq-eqb (length content) 1 (omega (arith, content_long, h.head, eqb-true 0 (end - 4) e)) ∙ sym e)
           (λ e. ne_eqb (length content) 1 (λ q. eqb-false 0 (end - 4) e (omega (arith, content_long))) ∙ sym e)
 
-      pub content_open : (o : List ℕ) (r : Field) → tag ≡ 11 → r ≡ ended_of tag (record { 0 = get_or s 3 0 }) end (terms.Took 0 0)
+      pub content_open : (o : List ℕ) (r : Option code.Item) → tag ≡ 11
+          → r ≡ ended_of rules.Open (record { 0 = get_or s 3 0 }) end (Ok (record { bytes = 0; nodes = 0 }))
           → FieldDone s (content_read tag end s) o o r
       unfolding content read_item read_open field_answer Written
       content_open o r g f = rw (f, g, open_test, known, number_at) (go (eqb 0 (end - 4)))
         where
           go : (b : Bool)
               → FieldDone s (after (choose b (got (get_or s 3 0, left_open)) (refused 20)) (λ i. got (i, drop end s))) o o
-              (choose b (fields.Item end 11 (record { 0 = get_or s 3 0 }) 0) fields.Refused)
+              (choose b (Some (record { bytes = end; m = record { 0 = get_or s 3 0 }; rule = rules.Open; nodes = 0 })) None)
           go true = record { answer = rw taken_whole; table = refl }
           go false = record { answer = refl; table = tt }
 
-  pub content_other : (o : List ℕ) → (tag ≡ 8 → ⊥) → (tag ≡ 9 → ⊥) → (tag ≡ 11 → ⊥) → FieldDone s (content_read tag end s) o o fields.Refused
+  pub content_other : (o : List ℕ) → (tag ≡ 8 → ⊥) → (tag ≡ 9 → ⊥) → (tag ≡ 11 → ⊥) → FieldDone s (content_read tag end s) o o None
   unfolding read_item
   content_other o a b c = item_refused (parts_to tag end s) s o o (rw (ne_eqb tag 8 a, ne_eqb tag 9 b, ne_eqb tag 11 c))

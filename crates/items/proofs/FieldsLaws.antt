@@ -4,7 +4,7 @@
 --                left, theirs are the items of the whole text
 --   reading-..   its steps, and the returns of `read_fields`
 use mathlib.Core.Path.{◌≡◌, refl, ap, sym, ◌∙◌, subst}
-use mathlib.Core.Bool.{Bool, true, false}
+use mathlib.Core.Bool.{true}
 use mathlib.Core.List.{List, [], ◌∷◌, ◌++◌, append_assoc, append-nil, map-append}
 use Prim.Native.Nat.{ℕ, zero, suc, ◌+◌, ◌-◌, ◌*◌, ◌<◌, ◌≤◌}
 use native.Mathlib.Omega.{arith}
@@ -16,17 +16,17 @@ use Rattle.meaning.specs.Limits.{largest_text, metavariable_count}
 use Rattle.meaning.specs.Basics.{All, Bytes, Byte}
 use Rattle.meaning.specs.Read.{Answer, Parts, after, got, parts_of, refused}
 use Rattle.meaning.specs.Text.{Item, numbers, read_item, read_items, rises}
-use Rattle.fields.specs.declared.number.Metavariable.{Metavariable}
+use Rattle.std.specs.Prelude.{Some, None, Ok, Err}
+use Rattle.refusal.specs.declared.Refusal.TheVariants.{TextMalformed}
 use Rattle.slices.proofs.Slices.{rest_all, rows_joined}
 use Rattle.terms.specs.Reading.{Space}
 use Rattle.said.specs.Said.{SaidBy}
 use Rattle.said.specs.declared.Said.{Said}
 use Rattle.items.specs.Fields.{FieldDone, entry_tokens, item_read, read_field}
-use Rattle.items.specs.Noted.{NoteRoom, noted_of}
+use Rattle.items.specs.Noted.{NoteRoom, field_with, noted_of}
 use Rattle.items.specs.Order.{InOrder, followed_by}
 use Rattle.items.specs.Texts.{FieldsDone, TextSpace, text_room}
-use Rattle.items.specs.declared.Field.TheVariants as fields
-use Rattle.items.specs.declared.Fields.{Fields}
+use Rattle.items.specs.declared.Item as code
 use Rattle.items.specs.declared.Order.{Order}
 use Rattle.items.proofs.ItemLaws.{all_drop}
 use Rattle.items.proofs.FieldLaws.{Taken, not_taken, taken}
@@ -72,8 +72,7 @@ joined_more done i (got is) = ap got (sym (append_assoc done (i ∷ []) is))
 pub record Reading (text table : List ℕ) (used at : ℕ) (s : Said) (o : Order) : Type 0 where
   pub items : List Item
   pub order : InOrder (numbers items) o
-  pub tags_long : length s.tags ≡ metavariable_count
-  pub nodes_long : length s.nodes ≡ metavariable_count
+  pub fields_long : length s.fields ≡ metavariable_count
   pub says : rises (numbers items) ≡ true → SaidBy (take used table) items s
   -- at most so many fields are left
   pub bound : ℕ
@@ -91,8 +90,7 @@ reading_begins text table s h l =
     record {
       items = [];
       order = record { rising = refl; next = refl };
-      tags_long = h.tags_long;
-      nodes_long = h.nodes_long;
+      fields_long = h.long;
       says = λ e. h;
       bound = length text;
       enough = omega arith;
@@ -108,16 +106,18 @@ module _ (text table : List ℕ) (used at : ℕ) (s : Said) (o : Order) (r : Rea
   pub used_inside : used ≤ length table
   used_inside = omega (arith, r.few, r.within, r.short, r.long)
 
-  abbrev found : Bool → Fields
-  found readable = record { readable = readable; rising = o.rising; used = used; said = s }
-
-  pub reading_ends : length text ≤ at → FieldsDone (read_items (length text) text) table (found true)
-  unfolding FieldsDone
+  pub reading_ends : length text ≤ at
+      → FieldsDone (read_items (length text) text) table (Ok (record { rising = o.rising; text = record { used = used; said = s } }))
   reading_ends h =
       let none : read_items r.bound (drop at text) ≡ got [] =
       items_none r.bound (drop at text) (omega (arith, length-drop at text)) in
-      let all : read_items (length text) text ≡ got r.items = r.leads ∙ rw (none, append-nil r.items) in
-      rw (all, FieldsDone) (record { readable = refl; rising = r.order.rising; within = used_inside; says = r.says })
+      record {
+        items = r.items;
+        answer = r.leads ∙ rw (none, append-nil r.items);
+        rising = r.order.rising;
+        within = used_inside;
+        says = r.says;
+      }
 
   module _ (some : at < length text) where
     abbrev rest : Bytes
@@ -149,24 +149,24 @@ module _ (text table : List ℕ) (used at : ℕ) (s : Said) (o : Order) (r : Rea
     bounded : (k : ℕ) × (r.bound ≡ suc k)
     bounded = (r.bound - 1, omega (arith, r.enough))
 
-    pub reading_refused : (x table' : List ℕ) → FieldDone rest (read_field rest) room x fields.Refused
-        → FieldsDone (read_items (length text) text) table' (found false)
-    unfolding FieldsDone
-    reading_refused x table' d =
-        let n = not_taken rest room x d in
-        let none : read_items (length text) text ≡ refused n.0 = next bounded.0 bounded.1 ∙ rw n.1 in
-        rw (none, FieldsDone) refl
+    rest_bytes : All Byte text → All Byte rest
+    rest_bytes b = rw (rest_all at text) (all_drop Byte at text b)
+
+    pub reading_refused : (x : List ℕ) → All Byte text → FieldDone rest (read_field rest) room x None
+        → FieldsDone (read_items (length text) text) table (Err TextMalformed)
+    reading_refused x b d =
+        let n = not_taken rest room x (rest_bytes b) d in (refl, (n.0, next bounded.0 bounded.1 ∙ rw n.1))
 
     -- One field more
-    module _ (x : List ℕ) (took tag : ℕ) (m : Metavariable) (nodes : ℕ) (b : All Byte text)
-        (d : FieldDone rest (read_field rest) room x (fields.Item took tag m nodes)) where
-      one : Taken rest room x took tag m nodes
-      one = taken rest room x took tag m nodes (rw (rest_all at text) (all_drop Byte at text b)) d
+    module _ (x : List ℕ) (i : code.Item) (b : All Byte text)
+        (d : FieldDone rest (read_field rest) room x (Some i)) where
+      one : Taken rest room x i
+      one = taken rest room x i (rest_bytes b) d
 
       rest_long : length rest ≡ length text - at
       rest_long = ap length (rest_all at text) ∙ length-drop at text
 
-      pub reading_counts : (used + nodes ≤ length table) × (at + took ≤ length text) × (1 ≤ took)
+      pub reading_counts : (used + i.nodes ≤ length table) × (at + i.bytes ≤ length text) × (1 ≤ i.bytes)
       reading_counts =
           let few = one.few in
           let within = one.within in (
@@ -175,9 +175,8 @@ module _ (text table : List ℕ) (used at : ℕ) (s : Said) (o : Order) (r : Rea
             omega arith,
           )
 
-      pub reading_noted : NoteRoom s m.0
-      reading_noted =
-          record { number = rw one.is_number one.readable.0; tags_long = r.tags_long; nodes_long = r.nodes_long }
+      pub reading_noted : NoteRoom s i.m.0
+      reading_noted = record { number = rw one.is_number one.readable.0; long = r.fields_long }
 
       abbrev front : List ℕ
       front = take used table
@@ -197,51 +196,50 @@ module _ (text table : List ℕ) (used at : ℕ) (s : Said) (o : Order) (r : Rea
       abbrev table' : List ℕ
       table' = put_mid used (length table - used) table x
 
-      grown_long : length (front ++ row) ≡ used + nodes
+      grown_long : length (front ++ row) ≡ used + i.nodes
       unfolding row
       grown_long = length-append front row ∙ rw (front_long, ← one.are_nodes)
 
-      grown_front : take (used + nodes) table' ≡ front ++ row
-      grown_front = ap (take (used + nodes)) grown ∙ take_at (front ++ row) (drop (length (front ++ row)) table) (used + nodes) grown_long
+      grown_front : take (used + i.nodes) table' ≡ front ++ row
+      grown_front = ap (take (used + i.nodes)) grown ∙ take_at (front ++ row) (drop (length (front ++ row)) table) (used + i.nodes) grown_long
 
       abbrev more : List Item
       more = r.items ++ (one.item ∷ [])
 
       numbers_more : numbers more ≡ numbers r.items ++ (one.item.0 ∷ [])
-      numbers_more = map-append (λ (i : Item). i.0) r.items (one.item ∷ [])
+      numbers_more = map-append (λ (y : Item). y.0) r.items (one.item ∷ [])
 
-      noted : rises (numbers more) ≡ true → SaidBy (take (used + nodes) table') more (noted_of s m.0 tag used)
+      noted : rises (numbers more) ≡ true → SaidBy (take (used + i.nodes) table') more (noted_of s i.m.0 (field_with i.rule used))
       unfolding row
       noted up =
           let small : length front + length row < 65536 =
           omega (arith, grown_long, length-append front row, reading_counts, one.few, r.few, r.short) in
           let rose : rises (numbers r.items ++ (one.item.0 ∷ [])) ≡ true = ap rises (sym numbers_more) ∙ up in
           let before : rises (numbers r.items) ≡ true = rises_before (numbers r.items) one.item.0 rose in
-          said_more front r.items s (r.says before) one.item one.readable (new_number (numbers r.items) one.item.0 rose) small
-          (take (used + nodes) table') m.0 tag used grown_front one.is_number one.is_tag (sym front_long)
+          said_more front r.items s (r.says before) one.item one.readable (new_number (numbers r.items) one.item.0 rose) i.rule one.is_rule
+          small (take (used + i.nodes) table') i.m.0 used grown_front one.is_number (sym front_long)
 
-      ordered : InOrder (numbers more) (followed_by o m.0)
+      ordered : InOrder (numbers more) (followed_by o i.m.0)
       ordered =
           subst (λ (n : ℕ). InOrder (numbers more) (followed_by o n)) (sym one.is_number)
           (subst (λ (ms : List ℕ). InOrder ms (followed_by o one.item.0)) (sym numbers_more)
           (order_more (numbers r.items) o one.item.0 r.order))
 
-      leads_on : read_items (length text) text ≡ joined more (read_items bounded.0 (drop (at + took) text))
+      leads_on : read_items (length text) text ≡ joined more (read_items bounded.0 (drop (at + i.bytes) text))
       leads_on =
           next bounded.0 bounded.1
-          ∙ rw (one.reads, rest_all at text, drop-drop took at text)
-          (joined_more r.items one.item (read_items bounded.0 (drop (at + took) text)))
+          ∙ rw (one.reads, rest_all at text, drop-drop i.bytes at text)
+          (joined_more r.items one.item (read_items bounded.0 (drop (at + i.bytes) text)))
 
       pub reading_goes : length x ≡ length room
-          → Reading text table' (used + nodes) (at + took) (noted_of s m.0 tag used) (followed_by o m.0)
+          → Reading text table' (used + i.nodes) (at + i.bytes) (noted_of s i.m.0 (field_with i.rule used)) (followed_by o i.m.0)
       reading_goes kept =
           let few = one.few in
           let counts = reading_counts in
           record {
             items = more;
             order = ordered;
-            tags_long = length-set s.tags m.0 tag ∙ r.tags_long;
-            nodes_long = length-set s.nodes m.0 used ∙ r.nodes_long;
+            fields_long = length-set s.fields i.m.0 (Some (field_with i.rule used)) ∙ r.fields_long;
             says = noted;
             bound = bounded.0;
             enough = omega (arith, bounded.1, r.enough);

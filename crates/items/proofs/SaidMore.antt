@@ -8,7 +8,7 @@ use mathlib.Core.List.Memᴰ
 use mathlib.Core.List.{List, [], ◌∷◌, ◌++◌}
 use Prim.Native.Nat.{ℕ, ◌+◌, ◌<◌}
 use native.Mathlib.Omega.{arith}
-use lib.ListN.{length, set, length-set}
+use lib.ListN.{length, get_or, set, length-set}
 use lib.Seq.{get_or-set_same, get_or-set_other}
 use lib.Dec.{eqb}
 use borrow.Author.Tests.{eqb-true, eqb-false}
@@ -17,19 +17,22 @@ use Rattle.meaning.specs.Basics.{choose, ◌∈◌}
 use Rattle.meaning.specs.Text.{Item, numbers}
 use Rattle.meaning.specs.Readable.{ReadableItem}
 use Rattle.meaning.proofs.Lists.{by_test, all_append}
-use Rattle.tokens.specs.Key.{at}
-use Rattle.said.specs.Said.{EntryAt, SaidBy, entry_tag, item_of}
+use Rattle.std.specs.Prelude.{Option, Some, None}
+use Rattle.said.specs.Said.{HeldAs, SaidBy, field_of, item_of}
+use Rattle.said.specs.declared.Field.{Field}
 use Rattle.said.specs.declared.Said.{Said}
-use Rattle.items.specs.Fields.{entry_tokens}
-use Rattle.items.specs.Noted.{noted_of}
+use Rattle.items.specs.Fields.{entry_rule, entry_tokens}
+use Rattle.items.specs.Noted.{field_with, noted_of}
+use Rattle.items.specs.declared.Rule.{Rule}
 use Rattle.items.proofs.TermTable.{table_more, entry_new, entry_stays}
 
 -- What is noted of each metavariable
-put_at : (l : List ℕ) (n m x : ℕ) → n < length l → at (set l n x) m ≡ choose (eqb m n) x (at l m)
+put_at : (l : List (Option Field)) (n m : ℕ) (x : Option Field) → n < length l
+    → get_or (set l n x) m None ≡ choose (eqb m n) x (get_or l m None)
 put_at l n m x h =
     by_test (eqb m n)
-    (λ e. rw (e, eqb-true m n e) (get_or-set_same l n x 0 h))
-    (λ e. rw e (get_or-set_other l n m x 0 (eqb-false m n e)))
+    (λ e. rw (e, eqb-true m n e) (get_or-set_same l n x None h))
+    (λ e. rw e (get_or-set_other l n m x None (eqb-false m n e)))
 
 -- The entry of a metavariable, with an item more
 item_more : (is : List Item) (i : Item) (m : ℕ) → (i.0 ∈ numbers is → ⊥)
@@ -46,37 +49,28 @@ item_more (j ∷ is) i m new =
 
 -- The main law
 module _ (front : List ℕ) (is : List Item) (s : Said) (h : SaidBy front is s) (i : Item) (r : ReadableItem i)
-    (new : i.0 ∈ numbers is → ⊥) (room : length front + length (entry_tokens i.1) < 65536) where
-  abbrev more : Said
-  more = noted_of s i.0 (entry_tag i.1) (length front)
+    (new : i.0 ∈ numbers is → ⊥) (rule : Rule) (ruled : entry_rule i.1 ≡ Some rule)
+    (room : length front + length (entry_tokens i.1) < 65536) where
+  abbrev field : Field
+  field = field_with rule (length front)
 
-  tag_more : (m : ℕ) → m < metavariable_count → at more.tags m ≡ entry_tag (item_of (is ++ (i ∷ [])) m)
-  tag_more m l =
-      put_at s.tags i.0 m (entry_tag i.1) (rw h.tags_long r.0)
-      ∙ rw (item_more is i m new, h.tags m l) (go (eqb m i.0))
-    where
-      go : (b : Bool) → choose b (entry_tag i.1) (entry_tag (item_of is m)) ≡ entry_tag (choose b i.1 (item_of is m))
-      go true = refl
-      go false = refl
-
-  node_more : (m : ℕ) → m < metavariable_count → EntryAt (front ++ entry_tokens i.1) (at more.nodes m) (item_of (is ++ (i ∷ [])) m)
-  node_more m l =
-      rw (put_at s.nodes i.0 m (length front) (rw h.nodes_long r.0), item_more is i m new) (go (eqb m i.0))
+  held_more : (m : ℕ) → m < metavariable_count
+      → HeldAs (front ++ entry_tokens i.1) (item_of (is ++ (i ∷ [])) m) (field_of (noted_of s i.0 field) m)
+  held_more m l =
+      rw (put_at s.fields i.0 m (Some field) (rw h.long r.0), item_more is i m new) (go (eqb m i.0))
     where
       go : (b : Bool)
-          → EntryAt (front ++ entry_tokens i.1) (choose b (length front) (at s.nodes m)) (choose b i.1 (item_of is m))
-      go true = entry_new front i.1 r.1 (omega arith)
-      go false = entry_stays front (entry_tokens i.1) (at s.nodes m) (item_of is m) (h.nodes m l)
+          → HeldAs (front ++ entry_tokens i.1) (choose b i.1 (item_of is m)) (choose b (Some field) (get_or s.fields m None))
+      go true = entry_new front i.1 rule ruled r.1 (omega arith)
+      go false = entry_stays front (entry_tokens i.1) (item_of is m) (field_of s m) (h.fields m l)
 
-  pub said_more : (front' : List ℕ) (n tag node : ℕ) → front' ≡ front ++ entry_tokens i.1 → n ≡ i.0 → tag ≡ entry_tag i.1
-      → node ≡ length front → SaidBy front' (is ++ (i ∷ [])) (noted_of s n tag node)
-  said_more front' n tag node ef en et ed =
-      rw (ef, en, et, ed)
+  pub said_more : (front' : List ℕ) (n node : ℕ) → front' ≡ front ++ entry_tokens i.1 → n ≡ i.0
+      → node ≡ length front → SaidBy front' (is ++ (i ∷ [])) (noted_of s n (field_with rule node))
+  said_more front' n node ef en ed =
+      rw (ef, en, ed)
       (record {
         is_table = table_more front i.1 h.is_table r.1 room;
         readable = all_append ReadableItem is (i ∷ []) h.readable (r, tt);
-        tags_long = length-set s.tags i.0 (entry_tag i.1) ∙ h.tags_long;
-        nodes_long = length-set s.nodes i.0 (length front) ∙ h.nodes_long;
-        tags = tag_more;
-        nodes = node_more;
+        long = length-set s.fields i.0 (Some field) ∙ h.long;
+        fields = held_more;
       })

@@ -15,8 +15,13 @@ use Rattle.tokens.specs.Token.{Table, size_in, tokens}
 use Rattle.tokens.specs.Key.{Held}
 use Rattle.tokens.proofs.TokenParts.{tokens_length}
 use Rattle.tokens.proofs.ProblemTokens.{tokens_table}
-use Rattle.said.specs.Said.{TermAt, EntryAt}
-use Rattle.items.specs.Fields.{entry_tokens}
+use Rattle.std.specs.Prelude.{Option, Some}
+use Rattle.said.specs.Said.{TermAt, HeldAs}
+use Rattle.said.specs.declared.Field.{Field}
+use Rattle.items.specs.Fields.{entry_rule, entry_tokens}
+use Rattle.items.specs.Noted.{field_with}
+use Rattle.items.specs.declared.Rule.{Rule}
+use Rattle.items.specs.declared.Rule.TheVariants as rules
 
 Counted : List ℕ → Type 0
 Counted t = (k : ℕ) → k < length t → 1 ≤ size_in (get_or t k 0)
@@ -62,12 +67,15 @@ table_more front e t r h =
       small = omega (arith, length-append front (entry_tokens e));
     }
 
-pub entry_new : (front : List ℕ) (e : Entry NamedTerm) → ReadableEntry e → length (entry_tokens e) < 65536
-    → EntryAt (front ++ entry_tokens e) (length front) e
-entry_new front absent r h = tt
-entry_new front left_open r h = tt
-entry_new front (value t) r h = at_end_lem in_expression t r h front
-entry_new front (body t) r h = at_end_lem in_body t r h front
+-- What is held for an entry whose term is put at the end
+pub entry_new : (front : List ℕ) (e : Entry NamedTerm) (rule : Rule) → entry_rule e ≡ Some rule → ReadableEntry e
+    → length (entry_tokens e) < 65536 → HeldAs (front ++ entry_tokens e) e (Some (field_with rule (length front)))
+entry_new front absent rule g r h = absurd r
+entry_new front left_open rule g r h = let same : rule ≡ rules.Open = cc in rw same
+entry_new front (value t) rule g r h =
+    let same : rule ≡ rules.Value = cc in (length front, rw same, at_end_lem in_expression t r h front)
+entry_new front (body t) rule g r h =
+    let same : rule ≡ rules.Body = cc in (length front, rw same, at_end_lem in_body t r h front)
 
 term_stays : (front more : List ℕ) (n : ℕ) (ctx : Context) (t : NamedTerm) → TermAt front n ctx t → TermAt (front ++ more) n ctx t
 term_stays front more n ctx t a =
@@ -84,8 +92,8 @@ term_stays front more n ctx t a =
       };
     }
 
-pub entry_stays : (front more : List ℕ) (n : ℕ) (e : Entry NamedTerm) → EntryAt front n e → EntryAt (front ++ more) n e
-entry_stays front more n absent a = tt
-entry_stays front more n left_open a = tt
-entry_stays front more n (value t) a = term_stays front more n in_expression t a
-entry_stays front more n (body t) a = term_stays front more n in_body t a
+pub entry_stays : (front more : List ℕ) (e : Entry NamedTerm) (f : Option Field) → HeldAs front e f → HeldAs (front ++ more) e f
+entry_stays front more absent f a = a
+entry_stays front more left_open f a = a
+entry_stays front more (value t) f a = (a.0, a.1, term_stays front more a.0 in_expression t a.2)
+entry_stays front more (body t) f a = (a.0, a.1, term_stays front more a.0 in_body t a.2)

@@ -1,171 +1,106 @@
-// Lines of input that hold bytes as digits: a letter, and after it parts with one space between. A part is 0 or more bytes, each of two
-// upper-case hexadecimal digits.
-ghost use Rattle.std.specs.Prelude.{◌≡◌, ◌+◌, ◌*◌, ◌≤◌, length};
-ghost use Rattle.lines.specs.Parts.{InLine, Placed, Told};
+// Lines of input that hold bytes as digits: a letter, and after it parts with one space between, and a label. A part is 0 or more bytes, each of
+// two upper-case hexadecimal digits.
+ghost use Rattle.std.specs.Prelude.{◌≤◌, IfSome};
+ghost use Rattle.io.specs.Counts.{IsPrefixLen};
 
-// What stands from an index on.
+use crate::output::bad;
+use std::io::Result;
+
+// Room for each part of a line: one byte more than a text may have.
+const ROOM: usize = 8193;
+
+// A line with two parts: its letter, how many bytes each part has, and the label that stands after them.
 #[derive(Clone, Copy)]
-pub enum Part {
-    // So many bytes.
-    Bytes(usize),
-    // No pairs of digits up to another space, or more of them than there is room for.
-    Missing,
+struct Asked<'a> {
+    kind: u8,
+    first: usize,
+    second: usize,
+    label: &'a [u8],
 }
 
-// A line with two parts: its letter, how many bytes each part has, and where the label begins that stands after them.
-#[derive(Clone, Copy)]
-pub struct Asked {
-    pub kind: u8,
-    pub first: usize,
-    pub second: usize,
-    pub label: usize,
-}
-
-#[derive(Clone, Copy)]
-pub enum Line {
-    Asked(Asked),
-    // No letter, or no two parts.
-    Bad,
-}
-
-// Room for an input of 262,143 bytes: one fewer than the buffer, so that none is cut off.
-pub fn buffer() -> [u8; 262144]
-    ensures { 262144 ≡ length result }
+// Shows each line of standard input, which is read into the buffer; one that fills it may have been cut off.
+pub fn for_each_line<F: Fn(&[u8]) -> Result<()>>(
+    rt: &impl Print,
+    buffer: &mut [u8],
+    show: F,
+) -> Result<()>
+    requires { F.IsAlwaysCallable show }
 {
-    [0; 262144]
+    let n = io::read_full(0, buffer);
+    if n == buffer.len() {
+        return bad(rt, b"the input is too long");
+    }
+    for line in buffer[..n].split_inclusive(|byte| *byte == b'\n') {
+        show(line.strip_suffix(b"\n").unwrap_or(line))?;
+    }
+    Ok(())
 }
 
-// Where the line that begins at `from` ends: at a line feed, or with the input.
-pub fn line_end(input: &[u8], from: usize) -> usize
-    requires { from ≤ length input.now }
-    ensures { (from ≤ result) × (result ≤ length input.now) }
+// The letter that a line begins with, which is not 0, and what stands after the space that follows it.
+pub fn letter_of(line: &[u8]) -> Option<(u8, &[u8])> {
+    match line {
+        [0, ..] => None,
+        [letter, b' ', rest @ ..] => Some((*letter, rest)),
+        _ => None,
+    }
+}
+
+fn value(digit: u8) -> Option<u8>
+    ensures { IfSome result (λ v. v ≤ 15) }
 {
-    let mut i = from;
-    while i < input.len() {
-        if input[i] == 10 {
-            return i;
-        }
-        i += 1;
-    }
-    i
-}
-
-// The letter that a line begins with, 0 where no space follows it.
-pub fn kind(line: &[u8]) -> u8 {
-    if line.len() < 2 {
-        return 0;
-    }
-    if line[1] != 32 {
-        return 0;
-    }
-    line[0]
-}
-
-// The value of a digit, 16 where it is none.
-fn value(digit: u8) -> u8 {
     match digit {
-        48..=57 => digit - 48,
-        65..=70 => digit - 55,
-        _ => 16,
+        b'0'..=b'9' => Some(digit - b'0'),
+        b'A'..=b'F' => Some(digit - b'A' + 10),
+        _ => None,
     }
 }
 
-// Where the digits end that stand from `from` on.
-fn digits_end(line: &[u8], from: usize) -> usize
-    requires { from ≤ length line.now }
-    ensures { (from ≤ result) × (result ≤ length line.now) }
+// The part that stands first, up to a space: how many bytes it has, which are put at the front of the buffer, and what stands after the space.
+pub fn read_part<'a>(line: &'a [u8], bytes: &mut [u8]) -> Option<(usize, &'a [u8])>
+    ensures { IfSome result (λ part. IsPrefixLen part.0 bytes.new) }
 {
-    let mut i = from;
-    while i < line.len() {
-        if value(line[i]) == 16 {
-            return i;
-        }
-        i += 1;
+    let end = line.iter().position(|byte| *byte == b' ')?;
+    let n = end / 2;
+    if end % 2 != 0 || bytes.len() < n {
+        return None;
     }
-    i
+    for (byte, digits) in bytes.iter_mut().zip(line[..end].chunks_exact(2)) {
+        *byte = 16 * value(digits[0])? + value(digits[1])?;
+    }
+    Some((n, &line[end + 1..]))
 }
 
-// How many bytes the digits give that stand from `from` on, up to a space.
-fn byte_count(line: &[u8], from: usize) -> Part
-    ensures { InLine (length line.now) from result }
+fn read_line<'a>(line: &'a [u8], first: &mut [u8], second: &mut [u8]) -> Option<Asked<'a>>
+    ensures { IfSome result (λ a. IsPrefixLen a.first first.new × IsPrefixLen a.second second.new) }
 {
-    if line.len() < from {
-        return Part::Missing;
-    }
-    let end = digits_end(line, from);
-    if line.len() <= end {
-        return Part::Missing;
-    }
-    if line[end] != 32 {
-        return Part::Missing;
-    }
-    if (end - from) % 2 != 0 {
-        return Part::Missing;
-    }
-    Part::Bytes((end - from) / 2)
-}
-
-// The n bytes whose digits stand from `from` on, at the front of the buffer.
-fn decode(line: &[u8], from: usize, n: usize, bytes: &mut [u8])
-    requires { (from + 2 * n ≤ length line.now) × (n ≤ length bytes.old) }
-{
-    let mut i = 0;
-    while i < n {
-        let at = from + 2 * i;
-        bytes[i] = value(line[at]) % 16 * 16 + value(line[at + 1]) % 16;
-        i += 1;
-    }
-}
-
-// The part that stands from `from` on, up to a space: its bytes, at the front of the buffer.
-pub fn read_part(line: &[u8], from: usize, bytes: &mut [u8]) -> Part
-    ensures { Placed (length line.now) from bytes.new result }
-{
-    let part = byte_count(line, from);
-    let Part::Bytes(n) = part else {
-        return Part::Missing;
-    };
-    if bytes.len() < n {
-        return Part::Missing;
-    }
-    decode(line, from, n, bytes);
-    Part::Bytes(n)
-}
-
-// A line with two parts: their bytes, at the fronts of the buffers.
-pub fn read_line(line: &[u8], first: &mut [u8], second: &mut [u8]) -> Line
-    ensures { Told (length line.now) first.new second.new result }
-{
-    let letter = kind(line);
-    if letter == 0 {
-        return Line::Bad;
-    }
-    let part = read_part(line, 2, first);
-    let Part::Bytes(n) = part else {
-        return Line::Bad;
-    };
-    let from = 3 + 2 * n;
-    let other = read_part(line, from, second);
-    let Part::Bytes(m) = other else {
-        return Line::Bad;
-    };
-    Line::Asked(Asked {
-        kind: letter,
-        first: n,
-        second: m,
-        label: from + 2 * m + 1,
+    let (kind, line) = letter_of(line)?;
+    let (first, line) = read_part(line, first)?;
+    let (second, label) = read_part(line, second)?;
+    Some(Asked {
+        kind,
+        first,
+        second,
+        label,
     })
 }
 
-// The number in the bytes from there to there, high byte first.
-pub fn number_at(bytes: &[u8], from: usize, to: usize) -> u64
-    requires { to ≤ length bytes.now }
+// Shows a line with two parts by its letter, its label and the bytes of each part.
+pub fn with_parts<F: Fn(u8, &[u8], &[u8], &[u8]) -> Result<()>>(
+    rt: &impl Print,
+    line: &[u8],
+    show: F,
+) -> Result<()>
+    requires { F.IsAlwaysCallable show }
 {
-    let mut n = 0u64;
-    let mut i = from;
-    while i < to {
-        n = n << 8 | bytes[i] as u64;
-        i += 1;
+    let mut first = [0u8; ROOM];
+    let mut second = [0u8; ROOM];
+    match read_line(line, &mut first, &mut second) {
+        Some(asked) => show(
+            asked.kind,
+            asked.label,
+            &first[..asked.first],
+            &second[..asked.second],
+        ),
+        None => bad(rt, line),
     }
-    n
 }

@@ -1,41 +1,18 @@
-// Lines of output: words, numbers, and bytes as two upper-case hexadecimal digits each. Each function answers whether all of it could be
-// written.
-ghost use Rattle.std.specs.Prelude.{◌≤◌};
-
+// Lines of output: bytes as they are, and as two upper-case hexadecimal digits each.
 use ascii::put_bytes;
-
-// The descriptor of standard output.
-const STDOUT: i32 = 1;
-
-pub fn print(words: &[u8]) -> bool {
-    io::write_all(STDOUT, words)
-}
-
-pub fn print_number(n: u64) -> bool {
-    io::print_decimal(STDOUT, n)
-}
-
-pub fn end_line() -> bool {
-    print(b"\n")
-}
+use std::io::Result;
 
 // A line of the input that is no example.
-pub fn bad(line: &[u8]) {
-    print(b"bad line: ");
-    print(line);
-    end_line();
+pub fn bad(rt: &impl Print, line: &[u8]) -> Result<()> {
+    print!(rt; "bad line: ")?;
+    rt.write_all(line)?;
+    println!(rt; "")
 }
 
-fn least(a: usize, b: usize) -> usize
-    ensures { (result ≤ a) × (result ≤ b) }
-{
-    if a < b { a } else { b }
-}
-
-// The first n bytes, or as many as there are; 8,192 at most.
-pub fn print_bytes(bytes: &[u8], n: usize) -> bool {
+// The first 8,192 bytes, or as many as there are, in one write.
+pub fn print_bytes(rt: &impl Print, bytes: &[u8]) -> Result<()> {
     let mut digits = [0u8; 16384];
-    let most = least(least(n, bytes.len()), 8192);
-    put_bytes(bytes, most, 0, &mut digits);
-    print(&digits[..2 * most])
+    let n = bytes.len().min(8192);
+    put_bytes(&bytes[..n], 0, &mut digits);
+    rt.write_all(&digits[..2 * n])
 }

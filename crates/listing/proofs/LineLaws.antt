@@ -1,14 +1,14 @@
 -- Lines in a buffer, and the law of each return.
 use mathlib.Core.Path.{◌≡◌, refl, ap, sym, ◌∙◌, subst}
-use mathlib.Core.Bool.{true, false, false≢true}
-use mathlib.Core.List.{◌++◌, append_assoc}
-use Prim.Native.Nat.{ℕ, suc, ◌+◌, ◌-◌, ◌*◌, ◌<◌, ◌≤◌}
+use Rattle.std.proofs.Common.{Option, Some, None, Result, Ok, Err, List}
+use Rattle.std.specs.Result.{result_unwrap_or}
+use mathlib.Core.List.{[], ◌∷◌, ◌++◌, append_assoc}
+use Prim.Native.Nat.{ℕ, suc, ◌+◌, ◌-◌, ◌<◌, ◌≤◌}
 use native.Mathlib.Numerals.{add-one}
 use native.Mathlib.Omega.{arith}
 use lib.ListN.{length, length-take, take}
-use lib.Seq.{length-take-le}
 use Rattle.meaning.specs.Limits.{largest_problem, largest_written, metavariable_count}
-use Rattle.meaning.specs.Basics.{All, Byte, Bytes, choose}
+use Rattle.meaning.specs.Basics.{All, Byte, Bytes}
 use Rattle.meaning.specs.Problem.{Problem}
 use Rattle.meaning.specs.Read.{Answer, after, got}
 use Rattle.meaning.specs.Readable.{Accepted}
@@ -16,8 +16,8 @@ use Rattle.meaning.specs.Search.{found, start}
 use Rattle.meaning.specs.PlaceValue.{PlaceValue, place_value}
 use Rattle.meaning.specs.Entry.{HostReply, SearchCall, SearchOn, WriteCall, WriteOn, no_solution_row, no_such_row, not_accepted, on_accepted, row_text}
 use Rattle.meaning.specs.Entry.{start_call, too_short, writes}
-use Rattle.meaning.specs.Program.{allowance, ascii, decimal, hexadecimal, most_printed, solution_line}
-use Rattle.meaning.proofs.Lists.{choose_false, choose_true, never}
+use Rattle.meaning.specs.Program.{allowance, ascii, decimal, most_printed, solution_line}
+use Rattle.meaning.proofs.Lists.{never}
 use Rattle.meaning.proofs.ByteLaws.{got_is, refused_not}
 use Rattle.meaning.proofs.ProblemReading.{accept_accepted}
 use Rattle.meaning.proofs.OneCall.{reply_named}
@@ -25,14 +25,16 @@ use Rattle.meaning.proofs.WriteLaws.{write_on, written_text}
 use Rattle.masks.specs.Sets.{masks_in}
 use Rattle.places.specs.Places.{Starts, value_of}
 use Rattle.places.specs.declared.Place.{Place}
-use Rattle.places.specs.declared.Started.{Started}
+use Rattle.refusal.specs.Number.{number}
+use Rattle.refusal.specs.declared.Refusal.{Refusal}
+use Rattle.masks.specs.declared.NodeSet.{NodeSet}
 use Rattle.seeking.specs.declared.Answer.{Answer as Kind}
 use Rattle.seeking.specs.declared.Answer.TheVariants as answers
 use Rattle.search.specs.Calling.{reply_with, row_value}
-use Rattle.finding.specs.Finding.{Finds}
+use Rattle.finding.specs.Finding.{Finds, Handed}
 use Rattle.finding.specs.declared.Finding.{Finding}
 use Rattle.ascii.specs.Put.{Put}
-use Rattle.ascii.proofs.PutLaws.{hexadecimal_length, put_both, put_till}
+use Rattle.ascii.proofs.PutLaws.{put_both, put_till}
 use Rattle.listing.specs.declared.Listing.{Listing}
 use Rattle.listing.specs.declared.Line.{Line}
 use Rattle.listing.specs.Listing as line
@@ -50,25 +52,24 @@ put_stands put = record { long = put.end ∙ omega arith; front = put.front }
 pub stands_fits : {bytes after : Bytes} {r : ℕ} → Stands bytes after r → r ≤ length after
 stands_fits {bytes} {after} {r} s = omega (arith, s.long, ap length s.front, length-take r after)
 
-pub digits_length : (text : Bytes) (n : ℕ) → n ≤ length text → length (hexadecimal (take n text)) ≡ 2 * n
-digits_length text n h = hexadecimal_length (take n text) ∙ ap (λ (k : ℕ). 2 * k) (length-take-le n text h)
-
 -- How much room there is for a text
 pub text_room_lem : largest_written ≡ 4224
 unfolding largest_written largest_problem metavariable_count
 text_room_lem = refl
 
 -- The start
-pub begins : (s : Bytes) (r : Started) → Starts (start_call s) r → Begins s (record { place = r.place; count = 0; over = false })
-unfolding start_call Starts
-begins s r h = record {
+pub begins : (s : Bytes) (r : Result Place Refusal) (other : Place) → Starts (start_call s) r
+    → Begins s (record { place = result_unwrap_or r other; count = 0 })
+unfolding start_call
+begins s r other h = record {
   none = refl;
-  goes_on = refl;
-  place = λ p e. go p (subst (λ (a : Answer Problem). Starts (after a (λ p. got (place_value (start p)))) r) e h);
+  place = λ p e. go p r (subst (λ (a : Answer Problem). Starts (after a (λ p. got (place_value (start p)))) r) e h);
 }
   where
-    go : (p : Problem) → Starts (got (place_value (start p))) r → value_of r.place ≡ place_value (start p)
-    go p (b, here) = here
+    go : (p : Problem) (r : Result Place Refusal) → Starts (got (place_value (start p))) r
+        → value_of (result_unwrap_or r other) ≡ place_value (start p)
+    go p (Ok place) here = sym (got_is here)
+    go p (Err e) here = absurd (refused_not (sym here))
 
 -- A Found, by the solutions so far
 module _ {now : Listing} {next : Place} {text after : Bytes} {r : Line} where
@@ -76,12 +77,13 @@ module _ {now : Listing} {next : Place} {text after : Bytes} {r : Line} where
   unfolding most_printed
   more_line h l = line.more h l.line l.over
 
-  pub next_line : {before : Bytes} → now.count < 1000 → Put 0 (solution_line (now.count + 1) text) before after r.length
-      → r.then.place ≡ next → r.then.count ≡ now.count + 1 → r.then.over ≡ false → FoundLine now next text after r
+  pub next_line : {before : Bytes} → now.count < 1000
+      → Put 0 (solution_line (now.count + 1) text) before after r.length → r.then ≡ Some (record { place = next; count = now.count + 1 })
+      → FoundLine now next text after r
   unfolding most_printed
-  next_line h put place count over =
-      line.solution h (put_stands (put_till put (ap (λ (k : ℕ). solution_line k text) (add-one now.count)) refl))
-      (record { place = ap value_of place; count = count ∙ add-one now.count; goes_on = over })
+  next_line h put goes =
+      line.solution h (put_stands (put_till put (ap (λ (k : ℕ). solution_line k text) (add-one now.count)) refl)) goes
+      (record { place = refl; count = add-one now.count })
 
 -- A text has the length that its call returned, and that is no more than the room for it
 written_fits : {s before after : Bytes} {v : PlaceValue} {n : ℕ} → WriteCall s v before (got n) after → n ≤ length before
@@ -97,71 +99,80 @@ written_fits {s} {before} {after} {v} {n} w = go w refl
     go (not_accepted r e) z = absurd (refused_not z)
     go (on_accepted p e d) z = on p d z
 
+-- The next line, once it stands
+module _ {s : Bytes} {now : Listing} {after : Bytes} {r : Line} where
+  line_is : {line : Bytes} → Stands line after r.length → LineOf s (value_of now.place) now.count line r.then → NextLine s now after r
+  line_is {line} e l = record { line = line; stands = e; is_next = l }
+
+  last_is : {word : Bytes} {n : ℕ} → LastLine word n after r → LineOf s (value_of now.place) now.count (word ++ (decimal n ++ (10 ∷ []))) None
+      → NextLine s now after r
+  last_is l is = line_is l.line (subst (LineOf s (value_of now.place) now.count _) (sym l.over) is)
+
 -- One call of the program
-module _ {s : Bytes} (now : Listing) {before text : Bytes} (f : Finding) (finds : Finds s now.place 1000000 before text f) where
-  called : (a : Kind) → f.searched.answer ≡ a
-      → SearchCall s (value_of now.place) allowance (reply_with a (masks_in f.searched.row) (value_of f.searched.place))
+module _ {s : Bytes} (now : Listing) {before text : Bytes} where
+  pub refused_next : {e : Refusal} {n : ℕ} → Finds s now.place 1000000 before text (Err e) → n ≡ number e → {after : Bytes} {r : Line}
+      → LastLine (ascii "refused ") n after r → NextLine s now after r
   unfolding allowance
-  called a e =
-      subst
-      (λ (x : Kind). SearchCall s (value_of now.place) 1000000 (reply_with x (masks_in f.searched.row) (value_of f.searched.place))) e
-      finds.call.call
+  refused_next {e} {n} finds is l = last_is l (rw is (line.refuses finds.call.call))
 
-  pub text_fits : f.searched.answer ≡ answers.Found → f.length ≤ length before
-  text_fits e = written_fits (finds.text e)
+  module _ {f : Finding} (finds : Finds s now.place 1000000 before text (Ok f)) where
+    called : {a : Kind} → f.searched.answer ≡ a → SearchCall s (value_of now.place) allowance (reply_with a (value_of f.searched.place))
+    unfolding allowance
+    called e =
+        subst (λ (x : Kind). SearchCall s (value_of now.place) 1000000 (reply_with x (value_of f.searched.place))) e finds.call.call
 
-  module _ (after : Bytes) (r : Line) where
-    line_is : {line : Bytes} → Stands line after r.length → LineOf s (value_of now.place) now.count line r.then → NextLine s now after r
-    line_is {line} e l = record { line = line; stands = e; is_next = l }
+    handed : {a : Kind} → f.searched.answer ≡ a → Handed s before text f.length a
+    handed e = subst (Handed s before text f.length) e finds.text
 
-    pub end_next : f.searched.answer ≡ answers.End → LastLine (ascii "end ") now.count after r → NextLine s now after r
-    end_next e l = line_is l.line (line.ends (called answers.End e) l.over)
+    pub text_fits : {row : List NodeSet} → f.searched.answer ≡ answers.Found row → f.length ≤ length before
+    text_fits e = written_fits (handed e)
 
-    pub paused_next : f.searched.answer ≡ answers.Paused → LastLine (ascii "paused ") now.count after r → NextLine s now after r
-    paused_next e l = line_is l.line (line.pauses (called answers.Paused e) l.over)
+    module _ {after : Bytes} {r : Line} where
+      pub end_next : f.searched.answer ≡ answers.End → LastLine (ascii "end ") now.count after r → NextLine s now after r
+      end_next e l = last_is l (line.ends (called e))
 
-    pub refused_next : {n : ℕ} → f.searched.answer ≡ answers.Refused n → LastLine (ascii "refused ") n after r → NextLine s now after r
-    refused_next {n} e l = line_is l.line (line.refuses (called (answers.Refused n) e) l.over)
+      pub paused_next : f.searched.answer ≡ answers.Paused → LastLine (ascii "paused ") now.count after r → NextLine s now after r
+      paused_next e l = last_is l (line.pauses (called e))
 
-    pub found_next : All Byte s → f.searched.answer ≡ answers.Found → FoundLine now f.searched.place (take f.length text) after r
-        → NextLine s now after r
-    found_next b e (line.more many is over) = line_is is (line.more (called answers.Found e) many over)
-    found_next b e (line.solution few is goes) = go (called answers.Found e) refl
-      where
-        row : PlaceValue
-        row = row_value (masks_in f.searched.row)
+      pub found_next : All Byte s → {row : List NodeSet} → f.searched.answer ≡ answers.Found row
+          → FoundLine now f.searched.place (take f.length text) after r → NextLine s now after r
+      found_next b e (line.more many is over) =
+          last_is {word = ascii "more "} {n = now.count} (record { line = is; over = over }) (line.more (called e) many)
+      found_next b {row} e (line.solution few is continues goes) = go (called e) refl
+        where
+          value : PlaceValue
+          value = row_value (masks_in row)
 
-        go : {reply : HostReply} → SearchCall s (value_of now.place) allowance reply → reply ≡ found row (value_of f.searched.place)
-            → NextLine s now after r
-        go (not_accepted q z) w = never (cc)
-        go (on_accepted p z on) w =
-            let (q, named, solves) = (reply_named p (subst (SearchOn p (value_of now.place) allowance) w on)).0 in
-            let accepted : Accepted p = (accept_accepted s p b z).0 in
-            let said : take f.length text ≡ row_text p q = written_text p row before accepted q named (write_on p z (finds.text e)) in
-            line_is (subst (λ (t : Bytes). Stands (solution_line (suc now.count) t) after r.length) said is)
-            (line.solution p z (called answers.Found e) q named few goes)
+          go : {reply : HostReply} → SearchCall s (value_of now.place) allowance reply → reply ≡ found value (value_of f.searched.place)
+              → NextLine s now after r
+          go (not_accepted q z) w = never (cc)
+          go (on_accepted p z on) w =
+              let (q, named, solves) = (reply_named p (subst (SearchOn p (value_of now.place) allowance) w on)).0 in
+              let accepted : Accepted p = (accept_accepted s p b z).0 in
+              let said : take f.length text ≡ row_text p q = written_text p value before accepted q named (write_on p z (handed e)) in
+              line_is (subst (λ (t : Bytes). Stands (solution_line (suc now.count) t) after r.length) said is)
+              (subst (LineOf s (value_of now.place) now.count _) (sym continues) (line.solution p z (called e) q named few goes))
 
 -- How many lines are left at most
-abbrev pub left : Listing → ℕ
-left now = choose now.over 0 (1001 - now.count)
+abbrev pub left : Option Listing → ℕ
+left None = 0
+left (Some now) = 1001 - now.count
+
+-- At most 1000 solutions so far
+abbrev pub Few : Option Listing → Type 0
+Few None = Unit {0}
+Few (Some now) = now.count ≤ 1000
 
 -- The list comes to its end
-module _ {k : ℕ} (then : Listing) where
-  ended : then.over ≡ true → k ≤ 1000 → (left then < 1001 - k) × (then.over ≡ false → then.count ≤ 1000)
-  ended o few = (omega (arith, choose_true 0 (1001 - then.count) o), λ goes_on. absurd (false≢true (sym goes_on ∙ o)))
+fewer_left : {k : ℕ} {s x : Bytes} {place : PlaceValue} {then : Option Listing} → LineOf s place k x then → k ≤ 1000
+    → (left then < 1001 - k) × Few then
+unfolding most_printed
+fewer_left (line.solution p e call r named few goes) h = (omega (arith, goes.count), omega (arith, goes.count))
+fewer_left (line.more call many) h = (omega arith, tt)
+fewer_left (line.ends call) h = (omega arith, tt)
+fewer_left (line.pauses call) h = (omega arith, tt)
+fewer_left (line.refuses call) h = (omega arith, tt)
 
-  fewer_left : {s x : Bytes} {place : PlaceValue} → LineOf s place k x then → k ≤ 1000
-      → (left then < 1001 - k) × (then.over ≡ false → then.count ≤ 1000)
-  unfolding most_printed
-  fewer_left (line.solution p e call r named few goes) h =
-      (omega (arith, choose_false 0 (1001 - then.count) goes.goes_on, goes.count), λ goes_on. omega (arith, goes.count))
-  fewer_left (line.more call many o) h = ended o h
-  fewer_left (line.ends call o) h = ended o h
-  fewer_left (line.pauses call o) h = ended o h
-  fewer_left (line.refuses call o) h = ended o h
-
-pub lines_end : {s : Bytes} {now : Listing} {after : Bytes} {r : Line} → NextLine s now after r → now.over ≡ false → now.count ≤ 1000
-    → (left r.then < left now) × (r.then.over ≡ false → r.then.count ≤ 1000)
-lines_end {now = now} {r = r} l goes_on few =
-    let all = fewer_left r.then l.is_next few in
-    (omega (arith, all.0, choose_false 0 (1001 - now.count) goes_on), all.1)
+pub lines_end : {s : Bytes} {now : Listing} {after : Bytes} {r : Line} → NextLine s now after r → now.count ≤ 1000
+    → (left r.then < left (Some now)) × Few r.then
+lines_end l few = fewer_left l.is_next few

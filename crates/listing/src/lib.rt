@@ -1,13 +1,13 @@
 // What document 01's program `readings` prints: its lines, one after the other, each made in a buffer.
 #![tactic(auto)]
 
-ghost use Rattle.std.specs.Prelude.{◌+◌, ◌*◌, ◌≤◌, [], ◌∷◌, ◌++◌, length, take};
+ghost use Rattle.std.specs.Prelude.{◌+◌, ◌*◌, ◌≤◌, [], ◌∷◌, ◌++◌, length};
 ghost use Rattle.meaning.specs.Program.{decimal, solution_line};
 ghost use Rattle.ascii.specs.Put.{Put};
 ghost use Rattle.listing.specs.Listing.{Begins, Counted, FoundLine, LastLine, NextLine, line_room};
 
 use ascii::{put_bytes, put_number, put_word};
-use finding::find;
+use finding::{Finding, find};
 use places::Place;
 use seeking::Answer;
 
@@ -23,19 +23,18 @@ const LARGEST_WRITTEN: usize = 4224;
 // Room for every line: a word, ten digits, a colon, two digits for each byte of a text, and a line feed.
 pub const ROOM: usize = 8469;
 
-// Where the list of lines stands: the place of the next search call, the solutions so far, and whether the last line was made.
+// Where the list of lines stands that goes on: the place of the next search call, and the solutions so far.
 #[derive(Clone, Copy)]
 pub struct Listing {
     pub place: Place,
     pub count: u32,
-    pub over: bool,
 }
 
-// A line, by how long it is, and how the list stands after it.
+// A line, by how long it is, and how the list stands after it, if it goes on.
 #[derive(Clone, Copy)]
 pub struct Line {
     pub length: usize,
-    pub then: Listing,
+    pub then: Option<Listing>,
 }
 
 impl Listing {
@@ -43,12 +42,9 @@ impl Listing {
     pub fn start(problem: &[u8]) -> Listing
         ensures { Begins problem.now result }
     {
-        let started = Place::start(problem);
-        let place = started.place;
         Listing {
-            place: place,
+            place: Place::start(problem).unwrap_or(Place::past_last()),
             count: 0,
-            over: false,
         }
     }
 }
@@ -70,48 +66,38 @@ fn count_line(word: &[u8], n: u32, out: &mut [u8]) -> usize
     put_word(b"\n", end, out)
 }
 
-fn solution_line(k: u32, text: &[u8], n: usize, out: &mut [u8]) -> usize
-    requires { (n ≤ length text.now) × (21 + 2 * n ≤ length out.old) }
-    ensures { Put 0 (solution_line k (take n text.now)) out.old out.new result }
+fn solution_line(k: u32, text: &[u8], out: &mut [u8]) -> usize
+    requires { 21 + 2 * length text.now ≤ length out.old }
+    ensures { Put 0 (solution_line k text.now) out.old out.new result }
 {
     let colon = put_count(b"solution ", k, out);
     let digits = put_word(b":", colon, out);
-    let end = put_bytes(text, n, digits, out);
+    let end = put_bytes(text, digits, out);
     put_word(b"\n", end, out)
 }
 
-fn last_line(word: &[u8], n: u32, at: Listing, out: &mut [u8]) -> Line
+fn last_line(word: &[u8], n: u32, out: &mut [u8]) -> Line
     requires { length word.now + 11 ≤ length out.old }
     ensures { LastLine word.now n out.new result }
 {
-    let place = at.place;
-    let count = at.count;
     Line {
         length: count_line(word, n, out),
-        then: Listing {
-            place: place,
-            count: count,
-            over: true,
-        },
+        then: None,
     }
 }
 
 // With the text of what was found, and the place after it.
-fn found_line(at: Listing, next: Place, text: &[u8], n: usize, out: &mut [u8]) -> Line
-    requires { (n ≤ length text.now) × (21 + 2 * n ≤ length out.old) }
-    ensures { FoundLine at next (take n text.now) out.new result }
+fn found_line(at: Listing, next: Place, text: &[u8], out: &mut [u8]) -> Line
+    requires { 21 + 2 * length text.now ≤ length out.old }
+    ensures { FoundLine at next text.now out.new result }
 {
-    let count = at.count;
-    if MOST <= count {
-        return last_line(b"more ", count, at, out);
+    if MOST <= at.count {
+        return last_line(b"more ", at.count, out);
     }
+    let count = at.count + 1;
     Line {
-        length: solution_line(count + 1, text, n, out),
-        then: Listing {
-            place: next,
-            count: count + 1,
-            over: false,
-        },
+        length: solution_line(count, text, out),
+        then: Some(Listing { place: next, count }),
     }
 }
 
@@ -120,17 +106,12 @@ pub fn next_line(problem: &[u8], at: Listing, out: &mut [u8]) -> Line
     ensures { NextLine problem.now at out.new result }
 {
     let mut text = [0u8; LARGEST_WRITTEN];
-    let place = at.place;
-    let found = find(problem, place, ALLOWANCE, &mut text);
-    let searched = found.searched;
-    let answer = searched.answer;
-    match answer {
-        Answer::Found => {
-            let next = searched.place;
-            found_line(at, next, &text, found.length, out)
-        }
-        Answer::End => last_line(b"end ", at.count, at, out),
-        Answer::Paused => last_line(b"paused ", at.count, at, out),
-        Answer::Refused(r) => last_line(b"refused ", r as u32, at, out),
+    match find(problem, at.place, ALLOWANCE, &mut text) {
+        Err(refusal) => last_line(b"refused ", u32::from(refusal.number()), out),
+        Ok(Finding { searched, length }) => match searched.answer {
+            Answer::Found(_) => found_line(at, searched.place, &text[..length], out),
+            Answer::End => last_line(b"end ", at.count, out),
+            Answer::Paused => last_line(b"paused ", at.count, out),
+        },
     }
 }

@@ -8,8 +8,8 @@ use native.Mathlib.Omega.{arith}
 use lib.ListN.{length, take, drop, length-append}
 use lib.Seq.{take_at}
 use Rattle.meaning.proofs.Lists.{never}
-use Rattle.lockstep.specs.declared.Shapes.{Shapes}
-use Rattle.lockstep.specs.declared.Shapes.TheVariants as shapes
+use Rattle.std.specs.Prelude.{Some, None}
+use Rattle.std.specs.Prelude as std
 use Rattle.lockstep.specs.Span.{answer_of, Walked}
 
 pub record Found (walk : Option (List ℕ)) (new : List ℕ) (n : ℕ) : Type 0 where
@@ -19,11 +19,11 @@ pub record Found (walk : Option (List ℕ)) (new : List ℕ) (n : ℕ) : Type 0 
   pub front : take n new ≡ faces
   pub room : n ≤ length new
 
-module _ (walk : Option (List ℕ)) (old new : List ℕ) (q : Shapes) (w : Walked walk old new q) where
-  pub found : (n : ℕ) → q ≡ shapes.Faces n → Found walk new n
+module _ (walk : Option (List ℕ)) (old new : List ℕ) (q : std.Option ℕ) (w : Walked walk old new q) where
+  pub found : (n : ℕ) → q ≡ Some n → Found walk new n
   found n e = go walk refl (sym e ∙ w.answer)
     where
-      go : (o : Option (List ℕ)) → walk ≡ o → shapes.Faces n ≡ answer_of o → Found walk new n
+      go : (o : Option (List ℕ)) → walk ≡ o → Some n ≡ answer_of o → Found walk new n
       go none h a = never (cc)
       go (some ns) h a =
           let l : length ns ≡ n = cc in
@@ -37,9 +37,9 @@ module _ (walk : Option (List ℕ)) (old new : List ℕ) (q : Shapes) (w : Walke
             room = omega (arith, ap length r);
           }
 
-  pub disagreed : q ≡ shapes.Disagree → walk ≡ none
+  pub disagreed : q ≡ None → walk ≡ none
   disagreed e = go walk refl (sym e ∙ w.answer)
     where
-      go : (o : Option (List ℕ)) → walk ≡ o → shapes.Disagree ≡ answer_of o → walk ≡ none
+      go : (o : Option (List ℕ)) → walk ≡ o → None ≡ answer_of o → walk ≡ none
       go none h a = h
       go (some ns) h a = never (cc)

@@ -15,7 +15,7 @@ use Rattle.meaning.proofs.Lists.{never}
 use Rattle.slices.proofs.Slices.{drop_take}
 use Rattle.tokens.specs.Token.{tag_in, size_in}
 use Rattle.tokens.specs.Key.{key_of, at}
-use Rattle.lockstep.specs.declared.Shapes.TheVariants as shapes
+use Rattle.std.specs.Prelude.{Some, None}
 use Rattle.lockstep.specs.declared.Span.{Span}
 use Rattle.lockstep.specs.Walk.{is_slot, at_slots, face_code, lockstep}
 use Rattle.lockstep.specs.Span.{span_walk, Lent, answer_of, Walked}
@@ -113,18 +113,18 @@ module _ (ps es old : List ℕ) (s : Span) (l : Lent ps es old s) where
       }
 
   module _ (out : List ℕ) (i j n : ℕ) (w : Walking ps es old out s i j n) where
-    pub walked_disagree : left ps es s i j ≡ none → Walked (span_walk ps es s) old out shapes.Disagree
+    pub walked_disagree : left ps es s i j ≡ none → Walked (span_walk ps es s) old out None
     walked_disagree e =
         let z : span_walk ps es s ≡ none = w.whole ∙ ap (join (some (take n out))) e in
         record { answer = sym (ap answer_of z); recorded = λ xs h. never (cc) }
 
-    pub walked_end : s.to ≤ i → Walked (span_walk ps es s) old out (shapes.Faces n)
+    pub walked_end : s.to ≤ i → Walked (span_walk ps es s) old out (Some n)
     walked_end h =
         let z : span_walk ps es s ≡ some (take n out) =
         w.whole ∙ ap (join (some (take n out))) (left_end ps es s l.inside i j h) ∙ ap some (append-nil (take n out)) in
         let m : length (take n out) ≡ n = length-take-le n out (omega (arith, w.long, w.fits)) in
         record {
-          answer = ap shapes.Faces (sym m) ∙ sym (ap answer_of z);
+          answer = ap Some (sym m) ∙ sym (ap answer_of z);
           recorded = λ xs q. let e : xs ≡ take n out = cc in made xs e m;
         }
       where

@@ -8,14 +8,6 @@ ghost use Rattle.lockstep.specs.Span.{Lent, Walked, span_walk};
 use tokens::same::same_node;
 use tokens::token::{size, tag};
 
-#[derive(Clone, Copy)]
-pub enum Shapes {
-    // A shape disagrees.
-    Disagree,
-    // How many faces were recorded.
-    Faces(usize),
-}
-
 // The nodes of the patterns that are walked, and the expressions' node that the first of them is across from; d and e are the
 // binder depths from which the keys of the two are seen.
 #[derive(Clone, Copy)]
@@ -34,9 +26,9 @@ fn is_slot(x: u64) -> bool
     4 < tag(x)
 }
 
-// Records each face as pattern node + 65536 * expression node, in order. A slot is passed with all its nodes, and so is what it
-// faces; any other node has to have the key of what stands across.
-pub fn walk_at(ps: &[u64], es: &[u64], span: Span, out: &mut [u64]) -> Shapes
+// Records each face as pattern node + 65536 * expression node, in order, and answers how many there are, or None where a shape disagrees.
+// A slot is passed with all its nodes, and so is what it faces; any other node has to have the key of what stands across.
+pub fn walk_at(ps: &[u64], es: &[u64], span: Span, out: &mut [u64]) -> Option<usize>
     requires { Lent ps.now es.now out.old span }
     ensures { Walked (span_walk ps.now es.now span) out.old out.new result }
 {
@@ -46,9 +38,10 @@ pub fn walk_at(ps: &[u64], es: &[u64], span: Span, out: &mut [u64]) -> Shapes
     let mut i = span.from;
     let mut j = span.at;
     let mut n = 0;
+    // A while: a step is a whole subterm on either side.
     while i < to {
         if j >= es.len() {
-            return Shapes::Disagree;
+            return None;
         }
         let x = ps[i];
         let y = es[j];
@@ -59,11 +52,11 @@ pub fn walk_at(ps: &[u64], es: &[u64], span: Span, out: &mut [u64]) -> Shapes
             j += size(y) as usize;
         } else {
             if !same_node(d, x, e, y) {
-                return Shapes::Disagree;
+                return None;
             }
             i += 1;
             j += 1;
         }
     }
-    Shapes::Faces(n)
+    Some(n)
 }

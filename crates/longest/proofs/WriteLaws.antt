@@ -1,65 +1,46 @@
 -- What the functions that write ask of their callees and leave in the buffer, over plain variables; one part for each of them.
---   put_next      one byte more
 --   Symbols       what the loop of `write_symbols` keeps: i symbols are written
 --   field_wrote   a field's content, written into the part after its head, and then the head
-use mathlib.Core.Path.{◌≡◌, refl, ap, sym, ◌∙◌, subst}
-use Prim.Native.Nat.{ℕ, zero, suc, ◌+◌, ◌-◌, ◌*◌, ◌<◌, ◌≤◌}
-use mathlib.Core.Bool.{Bool, true, false}
+use mathlib.Core.Path.{◌≡◌, refl, ap, ap₂, sym, ◌∙◌, subst}
+use Prim.Native.Nat.{ℕ, suc, ◌+◌, ◌-◌, ◌*◌, ◌<◌, ◌≤◌}
+use mathlib.Core.Bool.{Bool, true, false, not, ◌&&◌, ◌||◌}
 use mathlib.Core.List.{[], ◌∷◌, ◌++◌}
 use native.Mathlib.Omega.{arith}
-use native.Mathlib.Numerals.{add-one}
 use borrow.Rule.Slice.PartMut.{put_mid, same_len_mid}
-use lib.ListN.{length, drop, get_or, length-append, set, take}
+use lib.ListN.{length, drop, take}
 use lib.Dec.{ltb}
+use Rattle.std.specs.Ordering.{is_le, nat_cmp}
+use Rattle.std.proofs.lemmas.Bool.Decides.{nat_tests}
 use Rattle.meaning.specs.Limits.{max_face_nodes}
 use Rattle.meaning.specs.Basics.{Bytes}
 use Rattle.meaning.specs.Read.{got, refused}
 use Rattle.meaning.specs.Field.{encode, field, word}
 use Rattle.meaning.specs.Longest.{LongestCall, buffer_after, is_outside, length_of, longest_bytes, longest_into, over, symbols}
 use Rattle.meaning.proofs.ByteLaws.{field_length}
-use Rattle.meaning.proofs.ShiftLaws.{ltb_no, ltb_yes}
 use Rattle.slices.proofs.Slices.{part_length}
 use Rattle.copying.specs.Fixed.{HeadRoom}
-use Rattle.copying.proofs.WriteLaws.{Part, headed, part_begins, part_ends, part_goes}
-use Rattle.longest.specs.Writing.{Nodes, ProblemRoom, Room, expression_bytes, pattern_bytes, terms_bytes}
+use Rattle.copying.proofs.WriteLaws.{Part, headed, part_ends, part_goes}
+use Rattle.longest.specs.Writing.{Nodes, ProblemRoom, Room, expression_bytes, terms_bytes}
 use Rattle.longest.proofs.IntoLaws.{inside, into_outside, into_room, into_short}
 use Rattle.longest.proofs.LongestBytes.{application_is, expression_length, expression_most, problem_is, problem_length, symbol_more}
 use Rattle.longest.proofs.LongestBytes.{symbols_length, symbol_field}
 
--- `put`
-put_at : (bytes o : Bytes) (i : ℕ) → i < length bytes → i < length o
-    → set (take i bytes ++ drop i o) i (get_or bytes i 0) ≡ take (suc i) bytes ++ drop (suc i) o
-put_at [] o i h l = absurd (omega arith)
-put_at (b ∷ bs) [] i h l = absurd (omega arith)
-put_at (b ∷ bs) (x ∷ o) zero h l = refl
-put_at (b ∷ bs) (x ∷ o) (suc i) h l = ap (λ (z : Bytes). b ∷ z) (put_at bs o i (omega arith) (omega arith))
+-- The return of `is_outside`
+up_to_tells : (a b : ℕ) → not (is_le (nat_cmp a b)) ≡ ltb b a
+up_to_tells a b = grind (arith, nat_tests)
 
-pub put_next : (bytes o out : Bytes) (i : ℕ) → i < length bytes → i < length o → out ≡ take i bytes ++ drop i o
-    → set out i (get_or bytes i 0) ≡ take (i + 1) bytes ++ drop (i + 1) o
-put_next bytes o out i h l e =
-    ap (λ (z : Bytes). set z i (get_or bytes i 0)) e ∙ put_at bytes o i h l
-    ∙ ap (λ (k : ℕ). take k bytes ++ drop k o) (sym (add-one i))
+not_both : (x y : Bool) → not (x && y) ≡ not x || not y
+not_both true y = refl
+not_both false y = refl
 
--- The returns of `is_outside`
-pub outside_below : (n : ℕ) → n < 1 → ltb n 1 ≡ is_outside n
-outside_below n h = rw (ltb_yes n 1 h)
-
-pub outside_above : (n : ℕ) → 1 ≤ n → ltb max_face_nodes n ≡ is_outside n
-outside_above n h = rw (ltb_no n 1 h)
+pub outside_told : (n : ℕ) → not (is_le (nat_cmp 1 n) && is_le (nat_cmp n max_face_nodes)) ≡ is_outside n
+outside_told n = not_both (is_le (nat_cmp 1 n)) (is_le (nat_cmp n max_face_nodes)) ∙ ap₂ ◌||◌ (up_to_tells 1 n) (up_to_tells n max_face_nodes)
 
 -- `write_symbols`: of all symbols, i are written
 pub record Symbols (m i : ℕ) (before out : Bytes) : Type 0 where
   pub few : i ≤ m
   pub same : length out ≡ length before
   pub part : Part (encode (symbols m)) (encode (symbols (m - i))) (5 * i) before out
-
-pub symbols_begin : (m : ℕ) (o : Bytes) → Symbols m 0 o o
-symbols_begin m o =
-    record {
-      few = omega arith;
-      same = refl;
-      part = subst (λ (k : ℕ). Part (encode (symbols m)) (encode (symbols k)) 0 o o) (let e : m ≡ m - 0 = omega arith in e) part_begins;
-    }
 
 module _ {m i : ℕ} {before out : Bytes} (w : Symbols m i before out) where
   pub symbols_end : m ≤ i → out ≡ over (encode (symbols m)) before
@@ -79,9 +60,6 @@ module _ {m i : ℕ} {before out : Bytes} (w : Symbols m i before out) where
 
     pub symbol_room : length (encode (symbols m)) ≤ length before → 5 * i + 5 ≤ length out
     symbol_room room = omega (arith, w.same, symbols_length m)
-
-    pub symbol_start : length (encode (symbols m)) ≤ length before → 5 * i ≤ length out
-    symbol_start room = omega (arith, symbol_room room)
 
     pub symbol_fits : length (encode (symbols m)) ≤ length before → 5 ≤ length (take (length out - 5 * i) (drop (5 * i) out))
     symbol_fits room =
@@ -113,51 +91,35 @@ head_room : (k : ℕ) (o y : Bytes) → 3 ≤ length o → k < 65536 → length 
 head_room k o y room counted kept = record { room = omega (arith, same_len_mid 3 (length o - 3) o y kept); counted = counted }
 
 -- The returns of `write_expression`, and what it asks of its callees
-module _ {n : ℕ} {o : Bytes} (h : Room n (length (expression_bytes n)) o) where
-  pub symbol_room_one : n ≡ 1 → length (encode (symbols 1)) ≤ length o
-  symbol_room_one e = rw e at h.room
+module _ {n : ℕ} {o : Bytes} (h : Room n (length (expression_bytes n)) o) (other : n ≡ 1 → ⊥) where
+  several : 2 ≤ n
+  several = let some = h.nodes.some in omega (arith, other)
 
-  pub symbol_wrote : {o' : Bytes} → n ≡ 1 → o' ≡ over (encode (symbols 1)) o → o' ≡ over (expression_bytes n) o
-  symbol_wrote e w = rw e w
+  application_room : 3 + 5 * (n - 1) ≤ length o
+  application_room = omega (arith, expression_length n several, h.room)
 
-  module _ (other : n ≡ 1 → ⊥) where
-    several : 2 ≤ n
-    several = let some = h.nodes.some in omega (arith, other)
+  pub application_long : 3 ≤ length o
+  application_long = omega (arith, application_room)
 
-    application_room : 3 + 5 * (n - 1) ≤ length o
-    application_room = omega (arith, expression_length n several, h.room)
+  pub application_counted : 5 * (n - 1) < 65536
+  unfolding max_face_nodes
+  application_counted = omega (arith, h.nodes.few)
 
-    pub application_long : 3 ≤ length o
-    application_long = omega (arith, application_room)
+  pub application_head : (y : Bytes) → length y ≡ length (take (length o - 3) (drop 3 o))
+      → HeadRoom (5 * (n - 1)) (put_mid 3 (length o - 3) o y)
+  application_head y kept = head_room (5 * (n - 1)) o y application_long application_counted kept
 
-    pub application_counted : 5 * (n - 1) < 65536
-    unfolding max_face_nodes
-    application_counted = omega (arith, h.nodes.few)
+  pub symbols_fit : length (encode (symbols (n - 1))) ≤ length (take (length o - 3) (drop 3 o))
+  symbols_fit =
+      let fits = application_room in
+      omega (arith, symbols_length (n - 1), part_length 3 (length o) o (omega arith) (omega arith))
 
-    pub application_head : (y : Bytes) → length y ≡ length (take (length o - 3) (drop 3 o))
-        → HeadRoom (5 * (n - 1)) (put_mid 3 (length o - 3) o y)
-    application_head y kept = head_room (5 * (n - 1)) o y application_long application_counted kept
-
-    pub symbols_fit : length (encode (symbols (n - 1))) ≤ length (take (length o - 3) (drop 3 o))
-    symbols_fit =
-        let fits = application_room in
-        omega (arith, symbols_length (n - 1), part_length 3 (length o) o (omega arith) (omega arith))
-
-    pub application_wrote : {y o' : Bytes} → y ≡ over (encode (symbols (n - 1))) (take (length o - 3) (drop 3 o))
-        → o' ≡ 3 ∷ (word (5 * (n - 1)) ++ drop 3 (put_mid 3 (length o - 3) o y)) → o' ≡ over (expression_bytes n) o
-    application_wrote {y} {o'} is_y e =
-        let fits = application_room in
-        field_wrote 3 (5 * (n - 1)) (encode (symbols (n - 1))) o y o' (sym (symbols_length (n - 1))) (omega arith) is_y e
-        ∙ ap (λ (b : Bytes). over b o) (sym (application_is n several))
-
--- The return of `write_terms`
-pub terms_wrote : {n : ℕ} {o y o' : Bytes} → Room n (length (terms_bytes n)) o
-    → y ≡ over (expression_bytes n) (take (length o - 8) (drop 8 o)) → o' ≡ over pattern_bytes (put_mid 8 (length o - 8) o y) → o' ≡ over (terms_bytes n) o
-terms_wrote {n} {o} {y} {o'} h is_y e =
-    let room = h.room in
-    (headed pattern_bytes (expression_bytes n) o y o' 8 (length (expression_bytes n)) (8 + length (expression_bytes n)) refl (omega arith)
-    (refl, is_y) refl e).1
-    ∙ ap (λ (k : ℕ). terms_bytes n ++ drop k o) (sym (length-append pattern_bytes (expression_bytes n)))
+  pub application_wrote : {y o' : Bytes} → y ≡ over (encode (symbols (n - 1))) (take (length o - 3) (drop 3 o))
+      → o' ≡ 3 ∷ (word (5 * (n - 1)) ++ drop 3 (put_mid 3 (length o - 3) o y)) → o' ≡ over (expression_bytes n) o
+  application_wrote {y} {o'} is_y e =
+      let fits = application_room in
+      field_wrote 3 (5 * (n - 1)) (encode (symbols (n - 1))) o y o' (sym (symbols_length (n - 1))) (omega arith) is_y e
+      ∙ ap (λ (b : Bytes). over b o) (sym (application_is n several))
 
 -- `problem_length`, of as many nodes as are written for
 pub length_one : {n : ℕ} → n ≡ 1 → 16 ≡ length (longest_bytes n)
@@ -216,11 +178,7 @@ module _ (n : ℕ) (o : Bytes) where
     pub short_refused : length o < bytes → LongestCall n o (refused 29) o
     short_refused h = refuses (into_short n o (sym is ∙ e) (omega (arith, long)))
 
-    module _ (room : bytes ≤ length o) where
-      pub problem_room : ProblemRoom n bytes o
-      problem_room = record { fits = record { nodes = inside n (sym is ∙ e); room = room }; counted = long }
-
-      pub longest_written : {o' : Bytes} → o' ≡ over (longest_bytes n) o → LongestCall n o (got bytes) o'
-      longest_written w =
-          let a = into_room n o (sym is ∙ e) (omega (arith, long)) in
-          record { answers = ap got long ∙ sym (ap length_of a); leaves = w ∙ sym (ap (buffer_after o) a) }
+    pub longest_written : {o' : Bytes} → bytes ≤ length o → o' ≡ over (longest_bytes n) o → LongestCall n o (got bytes) o'
+    longest_written room w =
+        let a = into_room n o (sym is ∙ e) (omega (arith, long)) in
+        record { answers = ap got long ∙ sym (ap length_of a); leaves = w ∙ sym (ap (buffer_after o) a) }

@@ -4,14 +4,14 @@
 --   Room            what writing for n asks of a buffer: room for so many bytes
 --   ProblemRoom     the same for the whole problem, which has so many
 --   WritesLongest   the answer for any n, with the whole buffer
-use Rattle.std.specs.Prelude.{◌≡◌, ℕ, ◌≤◌, [], ◌∷◌, ◌++◌, length}
+use Rattle.std.specs.Prelude.{◌≡◌, ℕ, ◌≤◌, [], ◌∷◌, ◌++◌, Result, length}
 use Rattle.meaning.specs.Limits.{max_face_nodes}
 use Rattle.meaning.specs.Basics.{Bytes}
 use Rattle.meaning.specs.Term.{one}
 use Rattle.meaning.specs.Field.{encode}
 use Rattle.meaning.specs.Longest.{LongestCall, heaviest, longest_bytes}
 use Rattle.copying.specs.Answered.{answer_of}
-use Rattle.copying.specs.declared.Written.{Written}
+use Rattle.refusal.specs.declared.Refusal.{Refusal}
 
 pub record Nodes (n : ℕ) : Type 0 where
   pub some : 1 ≤ n
@@ -35,5 +35,5 @@ pub record ProblemRoom (n bytes : ℕ) (buffer : Bytes) : Type 0 where
   pub fits : Room n bytes buffer
   pub counted : bytes ≡ length (longest_bytes n)
 
-abbrev pub WritesLongest : ℕ → Bytes → Bytes → Written → Type 0
+abbrev pub WritesLongest : ℕ → Bytes → Bytes → Result ℕ Refusal → Type 0
 WritesLongest n before after r = LongestCall n before (answer_of r) after

@@ -7,8 +7,9 @@ ghost use Rattle.meaning.specs.Field.{encode};
 ghost use Rattle.meaning.specs.Longest.{is_outside, longest_bytes, over, symbols};
 ghost use Rattle.longest.specs.Writing.{Nodes, ProblemRoom, Room, WritesLongest, expression_bytes, terms_bytes};
 
-use copying::{Written, write_head};
+use copying::write_head;
 use masks::NodeSet;
+use refusal::Refusal;
 
 const APPLICATION: u8 = 3;
 
@@ -21,20 +22,12 @@ const PATTERN: usize = 8;
 
 const SYMBOL: usize = 5;
 
-const NODES_OUT_OF_RANGE: u8 = 28;
-
-const PROBLEM_BUFFER_TOO_SHORT: u8 = 29;
-
 // Bytes at the buffer's front.
 fn put(bytes: &[u8], out: &mut [u8])
     requires { length bytes.now ≤ length out.old }
     ensures { out.new ≡ over bytes.now out.old }
 {
-    let mut i = 0;
-    while i < bytes.len() {
-        out[i] = bytes[i];
-        i += 1;
-    }
+    out[..bytes.len()].copy_from_slice(bytes);
 }
 
 // So many times symbol 0: 01 0002 0000.
@@ -42,10 +35,8 @@ fn write_symbols(m: usize, out: &mut [u8])
     requires { length (encode (symbols m)) ≤ length out.old }
     ensures { out.new ≡ over (encode (symbols m)) out.old }
 {
-    let mut i = 0;
-    while i < m {
+    for i in 0..m {
         put(b"\x01\x00\x02\x00\x00", &mut out[SYMBOL * i..]);
-        i += 1;
     }
 }
 
@@ -56,10 +47,10 @@ fn write_expression(n: usize, out: &mut [u8])
 {
     if n == 1 {
         write_symbols(1, out);
-        return;
+    } else {
+        write_symbols(n - 1, &mut out[HEAD..]);
+        write_head(APPLICATION, SYMBOL * (n - 1), out);
     }
-    write_symbols(n - 1, &mut out[HEAD..]);
-    write_head(APPLICATION, SYMBOL * (n - 1), out);
 }
 
 // The constraint's two terms: P(X), which is 06 0005 00 and in it 05 0001 01, before the expression.
@@ -86,30 +77,30 @@ fn problem_length(n: u32) -> usize
     ensures { Nodes n → result ≡ length (longest_bytes n) }
 {
     if n == 1 {
-        return HEAD + PATTERN + SYMBOL;
+        HEAD + PATTERN + SYMBOL
+    } else {
+        HEAD + PATTERN + HEAD + SYMBOL * n as usize - SYMBOL
     }
-    HEAD + PATTERN + HEAD + SYMBOL * n as usize - SYMBOL
 }
 
 // "28 when n is outside 1 to 256"
 fn is_outside(n: u32) -> bool
     ensures { result ≡ is_outside n }
 {
-    n < 1 || n as usize > NodeSet::ROOM
+    !(1..=NodeSet::ROOM).contains(&(n as usize))
 }
 
 // The problem for n nodes at the buffer's front: no later byte changes, and on a refusal none does.
-pub fn write_longest(n: u32, out: &mut [u8]) -> Written
+pub fn write_longest(n: u32, out: &mut [u8]) -> Result<usize, Refusal>
     ensures { WritesLongest n out.old out.new result }
 {
     let length = problem_length(n);
-    let outside = is_outside(n);
-    if outside {
-        return Written::Refused(NODES_OUT_OF_RANGE);
+    if is_outside(n) {
+        return Err(Refusal::NodesOutOfRange);
     }
     if out.len() < length {
-        return Written::Refused(PROBLEM_BUFFER_TOO_SHORT);
+        return Err(Refusal::ProblemBufferTooShort);
     }
     write_problem(n as usize, length, out);
-    Written::Wrote(length)
+    Ok(length)
 }

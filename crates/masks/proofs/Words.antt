@@ -3,19 +3,33 @@
 use mathlib.Core.Path.{◌≡◌, refl, sym, ap, ap₂, ◌∙◌, subst}
 use mathlib.Core.Bool.{Bool, true, false}
 use mathlib.Core.Logic.{◌↔◌}
-use mathlib.Core.List.{List, [], ◌∷◌, ◌++◌, append-nil}
+use mathlib.Core.List.{List, [], ◌∷◌, ◌++◌}
 use Prim.Native.Nat.{ℕ, zero, suc, ◌+◌, ◌*◌, ◌/◌, ◌%◌, ◌^◌, ◌≤◌, ◌<◌}
 use native.Mathlib.Omega.{arith}
 use lib.Dec.{eqb}
-use lib.ListN.{length, get_or, set, length-append, get_or-append, get_or-map}
+use lib.ListN.{length, get_or, set, take, drop, length-append, length-set, get_or-append, get_or-map}
 use lib.Pow.{pow_pos}
-use lib.Seq.{get_or-append-add, set-append_left, take_at, drop_at}
+use lib.Seq.{get_or-append-add, set-append_left, take_at, drop_at, drop-cons}
 use borrow.Author.Tests.{eq-eqb, eqb-true}
 use Rattle.masks.specs.Mask.{marks, value, trues, first}
 use Rattle.masks.specs.Sets.{word_nodes, word_count, width, words, marks_in, mask, nodes, masks_in, words_in, words_of}
 use Rattle.masks.specs.declared.NodeSet.{NodeSet}
 use Rattle.masks.proofs.Cases.{same_truth}
 use Rattle.masks.proofs.Marks.{length_marks, marks_value, value_lt, value_marks}
+
+-- ---- a set's words
+
+-- The words of a set are its array's, which has so many
+pub words_array : (s : NodeSet) → length s.words ≡ word_count → words s ≡ s.words
+words_array s e = four s.words e
+  where
+    four : (ws : List ℕ) → length ws ≡ 4 → get_or ws 0 0 ∷ get_or ws 1 0 ∷ get_or ws 2 0 ∷ get_or ws 3 0 ∷ [] ≡ ws
+    four [] e = absurd (omega arith)
+    four (a ∷ []) e = absurd (omega arith)
+    four (a ∷ b ∷ []) e = absurd (omega arith)
+    four (a ∷ b ∷ c ∷ []) e = absurd (omega arith)
+    four (a ∷ b ∷ c ∷ d ∷ []) e = refl
+    four (a ∷ b ∷ c ∷ d ∷ f ∷ r) e = absurd (omega arith)
 
 -- ---- a set's marks
 
@@ -90,12 +104,12 @@ has_node s k h =
     ∙ ap₂ (λ (l : List Bool) (n : ℕ). get_or l n false) (sym (nodes_words s)) (split_node k)
 
 -- A node of the first word
-pub has_first : (s : NodeSet) (k : ℕ) → k < word_nodes → get_or (marks word_nodes s.w0) k false ≡ get_or (nodes s) k false
+pub has_first : (s : NodeSet) (k : ℕ) → k < word_nodes → get_or (marks word_nodes (get_or s.words 0 0)) k false ≡ get_or (nodes s) k false
 unfolding marks_in
 has_first s k h =
     sym
     (ap (λ (l : List Bool). get_or l k false) (nodes_words s)
-    ∙ get_or-append (marks word_nodes s.w0) _ false k (omega (arith, length_marks word_nodes s.w0)))
+    ∙ get_or-append (marks word_nodes (get_or s.words 0 0)) _ false k (omega (arith, length_marks word_nodes (get_or s.words 0 0))))
 
 pub set_node : (s r : NodeSet) (k w : ℕ) (b : Bool) → k < width → words r ≡ set (words s) (k / 64) w
     → marks word_nodes w ≡ set (marks word_nodes (get_or (words s) (k / 64) 0)) (k % 64) b → nodes r ≡ set (nodes s) k b
@@ -104,7 +118,21 @@ set_node s r k w b h e d =
     nodes_words r ∙ ap marks_in e ∙ word_set (words s) (k / 64) (k % 64) w b (omega arith) (omega arith) d
     ∙ ap₂ (λ (l : List Bool) (n : ℕ). set l n b) (sym (nodes_words s)) (split_node k)
 
+-- A node of the first word changed
+pub set_first : (s r : NodeSet) (k w : ℕ) (b : Bool) → k < word_nodes → words r ≡ set (words s) 0 w
+    → marks word_nodes w ≡ set (marks word_nodes (get_or s.words 0 0)) k b → nodes r ≡ set (nodes s) k b
+unfolding width
+set_first s r k w b h e d =
+    let i : 0 ≡ k / 64 = omega arith in
+    let j : k ≡ k % 64 = omega arith in
+    set_node s r k w b (omega arith) (e ∙ ap (λ (n : ℕ). set (words s) n w) i)
+    (d ∙ ap₂ (λ (n m : ℕ). set (marks word_nodes (get_or (words s) n 0)) m b) i j)
+
 -- ---- the counts
+
+-- The marks of the words of an array
+pub nodes_array : (s : NodeSet) → length s.words ≡ word_count → nodes s ≡ marks_in s.words
+nodes_array s four = nodes_words s ∙ ap marks_in (words_array s four)
 
 pub trues_append : (l r : List Bool) → trues (l ++ r) ≡ trues l + trues r
 unfolding trues
@@ -112,18 +140,18 @@ trues_append [] r = omega arith
 trues_append (true ∷ l) r = omega (arith, trues_append l r)
 trues_append (false ∷ l) r = trues_append l r
 
--- Ones are counted over all words
-pub ones_words : (s : NodeSet) → trues (nodes s)
-    ≡ trues (marks word_nodes s.w0) + trues (marks word_nodes s.w1) + trues (marks word_nodes s.w2) + trues (marks word_nodes s.w3)
+-- Ones are counted over all words, one after the other
+pub ones_more : (ws : List ℕ) (i : ℕ) → i < length ws
+    → trues (marks_in (take (suc i) ws)) ≡ trues (marks_in (take i ws)) + trues (marks word_nodes (get_or ws i 0))
 unfolding marks_in trues
-ones_words s =
-    ap trues (nodes_words s)
-    ∙ omega (
+ones_more [] i h = absurd (omega arith)
+ones_more (w ∷ ws) zero h = omega (arith, trues_append (marks word_nodes w) [])
+ones_more (w ∷ ws) (suc i) h =
+    omega (
       arith,
-      trues_append (marks word_nodes s.w0) (marks_in (s.w1 ∷ s.w2 ∷ s.w3 ∷ [])),
-      trues_append (marks word_nodes s.w1) (marks_in (s.w2 ∷ s.w3 ∷ [])),
-      trues_append (marks word_nodes s.w2) (marks_in (s.w3 ∷ [])),
-      trues_append (marks word_nodes s.w3) [],
+      ones_more ws i (omega arith),
+      trues_append (marks word_nodes w) (marks_in (take (suc i) ws)),
+      trues_append (marks word_nodes w) (marks_in (take i ws)),
     )
 
 -- The lowest node of the words: that of the first, or, where it has none, that of those after it
@@ -149,29 +177,21 @@ first_word : (w : ℕ) (ws : List ℕ) → w < 2 ^ word_nodes → (w ≡ 0 → �
 unfolding marks_in
 first_word w ws h n = first_here (marks word_nodes w) (marks_in ws) (λ e. n (sym (value_marks word_nodes w h) ∙ e))
 
-first_last : (w : ℕ) → first (marks_in (w ∷ [])) ≡ first (marks word_nodes w)
-unfolding marks_in
-first_last w = ap first (append-nil (marks word_nodes w))
+-- As the code looks for it: word i has it, or it is after the word
+module _ (ws : List ℕ) (i : ℕ) (h : i < length ws) where
+  pub lowest_here : get_or ws i 0 < 2 ^ word_nodes → (get_or ws i 0 ≡ 0 → ⊥)
+      → first (marks_in (drop i ws)) ≡ first (marks word_nodes (get_or ws i 0))
+  lowest_here s n = ap (λ (l : List ℕ). first (marks_in l)) (drop-cons ws i 0 h) ∙ first_word (get_or ws i 0) (drop (suc i) ws) s n
 
--- As the code looks for it, by the first word that is not 0
-module _ (s : NodeSet) where
-  pub lowest_first : s.w0 < 2 ^ word_nodes → (s.w0 ≡ 0 → ⊥) → first (marks word_nodes s.w0) ≡ first (nodes s)
-  lowest_first h n = sym (ap first (nodes_words s) ∙ first_word s.w0 _ h n)
+  pub lowest_later : get_or ws i 0 ≡ 0 → first (marks_in (drop i ws)) ≡ word_nodes + first (marks_in (drop (suc i) ws))
+  lowest_later e = ap (λ (l : List ℕ). first (marks_in l)) (drop-cons ws i 0 h) ∙ first_later (get_or ws i 0) (drop (suc i) ws) e
 
-  pub lowest_second : s.w0 ≡ 0 → s.w1 < 2 ^ word_nodes → (s.w1 ≡ 0 → ⊥) → 64 + first (marks word_nodes s.w1) ≡ first (nodes s)
-  lowest_second a h n =
-      sym
-      (ap first (nodes_words s) ∙ first_later s.w0 _ a ∙ ap (λ (k : ℕ). 64 + k) (first_word s.w1 (s.w2 ∷ s.w3 ∷ []) h n))
-
-  pub lowest_third : s.w0 ≡ 0 → s.w1 ≡ 0 → s.w2 < 2 ^ word_nodes → (s.w2 ≡ 0 → ⊥) → 128 + first (marks word_nodes s.w2) ≡ first (nodes s)
-  lowest_third a b h n =
-      let x = ap first (nodes_words s) ∙ first_later s.w0 _ a in
-      omega (arith, x, first_later s.w1 (s.w2 ∷ s.w3 ∷ []) b, first_word s.w2 (s.w3 ∷ []) h n)
-
-  pub lowest_fourth : s.w0 ≡ 0 → s.w1 ≡ 0 → s.w2 ≡ 0 → 192 + first (marks word_nodes s.w3) ≡ first (nodes s)
-  lowest_fourth a b d =
-      let x = ap first (nodes_words s) ∙ first_later s.w0 _ a in
-      omega (arith, x, first_later s.w1 (s.w2 ∷ s.w3 ∷ []) b, first_later s.w2 (s.w3 ∷ []) d, first_last s.w3)
+pub none_left : (ws : List ℕ) (i : ℕ) → length ws ≤ i → first (marks_in (drop i ws)) ≡ 0
+unfolding marks_in first
+none_left [] zero h = refl
+none_left [] (suc i) h = refl
+none_left (w ∷ ws) zero h = absurd (omega arith)
+none_left (w ∷ ws) (suc i) h = none_left ws i (omega arith)
 
 -- A set without a node: there is no lowest one
 none_first : (l : List Bool) → (first l ≡ length l) ↔ (value l ≡ 0)
@@ -188,7 +208,7 @@ empty_test s n e =
     same_truth (eqb n 256) (eqb (mask s) 0) (λ h. eq-eqb (mask s) 0 (mask_nodes s ∙ q.0 (sym e ∙ eqb-true n 256 h ∙ sym l)))
     (λ h. eq-eqb n 256 (e ∙ q.1 (sym (mask_nodes s) ∙ eqb-true (mask s) 0 h) ∙ l))
 
--- A count of a word is at most the number of its nodes
+-- A count of a word, or of several, is at most the number of their nodes
 trues_le : (l : List Bool) → trues l ≤ length l
 unfolding trues
 trues_le [] = omega arith
@@ -197,6 +217,12 @@ trues_le (false ∷ l) = omega (arith, trues_le l)
 
 pub few_ones : (w : ℕ) → trues (marks word_nodes w) ≤ word_nodes
 few_ones w = omega (arith, trues_le (marks word_nodes w), length_marks word_nodes w)
+
+pub most_ones : (ws : List ℕ) (i : ℕ) → trues (marks_in (take i ws)) ≤ i * word_nodes
+unfolding marks_in trues
+most_ones ws zero = omega arith
+most_ones [] (suc i) = omega arith
+most_ones (w ∷ ws) (suc i) = omega (arith, most_ones ws i, few_ones w, trues_append (marks word_nodes w) (marks_in (take i ws)))
 
 pub first_le : (l : List Bool) → first l ≤ length l
 unfolding first
@@ -212,14 +238,16 @@ few_zeros w = omega (arith, first_le (marks word_nodes w), length_marks word_nod
 pub word_at : (s : NodeSet) (i n : ℕ) → i ≡ n → get_or (words s) n 0 ≡ get_or (words s) i 0
 word_at s i n e = ap (λ (k : ℕ). get_or (words s) k 0) (sym e)
 
-pub put_at : (s : NodeSet) (i n w : ℕ) → i ≡ n → set (words s) n w ≡ set (words s) i w
-put_at s i n w e = ap (λ (k : ℕ). set (words s) k w) (sym e)
+pub put_at : (s : NodeSet) (i n w : ℕ) → length s.words ≡ word_count → i ≡ n → words (record { words = set s.words n w }) ≡ set (words s) i w
+put_at s i n w four e =
+    words_array (record { words = set s.words n w }) (length-set s.words n w ∙ four)
+    ∙ ap₂ (λ (ws : List ℕ) (k : ℕ). set ws k w) (sym (words_array s four)) (sym e)
 
 -- ---- the masks of a row
 
--- What the code reads past the end of an array
-abbrev no_nodes : NodeSet
-no_nodes = record { w0 = 0; w1 = 0; w2 = 0; w3 = 0 }
+-- What the code reads past the end of an array of sets
+abbrev pub no_nodes : NodeSet
+no_nodes = record { words = [] }
 
 pub masks_at : (row : List NodeSet) (k : ℕ) → mask (get_or row k no_nodes) ≡ get_or (masks_in row) k 0
 unfolding mask value marks_in marks
@@ -240,13 +268,14 @@ words_back w ws n h e =
     (ap (words_in n) (drop_at (marks word_nodes w) (marks_in ws) word_nodes l) ∙ e)
 
 -- A HOST THAT HOLDS THE WORDS OF A SET HOLDS ITS MASK
-pub mask_words : (s : NodeSet) → s.w0 < 2 ^ word_nodes → s.w1 < 2 ^ word_nodes → s.w2 < 2 ^ word_nodes → s.w3 < 2 ^ word_nodes
-    → words_of (mask s) ≡ words s
+pub mask_words : (s : NodeSet) → get_or s.words 0 0 < 2 ^ word_nodes → get_or s.words 1 0 < 2 ^ word_nodes
+    → get_or s.words 2 0 < 2 ^ word_nodes → get_or s.words 3 0 < 2 ^ word_nodes → words_of (mask s) ≡ words s
 unfolding words_of words_in
 mask_words s a b c d =
     ap (words_in word_count) (nodes_words s)
-    ∙ words_back s.w0 (s.w1 ∷ s.w2 ∷ s.w3 ∷ []) 3 a
-    (words_back s.w1 (s.w2 ∷ s.w3 ∷ []) 2 b (words_back s.w2 (s.w3 ∷ []) 1 c (words_back s.w3 [] 0 d refl)))
+    ∙ words_back (get_or s.words 0 0) (get_or s.words 1 0 ∷ get_or s.words 2 0 ∷ get_or s.words 3 0 ∷ []) 3 a
+    (words_back (get_or s.words 1 0) (get_or s.words 2 0 ∷ get_or s.words 3 0 ∷ []) 2 b
+    (words_back (get_or s.words 2 0) (get_or s.words 3 0 ∷ []) 1 c (words_back (get_or s.words 3 0) [] 0 d refl)))
 
 pub length_words : (m : ℕ) → length (words_of m) ≡ word_count
 unfolding words_of words_in

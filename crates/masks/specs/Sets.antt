@@ -8,7 +8,7 @@
 --   nodes       its marks
 --   masks_in     the masks of several sets: a row has one set for each function
 --   words_of     the words of a mask, as a host holds them: the inverse of `mask`
-use Rattle.std.specs.Prelude.{Bool, List, [], ◌∷◌, ◌++◌, map, ℕ, zero, suc, ◌*◌, take, drop}
+use Rattle.std.specs.Prelude.{Bool, List, [], ◌∷◌, ◌++◌, map, ℕ, zero, suc, ◌*◌, get_or, take, drop}
 use Rattle.masks.specs.Mask.{marks, value}
 use Rattle.masks.specs.declared.NodeSet.{NodeSet}
 
@@ -23,7 +23,7 @@ unfoldable pub width : ℕ
 width = word_count * word_nodes
 
 abbrev pub words : NodeSet → List ℕ
-words s = s.w0 ∷ s.w1 ∷ s.w2 ∷ s.w3 ∷ []
+words s = get_or s.words 0 0 ∷ get_or s.words 1 0 ∷ get_or s.words 2 0 ∷ get_or s.words 3 0 ∷ []
 
 -- The marks of words, one after the other
 unfoldable pub marks_in : List ℕ → List Bool

@@ -41,32 +41,26 @@ fn word_without(w: u64, k: usize) -> u64
     requires { k < word_nodes }
     ensures { marks word_nodes result ≡ leave (marks word_nodes w) k }
 {
-    if in_word(w, k) {
-        return w - bit(k);
-    }
-    w
+    if in_word(w, k) { w - bit(k) } else { w }
 }
 
 // How many nodes are in the word.
 fn ones(w: u64) -> usize
     ensures { result ≡ trues (marks word_nodes w) }
 {
-    u64::count_ones(w) as usize
+    w.count_ones() as usize
 }
 
 // The lowest node of the word, or how many nodes it has where none is in it.
 fn leading(w: u64) -> usize
     ensures { result ≡ first (marks word_nodes w) }
 {
-    u64::leading_zeros(w) as usize
+    w.leading_zeros() as usize
 }
 
-#[derive(Clone, Copy)]
+#[derive(Clone, Copy, PartialEq, Eq)]
 pub struct NodeSet {
-    pub w0: u64,
-    pub w1: u64,
-    pub w2: u64,
-    pub w3: u64,
+    pub words: [u64; NodeSet::WORDS],
 }
 
 impl NodeSet {
@@ -80,22 +74,21 @@ impl NodeSet {
         ensures { mask result ≡ 0 }
     {
         NodeSet {
-            w0: 0,
-            w1: 0,
-            w2: 0,
-            w3: 0,
+            words: [0; NodeSet::WORDS],
         }
     }
 
+    // Word i. By cases and not as `self.words[i]`, and so in `put`: an index that only running tells keeps the set in memory, and a step of
+    // a row then takes a fifth more instructions (measured).
     fn word(self, i: usize) -> u64
         requires { i < word_count }
         ensures { result ≡ get_or (words self) i 0 }
     {
         match i {
-            0 => self.w0,
-            1 => self.w1,
-            2 => self.w2,
-            _ => self.w3,
+            0 => self.words[0],
+            1 => self.words[1],
+            2 => self.words[2],
+            _ => self.words[3],
         }
     }
 
@@ -106,10 +99,10 @@ impl NodeSet {
     {
         let mut r = self;
         match i {
-            0 => r.w0 = w,
-            1 => r.w1 = w,
-            2 => r.w2 = w,
-            _ => r.w3 = w,
+            0 => r.words[0] = w,
+            1 => r.words[1] = w,
+            2 => r.words[2] = w,
+            _ => r.words[3] = w,
         }
         r
     }
@@ -120,23 +113,25 @@ impl NodeSet {
     {
         // Asked of every node of a face in every row, and most faces have no more nodes than a word.
         if k < WORD {
-            return in_word(self.w0, k);
+            return in_word(self.words[0], k);
         }
-        if k < NodeSet::ROOM {
-            return in_word(self.word(k / WORD), k % WORD);
-        }
-        false
+        k < NodeSet::ROOM && in_word(self.word(k / WORD), k % WORD)
     }
 
     // The set with node k as well. A node that there is no room for is not added.
     pub fn with(self, k: usize) -> NodeSet
         ensures { nodes result ≡ join (nodes self) k }
     {
+        // As in `has`.
+        if k < WORD {
+            return self.put(0, word_with(self.words[0], k));
+        }
         if k < NodeSet::ROOM {
             let i = k / WORD;
-            return self.put(i, word_with(self.word(i), k % WORD));
+            self.put(i, word_with(self.word(i), k % WORD))
+        } else {
+            self
         }
-        self
     }
 
     // The set without node k.
@@ -145,32 +140,33 @@ impl NodeSet {
     {
         if k < NodeSet::ROOM {
             let i = k / WORD;
-            return self.put(i, word_without(self.word(i), k % WORD));
+            self.put(i, word_without(self.word(i), k % WORD))
+        } else {
+            self
         }
-        self
     }
 
     // How many nodes are in the set: the number of holes of a body. Ones are counted over all words.
     pub fn holes(self) -> usize
         ensures { result ≡ trues (nodes self) }
     {
-        ones(self.w0) + ones(self.w1) + ones(self.w2) + ones(self.w3)
+        let mut n = 0;
+        for w in &self.words {
+            n += ones(*w);
+        }
+        n
     }
 
     // The lowest node of the set, or ROOM where it has none: the leading zeros of the first word that is not 0, after the words before it.
     pub fn lowest(self) -> usize
         ensures { result ≡ first (nodes self) }
     {
-        if self.w0 != 0 {
-            return leading(self.w0);
+        for (i, w) in self.words.iter().enumerate() {
+            if *w != 0 {
+                return i * WORD + leading(*w);
+            }
         }
-        if self.w1 != 0 {
-            return WORD + leading(self.w1);
-        }
-        if self.w2 != 0 {
-            return 2 * WORD + leading(self.w2);
-        }
-        3 * WORD + leading(self.w3)
+        NodeSet::ROOM
     }
 
     // Whether no node is in the set. Asked of every function at every step of a row: the lowest node is found with fewer instructions than the ones are counted.

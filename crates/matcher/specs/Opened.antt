@@ -1,21 +1,28 @@
 -- Calls on an open search: "A host keeps one open search and hands it to each call, which moves its place."
 --   OpenAt        the open search holds the place
 --   searched_by    the same call as if the place were handed in and handed back
---   OpenAnswers   what one call owes: just what a call owes that is handed a place
-use Rattle.std.specs.Prelude.{◌≡◌, ℕ}
+--   OpenAnswers   what one call owes: just what a call owes that is handed a place, and that a refusal leaves the place
+use Rattle.std.specs.Prelude.{◌≡◌, ℕ, Result, Ok, Err}
 use Rattle.meaning.specs.Basics.{Bytes}
+use Rattle.meaning.specs.Calls.{left}
+use Rattle.meaning.specs.Entry.{SearchCall}
+use Rattle.places.specs.Places.{value_of}
 use Rattle.places.specs.declared.Place.{Place}
-use Rattle.search.specs.Calling.{Answers}
+use Rattle.refusal.specs.declared.Refusal.{Refusal}
+use Rattle.search.specs.Calling.{host_reply}
+use Rattle.seeking.specs.declared.Answer.{Answer}
 use Rattle.seeking.specs.declared.Searched.{Searched}
 use Rattle.matcher.specs.declared.OpenSearch.{OpenSearch}
-use Rattle.matcher.specs.declared.Reply.{Reply}
 
 abbrev pub OpenAt : Place → OpenSearch → Type 0
 OpenAt place kept = kept.place ≡ place
 
-abbrev pub searched_by : Place → Reply → Searched
-searched_by after r = record { answer = r.answer; place = after; row = r.row }
+abbrev pub searched_by : Place → Result Answer Refusal → Result Searched Refusal
+searched_by after (Ok a) = Ok (record { answer = a; place = after })
+searched_by after (Err e) = Err e
 
--- "The output buffer and open search stay" on a refusal: that is in what a call owes for the place that it leaves
-abbrev pub OpenAnswers : Bytes → Place → ℕ → Place → Reply → Type 0
-OpenAnswers s before n after r = Answers s before n (searched_by after r)
+pub record OpenAnswers (s : Bytes) (before : Place) (n : ℕ) (after : Place) (r : Result Answer Refusal) : Type 0 where
+  pub call : SearchCall s (value_of before) n (host_reply (searched_by after r))
+  pub leaves : value_of after ≡ left (value_of before) (host_reply (searched_by after r))
+  -- "The output buffer and open search stay" on a refusal
+  pub stays : (e : Refusal) → r ≡ Err e → after ≡ before

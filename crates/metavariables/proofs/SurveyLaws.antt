@@ -4,23 +4,23 @@ use mathlib.Core.Path.{◌≡◌, refl, ap, ap₂, sym, ◌∙◌}
 use mathlib.Core.Bool.{Bool, true, false, ◌&&◌, ◌||◌, not, or_assoc, or_comm}
 use mathlib.Core.List.{List, ◌∷◌}
 use Prim.Native.Nat.{ℕ, suc, ◌+◌, ◌*◌, ◌%◌, ◌^◌, ◌<◌, ◌≤◌}
-use native.Mathlib.Nat.{one-mul, mod-eq_of_lt, mod-lt}
+use native.Mathlib.Nat.{one-mul, mod-eq_of_lt}
 use native.Mathlib.Numerals.{add-one}
 use native.Mathlib.Omega.{arith}
 use lib.ListN.{length, drop, drop_of_length-le}
 use lib.Seq.{drop-cons}
 use lib.Dec.{eqb}
-use lib.Pow.{pow-lt, pow_pos}
+use lib.Pow.{pow-lt}
 use lib.Bits.{bit_and, bit_or, and_lt}
-use lib.Count.{ones, ones-le}
-use borrow.Author.Tests.{eq-eqb, ne_eqb}
+use lib.Count.{ones}
+use borrow.Author.Tests.{ne_eqb}
 use Rattle.meaning.specs.Limits.{metavariable_count}
 use Rattle.meaning.specs.Basics.{choose, keep, up_to, is_in}
 use Rattle.meaning.proofs.Lists.{up_to_mem}
 use Rattle.tokens.specs.Token.{tag_in, payload_in}
 use Rattle.tokens.specs.Key.{at}
 use Rattle.metavariables.specs.declared.Occurring.{Occurring}
-use Rattle.metavariables.specs.Survey.{has, numbers, Added, Marked, Surveyed, meets, count, functions_in, both_in}
+use Rattle.metavariables.specs.Survey.{has, numbers, Joined, Surveyed, meets, count, functions_in, both_in}
 use Rattle.metavariables.proofs.BitLaws.{has_or, has_none, has_one, every_same, keep_same, meets_and, ones_count, low_count}
 
 -- A 1 shifted to bit m
@@ -28,24 +28,20 @@ pub one_shifted : (m : ℕ) → m < 32 → (1 * 2 ^ m) % 2 ^ 32 ≡ 2 ^ m
 one_shifted m h = ap (λ (n : ℕ). n % 2 ^ 32) (one-mul (2 ^ m)) ∙ mod-eq_of_lt (pow-lt h)
 
 module _ (s m : ℕ) where
-  pub added_in : m < 32 → Added s m (bit_or s ((1 * 2 ^ m) % 2 ^ 32))
-  unfolding Added
-  added_in h k l =
+  pub joined_in : m < 32 → Joined s true m (bit_or s ((1 * 2 ^ m) % 2 ^ 32))
+  unfolding Joined
+  joined_in h k l =
       ap (λ (n : ℕ). has (bit_or s n) k) (one_shifted m h) ∙ has_or s (2 ^ m) k ∙ ap (λ (b : Bool). has s k || b) (has_one k m)
       ∙ or_comm (has s k) (eqb k m)
 
-  pub added_out : 32 ≤ m → Added s m s
-  unfolding Added metavariable_count
-  added_out h k l = sym (ap (λ (b : Bool). b || has s k) (ne_eqb k m (λ e. omega arith)))
+  pub joined_none : Joined s false m s
+  unfolding Joined
+  joined_none k l = refl
 
-module _ (s g x : ℕ) where
-  pub marked_yes : (r : ℕ) → tag_in x ≡ g → Added s (payload_in x) r → Marked s g x r
-  unfolding Added Marked
-  marked_yes r e a k l = a k l ∙ sym (ap (λ (b : Bool). (b && eqb k (payload_in x)) || has s k) (eq-eqb (tag_in x) g e))
-
-  pub marked_no : (tag_in x ≡ g → ⊥) → Marked s g x s
-  unfolding Marked
-  marked_no n k l = sym (ap (λ (b : Bool). (b && eqb k (payload_in x)) || has s k) (ne_eqb (tag_in x) g n))
+  pub joined_out : (test : Bool) → 32 ≤ m → Joined s test m s
+  unfolding Joined metavariable_count
+  joined_out false h k l = refl
+  joined_out true h k l = sym (ap (λ (b : Bool). b || has s k) (ne_eqb k m (λ e. omega arith)))
 
 -- One token more
 numbers_cons : (g x : ℕ) (xs : List ℕ) (k : ℕ)
@@ -65,8 +61,8 @@ module _ (g : ℕ) (ts : List ℕ) where
   unfolding Seen
   seen_none k l = ap (λ (b : Bool). b || is_in k (numbers g ts)) (has_none k)
 
-  pub seen_more : (i s r : ℕ) → i < length ts → Seen g ts i s → Marked s g (at ts i) r → Seen g ts (i + 1) r
-  unfolding Seen Marked
+  pub seen_more : (i s r : ℕ) → i < length ts → Seen g ts i s → Joined s (eqb (tag_in (at ts i)) g) (payload_in (at ts i)) r → Seen g ts (i + 1) r
+  unfolding Seen Joined
   seen_more i s r h q m k l =
       let x : ℕ = at ts i in
       let this : Bool = eqb (tag_in x) g && eqb k (payload_in x) in
@@ -98,11 +94,6 @@ module _ (s : ℕ) (fits : s < 2 ^ 32) where
 
 -- The numbers of a set below m, by a shifted 1
 module _ (s m : ℕ) (h : m < 32) where
-  pub rank_small : ones (s % ((1 * 2 ^ m) % 2 ^ 32)) ≤ 32
-  rank_small =
-      let few = ones-le m (s % 2 ^ m) (mod-lt s (pow_pos m)) in
-      omega (arith, ap (λ (n : ℕ). ones (s % n)) (one_shifted m h))
-
   pub rank_code : ones (s % ((1 * 2 ^ m) % 2 ^ 32)) ≡ count m s
   rank_code = ap (λ (n : ℕ). ones (s % n)) (one_shifted m h) ∙ low_count m s
 

@@ -14,13 +14,9 @@ unfoldable pub numbers : ℕ → List ℕ → List ℕ
 numbers g [] = []
 numbers g (x ∷ xs) = choose (eqb (tag_in x) g) (payload_in x ∷ numbers g xs) (numbers g xs)
 
--- r is the set s with m as well; a number that no metavariable has adds nothing
-unfoldable pub Added : ℕ → ℕ → ℕ → Type 0
-Added s m r = (k : ℕ) → k < metavariable_count → has r k ≡ eqb k m || has s k
-
--- The same where the token x has the tag g, m the token's number
-unfoldable pub Marked : ℕ → ℕ → ℕ → ℕ → Type 0
-Marked s g x r = (k : ℕ) → k < metavariable_count → has r k ≡ (eqb (tag_in x) g && eqb k (payload_in x)) || has s k
+-- r is the set s with m as well, where a test is yes; a number that no metavariable has adds nothing
+unfoldable pub Joined : ℕ → Bool → ℕ → ℕ → Type 0
+Joined s test m r = (k : ℕ) → k < metavariable_count → has r k ≡ (test && eqb k m) || has s k
 
 pub record Surveyed (ts : List ℕ) (r : Occurring) : Type 0 where
   pub functions : (m : ℕ) → m < metavariable_count → has r.functions m ≡ is_in m (numbers 6 ts)

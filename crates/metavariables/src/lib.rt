@@ -3,7 +3,7 @@
 
 ghost use Rattle.std.specs.Prelude.{◌≡◌, ◌<◌};
 ghost use Rattle.meaning.specs.Limits.{metavariable_count};
-ghost use Rattle.metavariables.specs.Survey.{has, Added, Marked, Surveyed, meets, count};
+ghost use Rattle.metavariables.specs.Survey.{has, Joined, Surveyed, meets, count};
 
 use tokens::token::{payload, tag};
 
@@ -20,23 +20,12 @@ pub struct Occurring {
     pub plain: u32,
 }
 
-// The set with m as well; a number that no metavariable has adds nothing.
-fn added(set: u32, m: u64) -> u32
-    ensures { Added set m result }
+// The set with m as well, where the test is yes; a number that no metavariable has adds nothing.
+pub fn joined(set: u32, test: bool, m: u64) -> u32
+    ensures { Joined set test m result }
 {
-    if m < METAVARIABLES as u64 {
+    if test && m < u64::from(METAVARIABLES) {
         set | (1u32 << m)
-    } else {
-        set
-    }
-}
-
-// The set with a token's number as well, where the token has this tag.
-fn marked(set: u32, kind: u64, x: u64) -> u32
-    ensures { Marked set kind x result }
-{
-    if tag(x) == kind {
-        added(set, payload(x))
     } else {
         set
     }
@@ -47,17 +36,11 @@ pub fn survey(ps: &[u64]) -> Occurring
 {
     let mut functions = 0u32;
     let mut plain = 0u32;
-    let mut i = 0;
-    while i < ps.len() {
-        let x = ps[i];
-        functions = marked(functions, 6, x);
-        plain = marked(plain, 5, x);
-        i += 1;
+    for x in ps {
+        functions = joined(functions, tag(*x) == 6, payload(*x));
+        plain = joined(plain, tag(*x) == 5, payload(*x));
     }
-    Occurring {
-        functions: functions,
-        plain: plain,
-    }
+    Occurring { functions, plain }
 }
 
 pub fn in_set(set: u32, m: u32) -> bool
@@ -78,7 +61,7 @@ pub fn both_ways(functions: u32, plain: u32) -> bool
 pub fn function_count(functions: u32) -> usize
     ensures { result ≡ count metavariable_count functions }
 {
-    u32::count_ones(functions) as usize
+    functions.count_ones() as usize
 }
 
 // How many of the set have a smaller number than m: the place of m among them, in ascending order.
@@ -86,5 +69,5 @@ pub fn rank(set: u32, m: u32) -> usize
     requires { m < 32 }
     ensures { result ≡ count m set }
 {
-    u32::count_ones(set % (1u32 << m)) as usize
+    (set % (1u32 << m)).count_ones() as usize
 }

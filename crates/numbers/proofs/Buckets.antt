@@ -9,6 +9,7 @@ use native.Mathlib.Decide.{dec_lt, ℕ_discrete}
 use lib.ListN.{length, set, length-set}
 use lib.Seq.{get_or-set_same, get_or-set_other}
 use lib.Dec.{eqb}
+use Rattle.std.proofs.Common.{Some, None}
 use borrow.Author.Tests.{eq-eqb, ne_eqb}
 use Rattle.meaning.specs.Basics.{choose}
 use Rattle.meaning.proofs.Lists.{choose_true, choose_false}
@@ -17,7 +18,7 @@ use Rattle.tokens.specs.Key.{at, same_at, Inside}
 use Rattle.numbers.specs.Alike.{level_at, last_at, binder_at, hash_at, label_at, alike}
 use Rattle.numbers.specs.Numbering.{NumberOf, NumbersTo, bucket_at, Points, link_in, label_in, Linked, Chained, Lasts, Sought}
 use Rattle.numbers.proofs.Sums.{mixed_small}
-use Rattle.numbers.proofs.AlikeLaws.{keys_long, alike_parts, alike_self, number_later, number_own}
+use Rattle.numbers.proofs.AlikeLaws.{keys_long, alike_parts, number_later, number_own}
 
 choose_few : (b : Bool) (m n a : ℕ) → m ≤ a → n ≤ a → choose b m n ≤ a
 choose_few true m n a h g = h
@@ -104,18 +105,12 @@ module _ (t : List ℕ) where
           go j h g (no l) (yes m) = look.past j h (omega arith)
           go j h g (no l) (no m) = let e : i ≡ j = omega arith in subst (λ (n : ℕ). alike t n k ≡ false) e unlike
 
-      pub looking_found : alike t i k ≡ true → Sought t k i
-      looking_found e = record { up_to = omega (arith, before); equal = e; none = λ q. absurd (omega (arith, before)) }
-
-    pub looking_ends : Looking k 0 → Sought t k k
-    looking_ends look = record { up_to = omega arith; equal = alike_self t k; none = λ e i h. look.past i h (omega arith) }
-
     -- The number of node k
-    pub number_found : (ns : List ℕ) (r : ℕ) → NumbersTo t k ns → Sought t k r → r < k → NumberOf t k (at ns r)
-    number_found ns r made s h = number_later t r k (at ns r) s.up_to s.equal (made r h)
+    pub number_found : (ns : List ℕ) (r : ℕ) → NumbersTo t k ns → Sought t k (Some r) → NumberOf t k (at ns r)
+    number_found ns r made s = number_later t r k (at ns r) (omega (arith, s.0)) s.1 (made r s.0)
 
-    pub number_new : (r : ℕ) → Sought t k r → k ≤ r → NumberOf t k (k + 65536 * level_at t k)
-    number_new r s h = number_own t k (s.none (omega (arith, s.up_to)))
+    pub number_new : Sought t k None → NumberOf t k (k + 65536 * level_at t k)
+    number_new none = number_own t k none
 
     pub numbers_more : (ns : List ℕ) (n : ℕ) → k < length ns → NumbersTo t k ns → NumberOf t k n → NumbersTo t (k + 1) (set ns k n)
     numbers_more ns n long made own a h = go (dec_lt a k)

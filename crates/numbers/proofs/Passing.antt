@@ -13,7 +13,7 @@ use Rattle.meaning.proofs.Lists.{choose_true, choose_false}
 use Rattle.tokens.specs.Token.{depth_in, size_in}
 use Rattle.tokens.specs.Key.{at, keys, nodes, Inside}
 use Rattle.numbers.specs.Alike.{keys_at, level_of_keys, level_at, last_at, binder_at, mixed, sum_of_keys, sum_to, hash_at, label_at}
-use Rattle.numbers.specs.Numbering.{NumberOf, Numerable, bucket_at, Points, Chained, Lasts, Summed, Known, Passed}
+use Rattle.numbers.specs.Numbering.{NumberOf, Numerable, bucket_at, Points, Lasts, Summed, Known, Passed}
 use Rattle.numbers.specs.declared.make.Node.{Node}
 use Rattle.numbers.proofs.KeyLevels.{level_deep}
 use Rattle.numbers.proofs.Sums.{sum_none, sum_part, sum_rises}
@@ -97,46 +97,41 @@ module _ (t : List ℕ) (n : ℕ) where
   }
 
 -- What is known of a node, as the code has it
-module _ (t : List ℕ) (table : Numerable t) (k : ℕ) (there : k < length t) (node : Node) (known : Known t k node) where
+module _ {t : List ℕ} {k : ℕ} {node : Node} (h : Numerable t × (k < length t) × Known t k node) where
   pub node_binder : node.binder < 65536
-  node_binder = omega (arith, known.binder, binder_few t k, table.small)
+  node_binder = omega (arith, h.2.binder, binder_few t k, h.0.small, h.1)
 
   pub node_hash : node.hash < 4294967296
-  node_hash = omega (arith, known.hash, hash_small t k)
+  node_hash = omega (arith, h.2.hash, hash_small t k)
 
   pub node_level : node.level < 256
-  node_level = omega (arith, known.level, level_deep t k)
+  node_level = omega (arith, h.2.level, level_deep t k)
+
+  pub node_few : k < 65536
+  node_few = omega (arith, h.0.small, h.1)
 
   pub node_label : node.binder + 65536 * node.hash ≡ label_at t k
   unfolding label_at
-  node_label = ap₂ (λ (b h : ℕ). b + 65536 * h) known.binder known.hash
+  node_label = ap₂ (λ (b h : ℕ). b + 65536 * h) h.2.binder h.2.hash
 
-  pub node_bucket : node.hash / 16777216 ≡ bucket_at t k
-  node_bucket = ap (λ (h : ℕ). h / 16777216) known.hash
+  module _ {heads links ns : List ℕ} (passed : Passed t k heads links ns) where
+    pub head_points : Points t (bucket_at t k) k (at heads (node.hash / 16777216))
+    head_points = rw h.2.hash (passed.chained.begins (bucket_at t k) (omega (arith, hash_small t k)))
 
-  module _ (heads links ns : List ℕ) (passed : Passed t k heads links ns) where
-    pub head_points : (b : ℕ) → b ≡ bucket_at t k → Points t (bucket_at t k) k (at heads b)
-    head_points b e =
-        subst (λ (c : ℕ). Points t (bucket_at t k) k (at heads c)) (sym e)
-        (passed.chained.begins (bucket_at t k) (omega (arith, hash_small t k)))
-
-    pub passed_more : (b l n : ℕ) → b ≡ bucket_at t k → l ≡ at heads b + 65536 * label_at t k → NumberOf t k n
-        → Passed t (k + 1) (set heads b (k + 1)) (set links k l) (set ns k n)
-    passed_more b l n is_b is-l own =
-        let small : k < 65536 = omega (arith, table.small) in
-        let room : k < length links = omega (arith, passed.links_long) in
-        let wide : k < length ns = omega (arith, passed.summed.long) in
-        let e : l ≡ at heads (bucket_at t k) + 65536 * label_at t k = is-l ∙ ap (λ (c : ℕ). at heads c + 65536 * label_at t k) is_b in
-        record {
-          chained =
-              subst (λ (x : ℕ). Chained t (k + 1) (set heads b (k + 1)) (set links k x)) (sym e)
-              (subst (λ (c : ℕ). Chained t (k + 1) (set heads c (k + 1)) (set links k (at heads (bucket_at t k) + 65536 * label_at t k))) (sym is_b)
-              (chained_more t k small heads links passed.chained passed.heads_long room));
-          numbers = numbers_more t k small ns n wide passed.numbers own;
+    pub passed_more : (n : ℕ) → NumberOf t k n
+        → Passed t (k + 1) (set heads (node.hash / 16777216) (k + 1))
+        (set links k (at heads (node.hash / 16777216) + 65536 * (node.binder + 65536 * node.hash))) (set ns k n)
+    passed_more n own =
+        let room : k < length links = omega (arith, passed.links_long, h.1) in
+        let wide : k < length ns = omega (arith, passed.summed.long, h.1) in
+        rw (node_label, h.2.hash)
+        (record {
+          chained = chained_more t k node_few heads links passed.chained passed.heads_long room;
+          numbers = numbers_more t k node_few ns n wide passed.numbers own;
           summed = record {
             long = omega (arith, length-set ns k n, passed.summed.long);
             are = λ m h g. get_or-set_other ns k m n 0 (λ z. omega arith) ∙ passed.summed.are m (omega arith) g;
           };
-          heads_long = length-set heads b (k + 1) ∙ passed.heads_long;
-          links_long = omega (arith, length-set links k l, passed.links_long);
-        }
+          heads_long = length-set heads (bucket_at t k) (k + 1) ∙ passed.heads_long;
+          links_long = omega (arith, length-set links k (at heads (bucket_at t k) + 65536 * label_at t k), passed.links_long);
+        })

@@ -15,9 +15,6 @@ module _ (d : ℕ) (xs : List ℕ) where
     pub up_to : i ≤ length xs
     pub levels : max level (level_of_keys (keys d (drop i xs))) ≡ level_of_keys (keys d xs)
 
-  pub scan_begins : Scanning 0 0
-  scan_begins = record { up_to = omega arith; levels = omega arith }
-
   module _ (i level : ℕ) (s : Scanning i level) where
     pub scan_on : (next : ℕ) → i < length xs → next ≡ max level (level_of_key (key_of d (at xs i))) → Scanning (i + 1) next
     unfolding level_of_keys

@@ -7,8 +7,8 @@
 --   link       of a node: where the search goes on among the nodes before it; stored beside its label
 --   Chained    the buckets of the first k nodes; Lasts, the last node at each depth among these; Summed, the sums of k nodes and of
 --              more: a node's place holds the sum of those before it until it is numbered
---   Sought     the node that the search ends with: an earlier one that is alike, or the node itself where there is none
-use Rattle.std.specs.Prelude.{◌≡◌, ℕ, suc, ◌+◌, ◌*◌, ◌/◌, ◌%◌, ◌<◌, ◌≤◌, true, false, List, length}
+--   Sought     what the search ends with: an earlier node that is alike, or None where no earlier node is
+use Rattle.std.specs.Prelude.{◌≡◌, ℕ, suc, ◌+◌, ◌*◌, ◌/◌, ◌%◌, ◌<◌, ◌≤◌, true, false, List, length, Option, Some, None}
 use Rattle.tokens.specs.Key.{at, Inside}
 use Rattle.numbers.specs.Alike.{level_at, last_at, binder_at, sum_to, hash_at, label_at, alike}
 use Rattle.numbers.specs.declared.make.Node.{Node}
@@ -76,10 +76,9 @@ pub record Known (t : List ℕ) (a : ℕ) (r : Node) : Type 0 where
   pub binder : r.binder ≡ binder_at t a
   pub hash : r.hash ≡ hash_at t a
 
-pub record Sought (t : List ℕ) (k r : ℕ) : Type 0 where
-  pub up_to : r ≤ k
-  pub equal : alike t r k ≡ true
-  pub none : r ≡ k → (i : ℕ) → i < k → alike t i k ≡ false
+abbrev pub Sought : List ℕ → ℕ → Option ℕ → Type 0
+Sought t k (Some r) = (r < k) × (alike t r k ≡ true)
+Sought t k None = (i : ℕ) → i < k → alike t i k ≡ false
 
 -- What the pass has made of the first k nodes, in tables that have room for all
 pub record Passed (t : List ℕ) (k : ℕ) (heads links ns : List ℕ) : Type 0 where

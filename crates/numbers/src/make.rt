@@ -33,6 +33,7 @@ pub struct Node {
 }
 
 // Two numbers in one hash.
+#[tactic(auto, unfolding(crate::specs::Alike::mixed))]
 fn mix(m: u64, n: u64) -> u64
     ensures { result ≡ mixed m n }
 {
@@ -40,6 +41,7 @@ fn mix(m: u64, n: u64) -> u64
 }
 
 // A number with the product of its halves.
+#[tactic(auto, using(crate::proofs::Sums::halves_small), unfolding(crate::specs::Alike::spread))]
 fn spread(m: u64) -> u64
     requires { m < 4294967296 }
     ensures { result ≡ spread m }
@@ -51,14 +53,10 @@ fn spread(m: u64) -> u64
 fn weight(key: u64) -> u64
     ensures { result ≡ weight_of_key key }
 {
-    let kind = key % 1024;
-    if kind == 258 {
-        return HEAVY;
+    match key % 1024 {
+        258 | 514 => HEAVY,
+        _ => spread(mix(key, 0)),
     }
-    if kind == 514 {
-        return HEAVY;
-    }
-    spread(mix(key, 0))
 }
 
 // The sums of the first nodes, for each number of them.
@@ -68,11 +66,9 @@ fn add_up(t: &[u64], sums: &mut [u64])
 {
     sums[0] = 0;
     let mut sum = 0;
-    let mut k = 0;
-    while k < t.len() {
-        sum += weight(key_of(0, t[k]));
-        k += 1;
-        sums[k] = sum;
+    for (k, x) in t.iter().enumerate() {
+        sum += weight(key_of(0, *x));
+        sums[k + 1] = sum;
     }
 }
 
@@ -81,18 +77,10 @@ fn level_in(d: u64, x: u64) -> u64
     ensures { result ≡ level_of_key (key_of d x) }
 {
     if reaches(0, d, x) {
-        return payload(x) / 65536;
+        payload(x) / 65536
+    } else {
+        0
     }
-    0
-}
-
-fn greater(m: u64, n: u64) -> u64
-    ensures { result ≡ max m n }
-{
-    if m < n {
-        return n;
-    }
-    m
 }
 
 // The level of the innermost binder outside a subterm at depth d that its nodes use. None is above d, so that d ends the search.
@@ -100,13 +88,11 @@ fn innermost(xs: &[u64], d: u64) -> u64
     ensures { result ≡ level_of_keys (keys d xs.now) }
 {
     let mut level = 0;
-    let mut i = 0;
-    while i < xs.len() {
+    for x in xs {
         if level == d {
             return d;
         }
-        level = greater(level, level_in(d, xs[i]));
-        i += 1;
+        level = level.max(level_in(d, *x));
     }
     level
 }
@@ -118,11 +104,12 @@ fn level_at(t: &[u64], k: usize, sum: u64) -> u64
     ensures { result ≡ level_at t.now k }
 {
     if sum < HEAVY {
-        return 0;
+        0
+    } else {
+        let x = t[k];
+        let end = k + size(x) as usize;
+        innermost(&t[k..end], depth(x))
     }
-    let x = t[k];
-    let end = k + size(x) as usize;
-    innermost(&t[k..end], depth(x))
 }
 
 // The binder at a level above the node that comes next, by the last node of each depth before it.
@@ -131,9 +118,10 @@ fn binder_at(last: &[u64], level: u64) -> u64
     ensures { result ≡ choose (eqb level 0) 0 (at last.now (level - 1)) }
 {
     if level == 0 {
-        return 0;
+        0
+    } else {
+        last[(level - 1) as usize]
     }
-    last[(level - 1) as usize]
 }
 
 // What is known of node k before it is looked for.
@@ -148,8 +136,8 @@ fn node_at(t: &[u64], k: usize, last: &[u64], sums: &[u64]) -> Node
     let level = level_at(t, k, sum);
     let binder = binder_at(last, level);
     Node {
-        level: level,
-        binder: binder,
+        level,
+        binder,
         hash: mix(sum, binder),
     }
 }
@@ -159,32 +147,26 @@ fn is_alike(t: &[u64], i: usize, k: usize, link: u64, label: u64) -> bool
     requires { Inside t.now i × Inside t.now k × (label_in link ≡ label_at t.now i) × (label ≡ label_at t.now k) }
     ensures { result ≡ alike t.now i k }
 {
-    if link / 65536 != label {
-        return false;
-    }
-    if size(t[i]) != size(t[k]) {
-        return false;
-    }
-    same(t, i, k)
+    link / 65536 == label && size(t[i]) == size(t[k]) && same(t, i, k)
 }
 
-// The latest node before k that is alike, or k itself where there is none: along the links of the bucket, each of which leads to an earlier
-// node.
-fn find(t: &[u64], k: usize, links: &[u64], from: u64, label: u64) -> usize
+// The latest node before k that is alike, if there is one: along the links of the bucket, each of which leads to an earlier node.
+fn find(t: &[u64], k: usize, links: &[u64], from: u64, label: u64) -> Option<usize>
     requires node { Numerable t.now × (k < length t.now) × (k ≤ length links.now) }
     requires bucket { Linked t.now k links.now × Points t.now (bucket_at t.now k) k from × (label ≡ label_at t.now k) }
     ensures { Sought t.now k result }
 {
     let mut at = from;
+    // A while: from one node to the next it follows a link.
     while 0 < at {
         let i = (at - 1) as usize;
         let link = links[i];
         if is_alike(t, i, k, link, label) {
-            return i;
+            return Some(i);
         }
         at = link % 65536;
     }
-    k
+    None
 }
 
 // One node more: its number is that of the earlier node that is alike, or its own.
@@ -206,11 +188,10 @@ fn number_next(
     let earlier = find(t, k, links, head, label);
     links[k] = head + 65536 * label;
     heads[bucket] = k as u64 + 1;
-    if earlier < k {
-        ns[k] = ns[earlier];
-    } else {
-        ns[k] = k as u64 + 65536 * node.level;
-    }
+    ns[k] = match earlier {
+        Some(i) => ns[i],
+        None => k as u64 + 65536 * node.level,
+    };
 }
 
 // The numbers of all nodes. Until a node has its number there stands the sum of the nodes before it. `links` is written over.
@@ -221,12 +202,10 @@ pub fn number(t: &[u64], ns: &mut [u64], links: &mut [u64])
     let mut last = [0u64; DEPTHS];
     let mut heads = [0u64; BUCKETS];
     add_up(t, ns);
-    let mut k = 0;
-    while k < t.len() {
+    for (k, x) in t.iter().enumerate() {
         let node = node_at(t, k, &last, ns);
         number_next(t, k, node, &mut heads, links, ns);
-        let d = depth(t[k]) as usize;
+        let d = depth(*x) as usize;
         last[d] = k as u64 + 1;
-        k += 1;
     }
 }

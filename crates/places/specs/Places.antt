@@ -1,8 +1,9 @@
 -- Places as the code holds them.
 --   value_of   the place value of `meaning`
---   Tells     what a value names, by the tables and whether the problem has rows
+--   Tells     what a value names, by the functions of a problem that has rows
 --   Begins    the first place
-use Rattle.std.specs.Prelude.{◌≡◌, Bool, true, false, List, ℕ, replicate}
+--   Starts    the answer of the start for any bytes
+use Rattle.std.specs.Prelude.{◌≡◌, true, false, List, replicate, Option, Some, None, Result, Ok, Err}
 use Rattle.meaning.specs.Limits.{max_functions}
 use Rattle.meaning.specs.Basics.{◌∈◌}
 use Rattle.meaning.specs.Read.{Answer, refused, got}
@@ -10,13 +11,14 @@ use Rattle.meaning.specs.Search.{at, place_of}
 use Rattle.meaning.specs.PlaceValue.{PlaceValue}
 use Rattle.masks.specs.Sets.{masks_in}
 use Rattle.masks.specs.declared.NodeSet.{NodeSet}
-use Rattle.faces.specs.declared.first.Firsts.{Firsts}
-use Rattle.rows.specs.Rows.{Faced, rows_of}
+use Rattle.rows.specs.Functions.{rows_in}
+use Rattle.rows.specs.declared.functions.Functions.{Functions}
 use Rattle.places.specs.declared.Place.{Place}
 use Rattle.places.specs.declared.Named.{Named}
 use Rattle.places.specs.declared.Named.TheVariants as named
-use Rattle.places.specs.declared.Started.{Started}
-use Rattle.places.specs.declared.Start.TheVariants as starts
+use Rattle.refusal.specs.Number.{number}
+use Rattle.refusal.specs.declared.Refusal.{Refusal}
+use Rattle.refusal.specs.declared.Refusal.TheVariants.{NoSuchPlace}
 
 abbrev pub value_of : Place → PlaceValue
 value_of p = record { masks = masks_in p.sets; is_past = p.past }
@@ -29,26 +31,27 @@ pub record AtPast (r : Place) : Type 0 where
   pub masks : masks_in r.sets ≡ replicate max_functions 0
   pub past : r.past ≡ true
 
--- A row of the tables, where there are rows
-pub record IsRowOf (v : Place) (has_rows : Bool) (es ns : List ℕ) (firsts : Firsts) : Type 0 where
+-- A row of the problem
+pub record IsRowOf (v : Place) (f : Functions) : Type 0 where
   pub here : v.past ≡ false
-  pub some_rows : has_rows ≡ true
-  pub member : masks_in v.sets ∈ rows_of es ns firsts
+  pub member : masks_in v.sets ∈ rows_in f
 
-unfoldable pub Tells : Place → Bool → List ℕ → List ℕ → Firsts → Named → Type 0
-Tells v has_rows es ns firsts named.Row = IsRowOf v has_rows es ns firsts
-Tells v has_rows es ns firsts named.Past = AtPast v
-Tells v has_rows es ns firsts named.Nothing = (IsRowOf v has_rows es ns firsts → ⊥) × (AtPast v → ⊥)
+-- Neither a row nor past the last: "16 no such place"
+pub record IsNoPlace (v : Place) (o : Option Functions) (r : Refusal) : Type 0 where
+  pub refusal : r ≡ NoSuchPlace
+  pub no_row : (f : Functions) → o ≡ Some f → IsRowOf v f → ⊥
+  pub not_past : AtPast v → ⊥
 
--- Where there are rows the code can go through their faces
-abbrev pub Openable : Bool → List ℕ → List ℕ → Firsts → Type 0
-Openable has_rows es ns firsts = has_rows ≡ true → Faced es ns firsts
+abbrev pub Tells : Place → Option Functions → Result Named Refusal → Type 0
+Tells v o (Ok (named.Row f)) = (o ≡ Some f) × IsRowOf v f
+Tells v o (Ok named.Past) = AtPast v
+Tells v o (Err r) = IsNoPlace v o r
 
-unfoldable pub Begins : Bool → List ℕ → List ℕ → Firsts → Place → Type 0
-Begins true es ns firsts r = (row : List NodeSet) × (place_of (rows_of es ns firsts) ≡ at (masks_in row)) × AtRow row r
-Begins false es ns firsts r = AtPast r
+abbrev pub Begins : Option Functions → Place → Type 0
+Begins (Some f) r = (row : List NodeSet) × (place_of (rows_in f) ≡ at (masks_in row)) × AtRow row r
+Begins None r = AtPast r
 
 -- Document 01's refusal with its number, or the value of the start
-unfoldable pub Starts : Answer PlaceValue → Started → Type 0
-Starts (refused n) r = r.answer ≡ starts.Refused n
-Starts (got v) r = (r.answer ≡ starts.Begins) × (value_of r.place ≡ v)
+abbrev pub Starts : Answer PlaceValue → Result Place Refusal → Type 0
+Starts x (Err r) = x ≡ refused (number r)
+Starts x (Ok v) = x ≡ got (value_of v)

@@ -6,56 +6,34 @@ ghost use Rattle.std.specs.Prelude.{◌≡◌, true, ◌↔◌, replicate};
 ghost use Rattle.meaning.specs.Limits.{max_functions};
 ghost use Rattle.meaning.specs.Entry.{start_call};
 ghost use Rattle.masks.specs.Sets.{masks_in};
-ghost use Rattle.places.specs.Places.{AtRow, AtPast, Tells, Openable, Begins, Starts};
+ghost use Rattle.places.specs.Places.{AtRow, AtPast, Tells, Begins, Starts};
 
-use accept::Verdict;
-use faces::first::Firsts;
 use masks::NodeSet;
 use prepare::prepare;
-use rows::{first_row, is_row};
+use refusal::Refusal;
+use rows::Functions;
 use table::TABLE_ROOM;
 
+// The flag stands beside the sets, and no enum tells a row from past the last: a host may hand in any value, also past with sets that are
+// not empty, and what such a value names is promised too.
 #[derive(Clone, Copy)]
 pub struct Place {
     pub sets: [NodeSet; Place::MAX_FUNCTIONS],
     pub past: bool,
 }
 
-// What a value names.
+// The place that a value names: a row, with the functions that choose it, or past the last.
 #[derive(Clone, Copy)]
-pub enum Named {
-    Row,
+pub enum Named<'a> {
+    Row(Functions<'a>),
     Past,
-    // "16 no such place"
-    Nothing,
-}
-
-// Where the search of a problem begins, or why it is refused. The place stands beside the answer since it holds an array; of a refused
-// problem it means nothing.
-#[derive(Clone, Copy)]
-pub enum Start {
-    Refused(u8),
-    Begins,
-}
-
-#[derive(Clone, Copy)]
-pub struct Started {
-    pub answer: Start,
-    pub place: Place,
 }
 
 // Whether no set has a node.
 fn all_empty(sets: [NodeSet; Place::MAX_FUNCTIONS]) -> bool
     ensures { (result ≡ true) ↔ (masks_in sets ≡ replicate max_functions 0) }
 {
-    let mut k = 0;
-    while k < Place::MAX_FUNCTIONS {
-        if !sets[k].is_empty() {
-            return false;
-        }
-        k += 1;
-    }
-    true
+    sets.iter().all(|set| set.is_empty())
 }
 
 impl Place {
@@ -73,6 +51,7 @@ impl Place {
         }
     }
 
+    #[tactic(auto, unfolding(meaning::specs::Limits::max_functions))]
     pub fn past_last() -> Place
         ensures { AtPast result }
     {
@@ -82,63 +61,43 @@ impl Place {
         }
     }
 
-    // The first row of the tables, or past the last where there is none.
-    fn first(rows: bool, es: &[u64], ns: &[u64], firsts: Firsts) -> Place
-        requires { Openable rows es.now ns.now firsts }
-        ensures { Begins rows es.now ns.now firsts result }
+    // The first row, or past the last where the problem has no rows.
+    fn first(functions: Option<Functions>) -> Place
+        ensures { Begins functions.entry result }
     {
-        if rows {
-            Place::at(first_row(es, ns, firsts))
-        } else {
-            Place::past_last()
+        match functions {
+            Some(functions) => Place::at(functions.first_row()),
+            None => Place::past_last(),
         }
     }
 
     // The start of the problem, from any bytes.
-    pub fn start(problem: &[u8]) -> Started
+    pub fn start(problem: &[u8]) -> Result<Place, Refusal>
         ensures { Starts (start_call problem.now) result }
     {
         let mut ps = [0u64; TABLE_ROOM];
         let mut es = [0u64; TABLE_ROOM];
         let mut ns = [0u64; TABLE_ROOM];
         let mut fs = [0u64; TABLE_ROOM];
-        let prepared = prepare(problem, &mut ps, &mut es, &mut ns, &mut fs);
-        let firsts = prepared.firsts;
-        let verdict = prepared.verdict;
-        match verdict {
-            Verdict::Refused(r) => Started {
-                answer: Start::Refused(r),
-                place: Place::past_last(),
-            },
-            Verdict::Accepted(a) => {
-                let e = a.expressions;
-                Started {
-                    answer: Start::Begins,
-                    place: Place::first(a.rows, &es[..e], &ns[..e], firsts),
-                }
-            }
-        }
+        let prepared = prepare(problem, &mut ps, &mut es, &mut ns, &mut fs)?;
+        Ok(Place::first(prepared.functions))
     }
 }
 
-// What the value names, by the tables of a problem and whether it has rows.
-pub fn named_by(place: Place, rows: bool, es: &[u64], ns: &[u64], firsts: Firsts) -> Named
-    requires { Openable rows es.now ns.now firsts }
-    ensures { Tells place rows es.now ns.now firsts result }
+// What the value names, by the functions of a problem, or None where it has no rows: "16 no such place" where it names neither a row nor past
+// the last.
+pub fn named_by<'a>(place: Place, functions: Option<Functions<'a>>) -> Result<Named<'a>, Refusal>
+    ensures { Tells place functions.entry result }
 {
-    let row = place.sets;
     if place.past {
-        if all_empty(row) {
-            return Named::Past;
-        }
-        return Named::Nothing;
+        return if all_empty(place.sets) {
+            Ok(Named::Past)
+        } else {
+            Err(Refusal::NoSuchPlace)
+        };
     }
-    if !rows {
-        return Named::Nothing;
-    }
-    if is_row(es, ns, firsts, row) {
-        Named::Row
-    } else {
-        Named::Nothing
+    match functions {
+        Some(functions) if functions.is_row(place.sets) => Ok(Named::Row(functions)),
+        _ => Err(Refusal::NoSuchPlace),
     }
 }

@@ -1,236 +1,220 @@
 -- One law for each answer, over plain variables; and that the rows of a prepared problem are found in its tables.
-use mathlib.Core.Path.{◌≡◌, refl, ap, sym, ◌∙◌, subst}
-use mathlib.Core.Bool.{Bool, true, false, true≢false}
-use mathlib.Core.List.{List, [], ◌∷◌, ◌++◌, map}
-use mathlib.Core.Option.{Option, none, some}
-use Prim.Native.Nat.{ℕ, suc, ◌<◌, ◌≤◌}
+use mathlib.Core.Path.{◌≡◌, ap, sym, ◌∙◌, subst}
+use mathlib.Core.List.{List, map}
+use mathlib.Core.Option.{none}
+use Rattle.std.specs.Prelude.{Ok, Err, Some, None, MatchOption}
+use Rattle.std.proofs.Common.{Bor}
+use Rattle.std.specs.Prelude as std
+use Prim.Native.Nat.{ℕ, ◌<◌, ◌≤◌}
 use native.Mathlib.Omega.{arith}
-use lib.ListN.{length, take, drop, length-append, length-take, replicate, length-replicate}
-use lib.Seq.{take_at, length-take-le}
+use lib.ListN.{length}
 use Rattle.meaning.specs.Limits.{metavariable_count, max_functions}
-use Rattle.meaning.specs.Basics.{All, is_some}
-use Rattle.meaning.specs.Term.{Term}
 use Rattle.meaning.specs.Problem.{Problem, functions}
-use Rattle.meaning.specs.Face.{Face, faces}
+use Rattle.meaning.specs.Face.{faces}
 use Rattle.meaning.specs.Rows.{rows}
 use Rattle.meaning.specs.PlaceValue.{masks_of}
-use Rattle.meaning.specs.Read.{Answer, refused, got}
-use Rattle.meaning.specs.Accept.{accept}
-use Rattle.meaning.proofs.Lists.{is_some_lem}
+use Rattle.meaning.specs.Read.{Answer, refused}
+use Rattle.meaning.specs.Readable.{Accepted}
 use Rattle.meaning.proofs.PlaceLaws.{few_functions}
-use Rattle.meaning.proofs.ProblemReading.{accept_accepted}
-use Rattle.tokens.specs.Token.{pattern_tokens, expression_tokens}
+use Rattle.tokens.specs.Token.{Table, pattern_tokens, expression_tokens}
+use Rattle.tokens.proofs.ProblemTokens.{pattern_table_lem, expression_table_lem}
 use Rattle.numbers.specs.Tests.{Tells, told}
-use Rattle.numbers.specs.Numbering.{Numerable}
+use Rattle.numbers.specs.Numbering.{Numerable, Numbered}
+use Rattle.numbers.specs.declared.ask.Nodes.{Nodes}
 use Rattle.numbers.proofs.Asked.{numbers_tell}
-use Rattle.numbers.proofs.ProblemTable.{table_numerable, table_short}
-use Rattle.metavariables.specs.Survey.{count}
-use Rattle.metavariables.proofs.SurveyMeaning.{function_count_means}
-use Rattle.lockstep.specs.Recorded.{RecordedBy}
+use Rattle.numbers.proofs.ProblemTable.{table_numerable}
+use Rattle.metavariables.specs.Survey.{Surveyed, count}
+use Rattle.metavariables.specs.declared.Occurring.{Occurring}
+use Rattle.metavariables.proofs.SurveyMeaning.{function_count_means, kept_functions}
 use Rattle.faces.specs.First.{Listed, listed}
 use Rattle.faces.specs.declared.first.Firsts.{Firsts}
 use Rattle.faces.specs.Verdict.{FirstsAt}
 use Rattle.faces.proofs.FirstMeaning.{first_faces_mean}
+use Rattle.bodies.specs.Suits.{Nested}
 use Rattle.choosing.specs.FaceNodes.{Faces}
-use Rattle.choosing.specs.Rows.{mask_rows}
 use Rattle.choosing.proofs.ProblemFaces.{problem_faces}
 use Rattle.choosing.proofs.Problem.{rows_listed}
+use Rattle.rows.specs.Functions.{rows_in}
+use Rattle.rows.specs.declared.functions.Functions.{Functions}
 use Rattle.rows.specs.Rows.{Faced, rows_of}
+use Rattle.fit.specs.Laid as fit
+use Rattle.fit.specs.declared.tables.Tables.{Tables}
 use Rattle.table.specs.Whole.{table_room}
-use Rattle.accept.specs.Acceptance.{Stands, Accepts, Rooms}
+use Rattle.accept.specs.Acceptance.{FacesFound, Stands, Accepts}
 use Rattle.accept.specs.declared.Standing.{Standing}
-use Rattle.accept.specs.declared.Verdict.TheVariants as verdicts
-use Rattle.prepare.specs.Prepared.{NoFaces, NodesOf, Laid, Ground, Tabled, Tabling, Prepares, Ready}
+use Rattle.accept.proofs.AcceptanceLaws.{verdict_refused, verdict_accepted, patterns_few, expressions_few}
+use Rattle.refusal.specs.Number.{number}
+use Rattle.refusal.specs.declared.Refusal.{Refusal}
+use Rattle.prepare.specs.Prepared.{FacesLaid, FunctionsOf, Ground, Made, Prepares, Ready}
 use Rattle.prepare.specs.declared.Prepared.{Prepared}
 
--- The two answers of `nodes_of`
-pub nodes_looked_up : (has_rows : Bool) (ps fs : List ℕ) (functions : ℕ) (r : Firsts) → has_rows ≡ true → Listed ps fs functions r
-    → NodesOf has_rows ps fs functions r
-unfolding NodesOf
-nodes_looked_up true ps fs functions r e h = h
-nodes_looked_up false ps fs functions r e h = absurd (true≢false (sym e))
-
-pub no_nodes_lem : (has_rows : Bool) (ps fs : List ℕ) (functions : ℕ) (r : Firsts) → has_rows ≡ false → NoFaces r → NodesOf has_rows ps fs functions r
-unfolding NodesOf
-no_nodes_lem true ps fs functions r e h = absurd (true≢false e)
-no_nodes_lem false ps fs functions r e h = h
-
-module _ (p : Problem) (ps es fs : List ℕ) (a : Standing) (laid : Laid p ps es fs a) where
-  -- What `first_faces` requires
+-- What the calls require, and the types, of an accepted problem
+module _ (p : Problem) (a : Standing) (h : Stands p a) where
   pub functions_few : count metavariable_count a.occurring.functions ≤ 8
   unfolding max_functions
   functions_few =
-      let n = function_count_means p laid.accepted.within a.occurring laid.survey in
-      let m : length (functions p) ≤ 8 = few_functions p laid.accepted in
+      let n = function_count_means p h.accepted.within a.occurring h.survey in
+      let m : length (functions p) ≤ 8 = few_functions p h.accepted in
       omega arith
 
-  module _ (firsts : Firsts) (found : List Face) (shapes : faces p ≡ some found)
-      (nodes : Listed (take a.patterns ps) (take a.faces fs) a.occurring.functions firsts) where
-    -- The nodes are those of the functions' faces
-    pub nodes_mean : FirstsAt p found (functions p) (listed firsts)
-    nodes_mean =
-        first_faces_mean p laid.accepted (take a.faces fs) found shapes (laid.recorded found shapes) a.occurring
-        laid.survey firsts
-        (subst (λ (t : List ℕ). Listed t (take a.faces fs) a.occurring.functions firsts) laid.patterns nodes)
+  pub stands_numerable : Numerable a.expressions.now
+  stands_numerable = subst Numerable (sym h.expressions) (table_numerable p h.accepted.within)
 
-    pub faces_there : Faces (take a.expressions es) firsts.nodes firsts.count
-    unfolding max_functions
-    faces_there =
-        subst (λ (t : List ℕ). Faces t firsts.nodes firsts.count) (sym laid.expressions)
-        (problem_faces p laid.accepted found shapes firsts.nodes firsts.count nodes.fits.count nodes.fits.array nodes_mean)
+  pub stands_patterns : Table a.patterns.now
+  stands_patterns = subst Table (sym h.patterns) (pattern_table_lem p h.accepted.within)
 
-    -- ... AND THEIR ROWS ARE THE PROBLEM'S
-    pub rows_mean : (ns : List ℕ) → Tells (take a.expressions es) (told ns) → rows_of (take a.expressions es) ns firsts ≡ map masks_of (rows p)
-    unfolding max_functions rows_of
-    rows_mean ns tells =
-        ap (λ (t : List ℕ). mask_rows ns t firsts.nodes firsts.count) laid.expressions
-        ∙ rows_listed p laid.accepted found shapes firsts.nodes firsts.count nodes.fits.count nodes.fits.array nodes_mean ns
-        (subst (λ (t : List ℕ). Tells t (told ns)) laid.expressions tells)
+  pub stands_expressions : Table a.expressions.now
+  stands_expressions = subst Table (sym h.expressions) (expression_table_lem p h.accepted.within)
 
-  -- What `number_nodes` requires
-  pub table_numbers : Numerable (take a.expressions es)
-  table_numbers = subst Numerable (sym laid.expressions) (table_numerable p laid.accepted.within)
+  pub stands_nested : Nested a.expressions.now
+  stands_nested = stands_numerable.inside
 
-  pub table_few : a.expressions < table_room
-  table_few =
-      omega (
-        arith,
-        table_short p laid.accepted.within,
-        ap length laid.expressions,
-        length-take-le a.expressions es laid.expressions_inside,
-      )
+  pub stands_expressions_few : length a.expressions.now < table_room
+  stands_expressions_few = expressions_few p h.accepted.within a.expressions.now h.expressions
 
--- What `accept` leaves
-length_recorded : (p e : ℕ → Option Term) (d : ℕ → ℕ) (ns : List ℕ) (xs : List Face) → RecordedBy p e d ns xs → length ns ≡ length xs
-length_recorded p e d [] [] r = refl
-length_recorded p e d [] (x ∷ xs) r = absurd r
-length_recorded p e d (n ∷ ns) [] r = absurd r
-length_recorded p e d (n ∷ ns) (x ∷ xs) r = ap suc (length_recorded p e d ns xs r.1)
+  -- Its faces, by whether there are any
+  faces_some : (lent : Bor (List ℕ)) → a.faces ≡ Some lent → FacesFound p lent.now
+  faces_some lent e = subst (λ (o : std.Option (Bor (List ℕ))). MatchOption o (faces p ≡ none) (λ fs. FacesFound p fs.now)) e h.faces
 
-front : (xs later ys : List ℕ) (n : ℕ) → n ≡ length xs → ys ≡ xs ++ later → (take n ys ≡ xs) × (n ≤ length ys)
-front xs later ys n l e = (ap (take n) e ∙ take_at xs later n (sym l), omega (arith, ap length e, length-append xs later))
+-- The nodes of the functions' faces are looked up in a problem's own tables
+module _ (p : Problem) (accepted : Accepted p) (o : Occurring) (survey : Surveyed (pattern_tokens p) o) (fs : List ℕ) (has : FacesFound p fs)
+    (firsts : Firsts) (nodes : Listed (pattern_tokens p) fs o.functions firsts) where
+  -- They are those of the functions' faces
+  pub nodes_mean : FirstsAt p has.found (functions p) (listed firsts)
+  nodes_mean = first_faces_mean p accepted fs has.found has.agree has.recorded o survey firsts nodes
 
-module _ (s ps ps' es es' fs' : List ℕ) (bytes : All (λ b. b < 256) s) where
-  faces_inside_lem : (p : Problem) (a : Standing) → Stands p ps ps' es es' fs' a → a.faces ≤ length fs'
-  faces_inside_lem p a h = go (faces p) refl
-    where
-      go : (o : Option (List Face)) → faces p ≡ o → a.faces ≤ length fs'
-      go none e = let z : a.faces ≡ 0 = h.none (h.has_rows ∙ ap is_some e) in omega arith
-      go (some found) e =
-          let r = h.recorded found e in
-          let n : length found ≡ a.faces = r.0 in
-          let m = length_recorded _ _ _ (take a.faces fs') found r.1 in
-          let l = length-take a.faces fs' in
-          omega arith
+  pub faces_there : Faces (expression_tokens p) firsts.nodes firsts.count
+  unfolding max_functions
+  faces_there = problem_faces p accepted has.found has.agree firsts.nodes firsts.count nodes.fits.count nodes.fits.array nodes_mean
 
-  pub stands_laid : (p : Problem) (a : Standing) → accept s ≡ got p → Stands p ps ps' es es' fs' a → Laid p ps' es' fs' a
-  stands_laid p a e h =
-      let l = front (pattern_tokens p) (drop a.patterns ps) ps' a.patterns h.patterns h.pattern_table in
-      let r = front (expression_tokens p) (drop a.expressions es) es' a.expressions h.expressions h.expression_table in
+  -- ... AND THEIR ROWS ARE THE PROBLEM'S
+  pub rows_mean : (ns : List ℕ) → Tells (expression_tokens p) (told ns) → rows_of (expression_tokens p) ns firsts ≡ map masks_of (rows p)
+  unfolding max_functions rows_of
+  rows_mean ns tells =
+      rows_listed p accepted has.found has.agree firsts.nodes firsts.count nodes.fits.count nodes.fits.array nodes_mean ns tells
+
+-- What `looked_up` makes of an accepted problem
+module _ (a : Standing) (nodes : Nodes) (ground : Ground a nodes) where
+  abbrev p : Problem
+  p = ground.problem
+
+  pub ground_functions : count metavariable_count a.occurring.functions ≤ 8
+  ground_functions = functions_few p a ground.stands
+
+  pub ground_patterns : Table a.patterns.now
+  ground_patterns = stands_patterns p a ground.stands
+
+  pub ground_tokens : Table nodes.tokens.now
+  ground_tokens = subst Table (sym ground.tokens) (stands_expressions p a ground.stands)
+
+  pub ground_nested : Nested nodes.tokens.now
+  ground_nested = subst Nested (sym ground.tokens) (stands_nested p a ground.stands)
+
+  pub ground_faced : (lent : Bor (List ℕ)) → a.faces ≡ Some lent → (firsts : Firsts) → Listed a.patterns.now lent.now a.occurring.functions firsts
+      → Faced nodes.tokens.now nodes.numbers.now firsts
+  ground_faced lent e firsts l =
       record {
-        accepted = (accept_accepted s p bytes e).0;
-        patterns = l.0;
-        patterns_inside = l.1;
-        expressions = r.0;
-        expressions_inside = r.1;
-        survey = h.survey;
-        has_rows = h.has_rows;
-        faces_inside = faces_inside_lem p a h;
-        recorded = λ found q. (h.recorded found q).1;
+        faces = subst (λ (t : List ℕ). Faces t firsts.nodes firsts.count) (sym (ground.tokens ∙ ground.stands.expressions))
+            (faces_there p ground.stands.accepted a.occurring ground.stands.survey lent.now (faces_some p a ground.stands lent e) firsts
+            (subst (λ (t : List ℕ). Listed t lent.now a.occurring.functions firsts) ground.stands.patterns l));
+        numbers = nodes.one_each;
       }
 
-  -- What `with_numbers` requires
-  pub accepts_ground : (a : Standing) → Accepts (accept s) ps ps' es es' fs' (verdicts.Accepted a) → Ground ps' es' fs' a
-  unfolding Accepts
-  accepts_ground a h = go (accept s) refl h
-    where
-      go : (x : Answer Problem) → accept s ≡ x → Accepts x ps ps' es es' fs' (verdicts.Accepted a) → Ground ps' es' fs' a
-      go (refused n) e h = absurd (let z : ◌≡◌ {A = ℕ} 0 1 = cc in omega arith)
-      go (got p) e h =
-          let same : h.0 ≡ a = let q = h.1 in cc in
-          (p, stands_laid p a e (subst (Stands p ps ps' es es' fs') same h.2))
+-- What `accept` leaves, and what `prepare` answers then
+module _ (x : Answer Problem) where
+  pub prepares_refused : (e : Refusal) → Accepts x (Err e) → Prepares x (Err e)
+  unfolding Prepares
+  prepares_refused e h = verdict_refused x e h
 
-  -- The returns of `prepare`
-  pub prepares_refused : (ns : List ℕ) (n : ℕ) (r : Prepared) → Accepts (accept s) ps ps' es es' fs' (verdicts.Refused n)
-      → r.verdict ≡ verdicts.Refused n → Prepares (accept s) ps' es' ns fs' r
-  unfolding Accepts Prepares
-  prepares_refused ns n r h v = go (accept s) h
-    where
-      go : (x : Answer Problem) → Accepts x ps ps' es es' fs' (verdicts.Refused n) → Prepares x ps' es' ns fs' r
-      go (refused m) h = v ∙ h
-      go (got p) h = absurd (let q = h.1 in let z : ◌≡◌ {A = ℕ} 0 1 = cc in omega arith)
+  module _ (a : Standing) (h : Accepts x (Ok a)) where
+    pub accepted_numerable : Numerable a.expressions.now
+    accepted_numerable = let (p, e, s) = verdict_accepted x a h in stands_numerable p a s
 
-  pub prepares_accepted : (ns : List ℕ) (a : Standing) (r : Prepared) → Accepts (accept s) ps ps' es es' fs' (verdicts.Accepted a)
-      → Tabling ps' es' ns fs' a r → Prepares (accept s) ps' es' ns fs' r
-  unfolding Accepts Prepares
-  prepares_accepted ns a r h t = go (accept s) refl h
-    where
-      go : (x : Answer Problem) → accept s ≡ x → Accepts x ps ps' es es' fs' (verdicts.Accepted a) → Prepares x ps' es' ns fs' r
-      go (refused n) e h = absurd (let z : ◌≡◌ {A = ℕ} 0 1 = cc in omega arith)
-      go (got p) e h =
-          let same : h.0 ≡ a = let q = h.1 in cc in
-          (a, stands_laid p a e (subst (Stands p ps ps' es es' fs') same h.2), t)
+    pub accepted_few : length a.expressions.now < table_room
+    accepted_few = let (p, e, s) = verdict_accepted x a h in stands_expressions_few p a s
 
--- What the answer tells a caller
-pub prepared_refused : (x : Answer Problem) (ps es ns fs : List ℕ) (r : Prepared) (n : ℕ) → Prepares x ps es ns fs r
-    → r.verdict ≡ verdicts.Refused n
-    → x ≡ refused n
-unfolding Prepares
-prepared_refused (refused m) ps es ns fs r n h e = let z : m ≡ n = cc in ap refused z
-prepared_refused (got p) ps es ns fs r n h e = absurd (let v = h.2.verdict in let z : ◌≡◌ {A = ℕ} 0 1 = cc in omega arith)
+    pub accepted_ground : (nodes : Nodes) → nodes.tokens.now ≡ a.expressions.now → Numbered nodes.tokens.now nodes.numbers.now → Ground a nodes
+    accepted_ground nodes e n =
+        let (p, w, s) = verdict_accepted x a h in record { problem = p; stands = s; tokens = e; numbers = n }
 
-pub prepared_accepted : (x : Answer Problem) (ps es ns fs : List ℕ) (r : Prepared) (a : Standing) → Prepares x ps es ns fs r
-    → r.verdict ≡ verdicts.Accepted a → Ready x ps es ns fs a r.firsts
-unfolding Prepares
-prepared_accepted (refused m) ps es ns fs r a h e = absurd (let z : ◌≡◌ {A = ℕ} 0 1 = cc in omega arith)
-prepared_accepted (got p) ps es ns fs r a h e =
-    let v = h.2.verdict in
-    let same : h.0 ≡ a = cc in
-    record {
-      problem = p;
-      answer = refl;
-      laid = subst (Laid p ps es fs) same h.1;
-      tabled = subst (λ (b : Standing). Tabled ps es ns fs b r.firsts) same h.2.tabled;
-    }
+    pub prepares_accepted : (nodes : Nodes) (r : Prepared) → Made a nodes r → Prepares x (Ok r)
+    unfolding Prepares
+    prepares_accepted nodes r made =
+        let (p, e, s) = verdict_accepted x a h in
+        record { problem = p; answer = e; laid = made.laid p s; tabled = made.tabled }
 
-module _ (x : Answer Problem) (ps es ns fs : List ℕ) (a : Standing) (firsts : Firsts) (ready : Ready x ps es ns fs a firsts) where
-  -- Where there are rows: the nodes of the functions' faces
-  pub ready_nodes : a.rows ≡ true → Listed (take a.patterns ps) (take a.faces fs) a.occurring.functions firsts
-  unfolding NodesOf
-  ready_nodes e =
-      subst (λ (b : Bool). NodesOf b (take a.patterns ps) (take a.faces fs) a.occurring.functions firsts) e ready.tabled.nodes
+  -- What the answer tells a caller
+  pub prepared_refused : (e : Refusal) → Prepares x (Err e) → x ≡ refused (number e)
+  unfolding Prepares
+  prepared_refused e h = h
 
-  -- The numbers tell what the table does
-  pub ready_tells : Tells (take a.expressions es) (told (take a.expressions ns))
-  ready_tells =
-      numbers_tell (take a.expressions es) (take a.expressions ns) ready.tabled.numbers
-      (table_numbers ready.problem ps es fs a ready.laid).small
+  pub prepared_accepted : (r : Prepared) → Prepares x (Ok r) → Ready x r
+  unfolding Prepares
+  prepared_accepted r h = h
 
-  pub ready_numbers : length (take a.expressions ns) ≡ length (take a.expressions es)
-  ready_numbers =
-      length-take-le a.expressions ns ready.tabled.numbers_inside
-      ∙ sym (length-take-le a.expressions es ready.laid.expressions_inside)
+  module _ (r : Prepared) (ready : Ready x r) where
+    abbrev t : Tables
+    t = r.tables
 
-  -- ... which the code can go through
-  pub ready_faced : a.rows ≡ true → Faced (take a.expressions es) (take a.expressions ns) firsts
-  ready_faced e =
-      let found = is_some_lem (faces ready.problem) (sym ready.laid.has_rows ∙ e) in
-      record {
-        faces = faces_there ready.problem ps es fs a ready.laid firsts found.0 found.1 (ready_nodes e);
-        numbers = ready_numbers;
-      }
+    -- The numbers tell what the table does
+    pub ready_tells : Tells t.nodes.tokens.now (told t.nodes.numbers.now)
+    ready_tells =
+        numbers_tell t.nodes.tokens.now t.nodes.numbers.now ready.tabled.numbers
+        (subst Numerable (sym ready.laid.expressions) (table_numerable ready.problem ready.laid.accepted.within)).small
 
-  -- THE ROWS OF THE TABLES ARE THE PROBLEM'S
-  pub ready_rows : a.rows ≡ true → rows_of (take a.expressions es) (take a.expressions ns) firsts ≡ map masks_of (rows ready.problem)
-  ready_rows e =
-      let found = is_some_lem (faces ready.problem) (sym ready.laid.has_rows ∙ e) in
-      rows_mean ready.problem ps es fs a ready.laid firsts found.0 found.1 (ready_nodes e) (take a.expressions ns) ready_tells
+    -- Tables with room for every problem have room for the faces of an argument
+    pub ready_few : length t.patterns.now ≤ table_room
+    ready_few = patterns_few ready.problem ready.laid.accepted.within t.patterns.now ready.laid.patterns
 
--- Tables as the callers of `prepare` make them have room
-pub fresh_rooms : Rooms (replicate table_room 0) (replicate table_room 0) (replicate table_room 0)
-fresh_rooms =
-    let l : length {A = ℕ} (replicate table_room 0) ≡ table_room = length-replicate {A = ℕ} table_room 0 in
-    record { patterns = omega arith; expressions = omega arith; faces = omega arith }
+    -- No rows
+    pub ready_none : r.functions ≡ None → faces ready.problem ≡ none
+    ready_none e = (subst (FacesLaid ready.problem r) e ready.laid.faces).disagree
 
-pub fresh_room : table_room ≤ length {A = ℕ} (replicate table_room 0)
-fresh_room = omega (arith, length-replicate {A = ℕ} table_room 0)
+    -- Rows
+    module _ (f : Functions) (e : r.functions ≡ Some f) where
+      pub ready_found : FacesFound ready.problem t.faces.now
+      ready_found = subst (FacesLaid ready.problem r) e ready.laid.faces
+
+      functions_of : FunctionsOf r f
+      functions_of = ready.tabled.functions f e
+
+      listed_in : Listed (pattern_tokens ready.problem) t.faces.now r.occurring.functions t.firsts
+      listed_in =
+          subst (λ (s : Firsts). Listed (pattern_tokens ready.problem) t.faces.now r.occurring.functions s) functions_of.firsts
+          (subst (λ (s : List ℕ). Listed s t.faces.now r.occurring.functions f.firsts) ready.laid.patterns functions_of.listed)
+
+      -- The nodes of the functions' faces
+      pub ready_nodes : FirstsAt ready.problem ready_found.found (functions ready.problem) (listed t.firsts)
+      ready_nodes =
+          nodes_mean ready.problem ready.laid.accepted r.occurring ready.laid.survey t.faces.now ready_found t.firsts listed_in
+
+      -- ... which the code can go through
+      pub ready_faced : Faced t.nodes.tokens.now t.nodes.numbers.now t.firsts
+      ready_faced =
+          subst (λ (n : Nodes). Faced n.tokens.now n.numbers.now t.firsts) functions_of.nodes
+          (subst (λ (s : Firsts). Faced f.nodes.tokens.now f.nodes.numbers.now s) functions_of.firsts f.faced)
+
+      -- THE ROWS OF THE TABLES ARE THE PROBLEM'S
+      pub ready_rows : rows_in f ≡ map masks_of (rows ready.problem)
+      ready_rows =
+          ap (λ (n : Nodes). rows_of n.tokens.now n.numbers.now f.firsts) functions_of.nodes
+          ∙ ap (λ (s : Firsts). rows_of t.nodes.tokens.now t.nodes.numbers.now s) functions_of.firsts
+          ∙ ap (λ (s : List ℕ). rows_of s t.nodes.numbers.now t.firsts) ready.laid.expressions
+          ∙ rows_mean ready.problem ready.laid.accepted r.occurring ready.laid.survey t.faces.now ready_found t.firsts listed_in t.nodes.numbers.now
+          (subst (λ (s : List ℕ). Tells s (told t.nodes.numbers.now)) ready.laid.expressions ready_tells)
+
+      -- What the test of a row is told
+      pub ready_laid : fit.Laid ready.problem (told t.nodes.numbers.now) t.patterns.now t.nodes.tokens.now t.faces.now t.functions t.firsts
+      ready_laid =
+          record {
+            accepted = ready.laid.accepted;
+            patterns = ready.laid.patterns;
+            expressions = ready.laid.expressions;
+            tells = ready_tells;
+            found = ready_found.found;
+            agree = ready_found.agree;
+            recorded = ready_found.recorded;
+            set = rw ready.laid.functions (kept_functions ready.problem ready.laid.accepted.within r.occurring ready.laid.survey);
+            fits = listed_in.fits;
+            nodes = ready_nodes;
+          }

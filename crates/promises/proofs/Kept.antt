@@ -5,6 +5,7 @@ use mathlib.Core.Bool.{Bool, false}
 use mathlib.Core.List.{List, [], map}
 use Prim.Native.Nat.{ℕ, ◌<◌}
 use native.Mathlib.Omega.{arith}
+use Rattle.std.proofs.Common.{Result, Ok, Err}
 use lib.ListN.{length, take}
 use Rattle.meaning.specs.Basics.{All, Byte, Bytes}
 use Rattle.meaning.specs.Problem.{Problem}
@@ -14,23 +15,19 @@ use Rattle.meaning.specs.Search.{at, end, found, past, paused, refused_call, sta
 use Rattle.meaning.specs.Row.{Row}
 use Rattle.meaning.specs.PlaceValue.{PlaceValue, masks_of, place_value}
 use Rattle.meaning.specs.Entry.{HostReply, SearchCall, WriteCall, check_call, start_call}
-use Rattle.meaning.specs.Calls.{Run, ThirdDemand, given_row, left}
+use Rattle.meaning.specs.Calls.{Run, ThirdDemand, given_row}
 use Rattle.meaning.specs.Longest.{LongestCall}
 use Rattle.meaning.proofs.Lists.{never}
 use Rattle.meaning.proofs.CallLaws as calls
 use Rattle.meaning.proofs.PlaceLaws.{place_long}
 use Rattle.meaning.proofs.WriteLaws.{refused_leaves}
-use Rattle.masks.specs.Sets.{masks_in}
 use Rattle.masks.specs.declared.NodeSet.{NodeSet}
 use Rattle.places.specs.Places.{AtPast, AtRow, Starts, value_of}
 use Rattle.places.specs.declared.Place.{Place}
-use Rattle.places.specs.declared.Start.{Start}
-use Rattle.places.specs.declared.Start.TheVariants as starts
-use Rattle.places.specs.declared.Started.{Started}
 use Rattle.places.proofs.Naming.{row_value_lem}
-use Rattle.search.specs.Calling.{Answers, reply_with}
-use Rattle.seeking.specs.declared.Answer as code
-use Rattle.seeking.specs.declared.Answer.TheVariants as answers
+use Rattle.refusal.specs.Number.{number}
+use Rattle.refusal.specs.declared.Refusal.{Refusal}
+use Rattle.search.specs.Calling.{place_left}
 use Rattle.seeking.specs.declared.Searched.{Searched}
 use Rattle.words.specs.Words.{has_place, place_of_words, placed}
 use Rattle.words.proofs.WordLaws.{Small, place_small, placed_back, set_of, sets_back}
@@ -76,26 +73,23 @@ unfolding place_value
 at_past h = ap₂ (λ (masks : List ℕ) (past : Bool). record { masks = masks; is_past = past }) h.masks h.past
 
 -- The start
-started : (a : Answer PlaceValue) (r : Started) → Starts a r → start_answer r.answer (value_of r.place) ≡ a
-unfolding Starts
-started (refused n) r h = ap (λ (x : Start). start_answer x (value_of r.place)) h
-started (got v) r (begins, here) = ap (λ (x : Start). start_answer x (value_of r.place)) begins ∙ ap got here
+started : (s : Bytes) (r : Result Place Refusal) → Starts (start_call s) r → start_answer r ≡ start_call s
+started s (Ok place) h = sym h
+started s (Err e) h = sym h
 
-begins_at : (s : Bytes) (r : Started) → Starts (start_call s) r → r.answer ≡ starts.Begins
-    → (p : Problem) × (accept s ≡ got p) × (value_of r.place ≡ place_value (start p))
-unfolding start_call Starts
-begins_at s r h e = go (accept s) refl h
+begins_at : (s : Bytes) (place : Place) → Starts (start_call s) (Ok place)
+    → (p : Problem) × (accept s ≡ got p) × (value_of place ≡ place_value (start p))
+unfolding start_call
+begins_at s place h = go (accept s) refl h
   where
-    go : (a : Answer Problem) → accept s ≡ a → Starts (after a (λ p. got (place_value (start p)))) r
-        → (p : Problem) × (accept s ≡ got p) × (value_of r.place ≡ place_value (start p))
-    go (refused n) f g = never (let z = sym g ∙ e in cc)
-    go (got p) f g = (p, f, g.1)
+    go : (a : Answer Problem) → accept s ≡ a → after a (λ p. got (place_value (start p))) ≡ got (value_of place)
+        → (p : Problem) × (accept s ≡ got p) × (value_of place ≡ place_value (start p))
+    go (refused n) f g = never (cc)
+    go (got p) f g = (p, f, let e : value_of place ≡ place_value (start p) = cc in e)
 
 -- "a refused call changes neither the output buffer nor the open search"
-place_stays : {s : Bytes} {place : Place} {n : ℕ} (k : ℕ) (r : Searched) → Answers s place n r → r.answer ≡ answers.Refused k
-    → value_of r.place ≡ value_of place
-place_stays {place = place} k r h e =
-    h.leaves ∙ ap (λ (a : code.Answer). left (value_of place) (reply_with a (masks_in r.row) (value_of r.place))) e
+place_stays : (place : Place) (e : Refusal) (r : Result Searched Refusal) → r ≡ Err e → place_left place r ≡ place
+place_stays place e r h = ap (place_left place) h
 
 words_stay : (words : List ℕ) (a : Answer PlaceValue) → 0 < start_code a → start_after words a ≡ words
 words_stay words (got v) h = absurd (omega arith)
@@ -163,7 +157,7 @@ first_demand = record {
   rows_at = λ row r c. at_row c;
   past_last = λ r c. at_past c;
   opens = λ place r c. c;
-  starts = λ s r c. started (start_call s) r c.1;
+  starts = λ s r c. started s r c.1;
   searches = λ s place n r c. c.1.call;
   owned = λ s kept n r c. c.1.call;
   opened = λ s kept kept' n r c. c.call;
@@ -176,11 +170,11 @@ first_demand = record {
   writes_longest_in_c = λ n out out' k k' r c. c.1;
   checks_in_c = λ s text r c. c.1;
   ends = ending;
-  search_stays = λ s place n k r c e. place_stays k r c.1 e;
-  owned_stays = λ s kept n k r c e. place_stays k _ c.1 e;
-  open_stays = λ s kept kept' n k r c e. place_stays k _ c e;
-  write_stays = λ s row out out' k c. refused_leaves s (value_of row) out out' k c.1;
-  longest_stays = λ n out out' k c. refused_stays c.1;
+  search_stays = λ s place n e r c h. place_stays place e r h;
+  owned_stays = λ s kept n e r c h. c.1.stays e h;
+  open_stays = λ s kept kept' n e r c h. c.stays e h;
+  write_stays = λ s row out out' e c. refused_leaves s (value_of row) out out' (number e) c.1;
+  longest_stays = λ n out out' e c. refused_stays c.1;
   start_stays_in_c = λ s place place' r c above.
       let h : StartExport s place place' r = c.1 in
       h.place ∙ words_stay place (start_into place s) (omega (arith, h.code, above));
@@ -256,12 +250,12 @@ carried_demand s p cs b e r =
 
 pub third_demand : page.ThirdDemand
 third_demand = record {
-  carried = λ s r cs b c e run.
-      let (p, a, here) = begins_at s r c.1 e in
+  carried = λ s place cs b c run.
+      let (p, a, here) = begins_at s place c.1 in
       owed in_rattle rattle_lawful s b p a (carried_found cs) (CarriedEnd cs) (carried_allowed cs)
-      (carried_demand s p cs b a (subst (λ (v : PlaceValue). Run (SearchCall s) v (map call_of cs)) here (carried_run s r.place cs run)));
-  kept = λ s r kept cs b c e o run.
-      let (p, a, here) = begins_at s r c.1 e in
+      (carried_demand s p cs b a (subst (λ (v : PlaceValue). Run (SearchCall s) v (map call_of cs)) here (carried_run s place cs run)));
+  kept = λ s place kept cs b c o run.
+      let (p, a, here) = begins_at s place c.1 in
       let ds = kept_calls cs in
       owed in_rattle rattle_lawful s b p a (carried_found ds) (CarriedEnd ds) (carried_allowed ds)
       (carried_demand s p ds b a

@@ -6,7 +6,7 @@
 --               handed in
 --   OpenContract   the same of `search_open`, and that what the page takes for its contract is what stands in the source
 --   Ends        each call ends, without a fault, and then its contract holds: the program logic's own statement of the compiled function
-use Rattle.std.specs.Prelude.{◌≡◌, List, ℕ}
+use Rattle.std.specs.Prelude.{◌≡◌, List, Result, ℕ}
 use Rattle.std.specs.Borrow.{GName, Bor, MutBor}
 use base.Logic.{SProp, emp}
 use contract.Lifetimes.{Lfts}
@@ -20,14 +20,13 @@ use prog.Routine.{Routine}
 use Rattle.meaning.specs.Basics.{Bytes}
 use Rattle.masks.specs.declared.NodeSet.{NodeSet}
 use Rattle.places.specs.declared.Place.{Place}
-use Rattle.places.specs.declared.Started.{Started}
+use Rattle.refusal.specs.declared.Refusal.{Refusal}
+use Rattle.seeking.specs.declared.Answer.{Answer}
 use Rattle.seeking.specs.declared.Searched.{Searched}
-use Rattle.copying.specs.declared.Written.{Written}
-use Rattle.checking.specs.declared.Checked.{Checked}
+use Rattle.checking.specs.declared.Verdict.{Verdict}
 use Rattle.matcher.specs.Opened.{OpenAnswers}
 use Rattle.matcher.specs.declared.OpenSearch.{OpenSearch}
 use Rattle.matcher.specs.declared.Moved.{Moved}
-use Rattle.matcher.specs.declared.Reply.{Reply}
 use Rattle.places.proofs.Place.start.Reads as start
 use Rattle.places.proofs.Place.at.Reads as row_at
 use Rattle.places.proofs.Place.past_last.Reads as past-last
@@ -81,21 +80,21 @@ PastLastCalled r = past-last.Learnt tt tt r tt
 abbrev pub OpenedCalled : Place → OpenSearch → Type 0
 OpenedCalled place r = opened.Learnt tt (place, tt) r (place, tt)
 
-abbrev pub StartCalled : Bytes → Started → Type 0
+abbrev pub StartCalled : Bytes → Result Place Refusal → Type 0
 StartCalled s r = (l : Lent 1) × start.Learnt l.spans (lent l 0 s, tt) r (lent l 0 s, tt)
 
-abbrev pub SearchCalled : Bytes → Place → ℕ → Searched → Type 0
+abbrev pub SearchCalled : Bytes → Place → ℕ → Result Searched Refusal → Type 0
 SearchCalled s place n r =
     (l : Lent 1) × search.Learnt l.spans (lent l 0 s, (place, (n, tt))) r (lent l 0 s, (place, (n, tt)))
 
-abbrev pub WriteCalled : Bytes → Place → Bytes → Written → Bytes → Type 0
+abbrev pub WriteCalled : Bytes → Place → Bytes → Result ℕ Refusal → Bytes → Type 0
 WriteCalled s row out r out' =
     (l : Lent 2) × write.Learnt l.spans (lent l 0 s, (row, (lent_mut l 1 out, tt))) r (lent l 0 s, (row, (lent_mut l 1 out', tt)))
 
-abbrev pub LongestCalled : ℕ → Bytes → Written → Bytes → Type 0
+abbrev pub LongestCalled : ℕ → Bytes → Result ℕ Refusal → Bytes → Type 0
 LongestCalled n out r out' = (l : Lent 1) × longest.Learnt l.spans (n, (lent_mut l 0 out, tt)) r (n, (lent_mut l 0 out', tt))
 
-abbrev pub CheckCalled : Bytes → Bytes → Checked → Type 0
+abbrev pub CheckCalled : Bytes → Bytes → Result Verdict Refusal → Type 0
 CheckCalled s text r =
     (l : Lent 2) × check.Learnt l.spans (lent l 0 s, (lent l 1 text, tt)) r (lent l 0 s, (lent l 1 text, tt))
 
@@ -103,7 +102,7 @@ abbrev pub OwnedCalled : OpenSearch → Bytes → ℕ → Moved → Type 0
 OwnedCalled kept s n r = (l : Lent 1) × owned.Learnt l.spans (kept, (lent l 0 s, (n, tt))) r (kept, (lent l 0 s, (n, tt)))
 
 -- What the page takes for the contract of `search_open`: `OpenContract` says that it is what stands in the source
-abbrev pub OpenCalled : OpenSearch → Bytes → ℕ → Reply → OpenSearch → Type 0
+abbrev pub OpenCalled : OpenSearch → Bytes → ℕ → Result Answer Refusal → OpenSearch → Type 0
 OpenCalled kept s n r kept' = OpenAnswers s kept.place n kept'.place r
 
 -- In C

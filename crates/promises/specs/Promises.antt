@@ -4,7 +4,7 @@
 --   Interface     how a host holds a row, and what its calls of the writers and the checker come to, in Rattle or in C
 --   Owed          what is owed for a list of calls
 --   LongestList   T-13: how long the list of (P(X), e) can be, and the problem whose list is as long
-use Rattle.std.specs.Prelude.{◌≡◌, ◌↔◌, Bool, true, false, List, map, ℕ, ◌+◌, ◌-◌, ◌^◌, ◌<◌, ◌≤◌, length, take}
+use Rattle.std.specs.Prelude.{◌≡◌, ◌↔◌, Bool, true, false, List, map, ℕ, ◌+◌, ◌-◌, ◌^◌, ◌<◌, ◌≤◌, length, take, Result, Ok, Err}
 use Rattle.meaning.specs.Limits.{largest_problem, largest_written, max_face_nodes}
 use Rattle.meaning.specs.Basics.{All, Byte, Bytes, Distinct, Ordered, Pairwise, ◌∈◌}
 use Rattle.meaning.specs.Term.{IsExpression, NamedTerm, one, size}
@@ -27,21 +27,17 @@ use Rattle.meaning.specs.Longest.{LongestCall, applied_to, heaviest, longest_pro
 use Rattle.masks.specs.declared.NodeSet.{NodeSet}
 use Rattle.places.specs.Places.{value_of}
 use Rattle.places.specs.declared.Place.{Place}
-use Rattle.places.specs.declared.Start.{Start}
-use Rattle.places.specs.declared.Start.TheVariants as starts
-use Rattle.places.specs.declared.Started.{Started}
-use Rattle.search.specs.Calling.{host_reply}
-use Rattle.seeking.specs.declared.Answer.TheVariants as answers
+use Rattle.refusal.specs.Number.{number}
+use Rattle.refusal.specs.declared.Refusal.{Refusal}
+use Rattle.search.specs.Calling.{host_reply, place_left}
+use Rattle.seeking.specs.declared.Answer as code
 use Rattle.seeking.specs.declared.Searched.{Searched}
 use Rattle.copying.specs.Answered as writing
-use Rattle.copying.specs.declared.Written.{Written}
-use Rattle.copying.specs.declared.Written.TheVariants as written
 use Rattle.checking.specs.Checking as checking
-use Rattle.checking.specs.declared.Checked.{Checked}
+use Rattle.checking.specs.declared.Verdict.{Verdict}
 use Rattle.matcher.specs.Opened.{searched_by}
 use Rattle.matcher.specs.declared.Moved.{Moved}
 use Rattle.matcher.specs.declared.OpenSearch.{OpenSearch}
-use Rattle.matcher.specs.declared.Reply.{Reply}
 use Rattle.words.specs.Words.{place_of_words}
 use Rattle.tivagyesz.specs.Exported.{CheckExport, LongestExport, SearchExport, StartExport, WriteExport}
 use Rattle.promises.specs.Called.{CCheckCalled, CLongestCalled, CSearchCalled, CStartCalled, CWriteCalled, CheckCalled, Ends}
@@ -51,9 +47,9 @@ use Rattle.promises.specs.Numbers.{check_answer, write_answer}
 use Rattle.promises.specs.Lists.{CCall, CEnd, CRun, CarriedCall, CarriedEnd, CarriedRun, KeptCall, KeptRun, c_allowed, c_found}
 use Rattle.promises.specs.Lists.{carried_allowed, carried_found, kept_calls}
 
-abbrev pub start_answer : Start → PlaceValue → Answer PlaceValue
-start_answer (starts.Refused r) v = refused r
-start_answer starts.Begins v = got v
+abbrev pub start_answer : Result Place Refusal → Answer PlaceValue
+start_answer (Ok place) = got (value_of place)
+start_answer (Err e) = refused (number e)
 
 -- 1.
 pub record FirstDemand : Type 2 where
@@ -64,16 +60,18 @@ pub record FirstDemand : Type 2 where
   pub rows_at : (row : List NodeSet) (r : Place) → RowAtCalled row r → r ≡ record { sets = row; past = false }
   pub past_last : (r : Place) → PastLastCalled r → value_of r ≡ place_value past
   pub opens : (place : Place) (r : OpenSearch) → OpenedCalled place r → r.place ≡ place
-  pub starts : (s : Bytes) (r : Started) → StartCalled s r → start_answer r.answer (value_of r.place) ≡ start_call s
-  pub searches : (s : Bytes) (place : Place) (n : ℕ) (r : Searched) → SearchCalled s place n r → SearchCall s (value_of place) n (host_reply r)
+  pub starts : (s : Bytes) (r : Result Place Refusal) → StartCalled s r → start_answer r ≡ start_call s
+  pub searches : (s : Bytes) (place : Place) (n : ℕ) (r : Result Searched Refusal) → SearchCalled s place n r
+      → SearchCall s (value_of place) n (host_reply r)
   pub owned : (s : Bytes) (kept : OpenSearch) (n : ℕ) (r : Moved) → OwnedCalled kept s n r
-      → SearchCall s (value_of kept.place) n (host_reply (searched_by r.search.place r.reply))
-  pub opened : (s : Bytes) (kept kept' : OpenSearch) (n : ℕ) (r : Reply) → OpenCalled kept s n r kept'
+      → SearchCall s (value_of kept.place) n (host_reply (searched_by r.search.place r.answer))
+  pub opened : (s : Bytes) (kept kept' : OpenSearch) (n : ℕ) (r : Result code.Answer Refusal) → OpenCalled kept s n r kept'
       → SearchCall s (value_of kept.place) n (host_reply (searched_by kept'.place r))
-  pub writes : (s : Bytes) (row : Place) (out out' : Bytes) (r : Written) → WriteCalled s row out r out'
+  pub writes : (s : Bytes) (row : Place) (out out' : Bytes) (r : Result ℕ Refusal) → WriteCalled s row out r out'
       → WriteCall s (value_of row) out (writing.answer_of r) out'
-  pub writes_longest : (n : ℕ) (out out' : Bytes) (r : Written) → LongestCalled n out r out' → LongestCall n out (writing.answer_of r) out'
-  pub checks : (s text : Bytes) (r : Checked) → CheckCalled s text r → checking.answer_of r ≡ check_call s text
+  pub writes_longest : (n : ℕ) (out out' : Bytes) (r : Result ℕ Refusal) → LongestCalled n out r out'
+      → LongestCall n out (writing.answer_of r) out'
+  pub checks : (s text : Bytes) (r : Result Verdict Refusal) → CheckCalled s text r → checking.answer_of r ≡ check_call s text
   pub starts_in_c : (s : Bytes) (place place' : List ℕ) (r : ℕ) → CStartCalled s place r place' → StartExport s place place' r
   pub searches_in_c : (s : Bytes) (n : ℕ) (place row place' row' : List ℕ) (r : ℕ) → CSearchCalled s place row n r place' row'
       → SearchExport s n place row place' row' r
@@ -83,15 +81,15 @@ pub record FirstDemand : Type 2 where
   pub checks_in_c : (s text : Bytes) (r : ℕ) → CCheckCalled s text r → CheckExport s text r
   -- "each call ends"
   pub ends : Ends
-  -- "a refused call changes neither the output buffer nor the open search"
-  pub search_stays : (s : Bytes) (place : Place) (n k : ℕ) (r : Searched) → SearchCalled s place n r → r.answer ≡ answers.Refused k
-      → value_of r.place ≡ value_of place
-  pub owned_stays : (s : Bytes) (kept : OpenSearch) (n k : ℕ) (r : Moved) → OwnedCalled kept s n r → r.reply.answer ≡ answers.Refused k
-      → value_of r.search.place ≡ value_of kept.place
-  pub open_stays : (s : Bytes) (kept kept' : OpenSearch) (n k : ℕ) (r : Reply) → OpenCalled kept s n r kept' → r.answer ≡ answers.Refused k
-      → value_of kept'.place ≡ value_of kept.place
-  pub write_stays : (s : Bytes) (row : Place) (out out' : Bytes) (k : ℕ) → WriteCalled s row out (written.Refused k) out' → out' ≡ out
-  pub longest_stays : (n : ℕ) (out out' : Bytes) (k : ℕ) → LongestCalled n out (written.Refused k) out' → out' ≡ out
+  -- "a refused call changes neither the output buffer nor the open search": with a refusal comes no place, and the caller has its own
+  pub search_stays : (s : Bytes) (place : Place) (n : ℕ) (e : Refusal) (r : Result Searched Refusal) → SearchCalled s place n r → r ≡ Err e
+      → place_left place r ≡ place
+  pub owned_stays : (s : Bytes) (kept : OpenSearch) (n : ℕ) (e : Refusal) (r : Moved) → OwnedCalled kept s n r → r.answer ≡ Err e
+      → r.search.place ≡ kept.place
+  pub open_stays : (s : Bytes) (kept kept' : OpenSearch) (n : ℕ) (e : Refusal) (r : Result code.Answer Refusal) → OpenCalled kept s n r kept'
+      → r ≡ Err e → kept'.place ≡ kept.place
+  pub write_stays : (s : Bytes) (row : Place) (out out' : Bytes) (e : Refusal) → WriteCalled s row out (Err e) out' → out' ≡ out
+  pub longest_stays : (n : ℕ) (out out' : Bytes) (e : Refusal) → LongestCalled n out (Err e) out' → out' ≡ out
   pub start_stays_in_c : (s : Bytes) (place place' : List ℕ) (r : ℕ) → CStartCalled s place r place' → 0 < r → place' ≡ place
   pub search_stays_in_c : (s : Bytes) (n : ℕ) (place row place' row' : List ℕ) (r : ℕ) → CSearchCalled s place row n r place' row' → r < 256
       → (place' ≡ place) × (row' ≡ row)
@@ -112,9 +110,9 @@ abbrev pub in_rattle : Interface
 in_rattle = record {
   Held = Place;
   value = value_of;
-  Writing = λ s row out a out'. (r : Written) × WriteCalled s row out r out' × (a ≡ writing.answer_of r);
-  Checking = λ s text a. (r : Checked) × CheckCalled s text r × (a ≡ checking.answer_of r);
-  Longest = λ n out a out'. (r : Written) × LongestCalled n out r out' × (a ≡ writing.answer_of r);
+  Writing = λ s row out a out'. (r : Result ℕ Refusal) × WriteCalled s row out r out' × (a ≡ writing.answer_of r);
+  Checking = λ s text a. (r : Result Verdict Refusal) × CheckCalled s text r × (a ≡ checking.answer_of r);
+  Longest = λ n out a out'. (r : Result ℕ Refusal) × LongestCalled n out r out' × (a ≡ writing.answer_of r);
 }
 
 abbrev pub in_c : Interface
@@ -189,11 +187,11 @@ pub record Owed (host : Interface) (s : Bytes) (given : List host.Held) (ended :
 -- 3. "Over any list of calls, with any allowances and refused calls among them"
 pub record ThirdDemand : Type 1 where
   -- the caller carries the place, from what `Place::start` gave
-  pub carried : (s : Bytes) (r : Started) (cs : List CarriedCall) → All Byte s → StartCalled s r → r.answer ≡ starts.Begins
-      → CarriedRun s r.place cs → Owed in_rattle s (carried_found cs) (CarriedEnd cs) (carried_allowed cs)
+  pub carried : (s : Bytes) (place : Place) (cs : List CarriedCall) → All Byte s → StartCalled s (Ok place)
+      → CarriedRun s place cs → Owed in_rattle s (carried_found cs) (CarriedEnd cs) (carried_allowed cs)
   -- the open search keeps it, from what `OpenSearch::at` made of that
-  pub kept : (s : Bytes) (r : Started) (kept : OpenSearch) (cs : List KeptCall) → All Byte s → StartCalled s r → r.answer ≡ starts.Begins
-      → OpenedCalled r.place kept → KeptRun s kept cs
+  pub kept : (s : Bytes) (place : Place) (kept : OpenSearch) (cs : List KeptCall) → All Byte s → StartCalled s (Ok place)
+      → OpenedCalled place kept → KeptRun s kept cs
       → Owed in_rattle s (carried_found (kept_calls cs)) (CarriedEnd (kept_calls cs)) (carried_allowed (kept_calls cs))
   -- a program in C carries its words, from what `matcher_start` wrote
   pub exported : (s : Bytes) (words place : List ℕ) (cs : List CCall) → All Byte s → CStartCalled s words 0 place → CRun s place cs

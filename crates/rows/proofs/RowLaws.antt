@@ -2,16 +2,18 @@
 --   Freshly    from function k on each set is its function's first choice
 --   Moving     what is known where a step is made
 --   Passing    the functions from k on have had their last choices, and begin again
-use mathlib.Core.Path.{◌≡◌, refl, ap, sym, ◌∙◌, subst}
+use mathlib.Core.Path.{◌≡◌, refl, ap, ap₂, sym, ◌∙◌, subst}
 use mathlib.Core.Logic.{◌↔◌, ⊎_elim}
 use mathlib.Core.Bool.{true, false}
 use mathlib.Core.List.Memᴰ
-use mathlib.Core.List.{List, []}
+use mathlib.Core.List.{List, [], ◌∷◌, ◌++◌, append_assoc}
 use Prim.Native.Nat.{ℕ, zero, suc, ◌+◌, ◌-◌, ◌≤◌, ◌<◌}
 use native.Mathlib.Nat.{eq-or-lt_of_le}
 use native.Mathlib.Omega.{arith}
-use lib.ListN.{length, get_or, set, length-map}
-use lib.Seq.{set-get_or}
+use lib.ListN.{length, get_or, set, take, drop, length-map}
+use lib.Seq.{drop-cons, length-take-le, set-append_seam, set-get_or, take-suc}
+use borrow.Rule.Slice.PartMut.{mid_of, put_mid}
+use Rattle.std.proofs.lemmas.List.{drop-map, map-append, take-append-drop, take-map}
 use lib.Dec.{eqb}
 use borrow.Author.Tests.{eq-eqb, eqb-false, eqb-true}
 use Rattle.meaning.specs.Limits.{max_functions}
@@ -21,7 +23,7 @@ use Rattle.tokens.specs.Key as table
 use Rattle.masks.specs.Sets.{mask, masks_in}
 use Rattle.masks.specs.declared.NodeSet.{NodeSet}
 use Rattle.masks.proofs.Cases.{lt_or_ge}
-use Rattle.masks.proofs.Words.{masks_at, masks_set}
+use Rattle.masks.proofs.Words.{masks_at, masks_set, no_nodes}
 use Rattle.faces.specs.declared.first.Firsts.{Firsts}
 use Rattle.choosing.specs.Rows.{MaskRow, Next, Steps, behind, choices_at, choices_from, first_at, first_from}
 use Rattle.choosing.proofs.Stepping.{Carried, Fresh, carried_at, carried_more, carried_none, fresh_more, fresh_none}
@@ -34,6 +36,22 @@ above_zero m e = let n = eqb-false m 0 e in ⊎_elim (λ (q : 0 ≡ m). absurd (
 
 -- ---- beginning again
 
+-- In one piece
+begun_put : (f r : MaskRow) (k d : ℕ) → k + d ≤ length r → k + d ≤ length f → take k r ++ (take d (drop k f) ++ drop d (drop k r)) ≡ begun_from f r k d
+unfolding begun_from
+begun_put f r k zero h g = take-append-drop k r
+begun_put f r k (suc d) h g =
+    let v = get_or f k 0 in
+    let l : k < length r = omega arith in
+    let m : k < length f = omega arith in
+    let Y : MaskRow = take d (drop (suc k) f) ++ drop d (drop (suc k) r) in
+    let later : take (suc k) r ++ Y ≡ begun_from f r (suc k) d = begun_put f r (suc k) d (omega arith) (omega arith) in
+    let here : (take k r ++ (get_or r k 0 ∷ [])) ++ Y ≡ take k r ++ (get_or r k 0 ∷ Y) = append_assoc (take k r) (get_or r k 0 ∷ []) Y in
+    ap₂ (λ (x y : MaskRow). take k r ++ (take (suc d) x ++ drop (suc d) y)) (drop-cons f k 0 m) (drop-cons r k 0 l)
+    ∙ sym (set-append_seam (take k r) (get_or r k 0) Y v)
+    ∙ ap (λ (n : ℕ). set (take k r ++ (get_or r k 0 ∷ Y)) n v) (length-take-le k r (omega arith))
+    ∙ ap (λ (x : MaskRow). set x k v) (sym here ∙ ap (λ (x : MaskRow). x ++ Y) (sym (take-suc r k 0 l)) ∙ later)
+
 module _ (count : ℕ) (first : List NodeSet) (row : List NodeSet) where
   abbrev again : ℕ → MaskRow
   again j = begun count (masks_in first) j (masks_in row)
@@ -44,15 +62,12 @@ module _ (count : ℕ) (first : List NodeSet) (row : List NodeSet) where
       let z : 0 ≡ count - j = omega arith in
       subst (λ (d : ℕ). masks_in row ≡ begun_from (masks_in first) (masks_in row) j d) z refl
 
-  pub again_more : (j : ℕ) (next : List NodeSet) (s : NodeSet) → j < count → masks_in next ≡ again (suc j)
-      → mask s ≡ get_or (masks_in first) j 0
-      → masks_in (set next j s) ≡ again j
-  unfolding begun_from
-  again_more j next s h e q =
-      let d : suc (count - suc j) ≡ count - j = omega arith in
-      masks_set next j s
-      ∙ subst (λ (n : ℕ). set (masks_in next) j (mask s) ≡ begun_from (masks_in first) (masks_in row) j n) d
-      (ap (λ (r : MaskRow). set r j (mask s)) e ∙ ap (set (again (suc j)) j) q)
+  -- As the code writes them: the sets from j on in one piece
+  pub again_put : (j : ℕ) → j ≤ count → count ≤ length row → count ≤ length first
+      → masks_in (put_mid j (count - j) row (mid_of j (count - j) first)) ≡ again j
+  again_put j h r f =
+      let e = begun_put (masks_in first) (masks_in row) j (count - j) (simp length-map (omega arith)) (simp length-map (omega arith)) in
+      simp map-append (simp (take-map, drop-map) at e)
 
 -- A row is about to step: of the k functions up to the one that steps the last takes its next choice, and in `next` the later ones have
 -- begun again
@@ -61,9 +76,14 @@ pub record Moving (count : ℕ) (first row next : List NodeSet) (k : ℕ) : Type
   pub some : 0 < k
   pub again : masks_in next ≡ begun count (masks_in first) k (masks_in row)
 
+-- The function that steps is one of the row's
+pub moving_inside : {count : ℕ} {first row next : List NodeSet} (k : ℕ) → count ≤ max_functions → Moving count first row next k
+    → k - 1 < max_functions
+moving_inside k few m = omega (arith, m.steps.few, m.some)
+
 -- What the code reads where there is no set
 abbrev pub nothing : NodeSet
-nothing = record { w0 = 0; w1 = 0; w2 = 0; w3 = 0 }
+nothing = no_nodes
 
 module _ (es ns : List ℕ) (firsts : Firsts) where
   -- ---- one function

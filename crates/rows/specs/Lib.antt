@@ -1,2 +1,3 @@
 -- Rows as sets of nodes.
 pub mod Rows
+pub mod Functions

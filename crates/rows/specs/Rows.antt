@@ -2,9 +2,12 @@
 --   Faced      what the code asks of the tables: the faces lie in the table of expressions, and each of its nodes has a number
 --   rows_of     the masks of all rows, in order
 --   StepsFrom  what a step from a row leads to
+--   StepsTo    the same of an answer that is the next row, or none
 --   begun      a row in which the functions from one on are at their first choices again
 --   StepsAt    the function that steps is the last with a node, and so many functions there are up to it
-use Rattle.std.specs.Prelude.{◌≡◌, Bool, List, ℕ, zero, suc, ◌-◌, ◌<◌, ◌≤◌, length, get_or, set}
+use Rattle.std.specs.Prelude.{◌≡◌, Bool, true, false, List, ℕ, zero, suc, ◌-◌, ◌<◌, ◌≤◌, length, get_or, set, Option, Some, None}
+use Rattle.masks.specs.Sets.{masks_in}
+use Rattle.masks.specs.declared.NodeSet.{NodeSet}
 use Rattle.faces.specs.declared.first.Firsts.{Firsts}
 use Rattle.choosing.specs.FaceNodes.{Faces}
 use Rattle.choosing.specs.Rows.{MaskRow, Steps, choices_at, mask_rows}
@@ -21,6 +24,10 @@ rows_of es ns firsts = mask_rows ns es firsts.nodes firsts.count
 
 unfoldable pub StepsFrom : List ℕ → List ℕ → Firsts → MaskRow → Bool → MaskRow → Type 0
 StepsFrom es ns firsts row more next = Steps ns es firsts.nodes firsts.count row more next
+
+abbrev pub StepsTo : List ℕ → List ℕ → Firsts → MaskRow → Option (List NodeSet) → Type 0
+StepsTo es ns firsts row (Some next) = StepsFrom es ns firsts row true (masks_in next)
+StepsTo es ns firsts row None = (next : MaskRow) → StepsFrom es ns firsts row false next
 
 -- d functions from k on
 unfoldable pub begun_from : MaskRow → MaskRow → ℕ → ℕ → MaskRow

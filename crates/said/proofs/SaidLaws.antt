@@ -5,6 +5,7 @@ use mathlib.Core.List.{List, [], ◌∷◌}
 use Prim.Native.Nat.{ℕ}
 use native.Mathlib.Omega.{arith}
 use lib.ListN.{replicate, get_or-replicate}
+use Rattle.std.proofs.Common.{None}
 use lib.Dec.{eqb}
 use Rattle.meaning.specs.Limits.{metavariable_count}
 use Rattle.meaning.specs.Basics.{choose}
@@ -21,13 +22,11 @@ said_item (i ∷ is) m = go (eqb m i.0) (said_item is m)
     go false e = e
 
 -- An empty text
-pub said_nothing : SaidBy [] [] (record { tags = replicate 32 0; nodes = replicate 32 0 })
+pub said_nothing : SaidBy [] [] (record { fields = replicate 32 None })
 unfolding metavariable_count
 said_nothing = record {
   is_table = record { counted = λ k h. absurd (omega arith); small = omega arith };
   readable = tt;
-  tags_long = refl;
-  nodes_long = refl;
-  tags = λ m h. get_or-replicate 32 m 0 0 h;
-  nodes = λ m h. tt;
+  long = refl;
+  fields = λ m h. get_or-replicate 32 m None None h;
 }

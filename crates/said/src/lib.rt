@@ -6,12 +6,17 @@ ghost use Rattle.said.specs.Said.{SaidBy};
 
 use metavariables::METAVARIABLES;
 
+// A field of a text, "8 (value), 9 (body), 11 (open)", with the node of the text's table where its term stands.
+#[derive(Clone, Copy)]
+pub enum Field {
+    Value(usize),
+    Body(usize),
+    Open,
+}
+
 #[derive(Clone, Copy)]
 pub struct Said {
-    // The tag of a metavariable's field, "8 (value), 9 (body), 11 (open)", or 0 where the text has none.
-    pub tags: [u8; METAVARIABLES as usize],
-    // Where the term of the field stands in the table of the text.
-    pub nodes: [usize; METAVARIABLES as usize],
+    pub fields: [Option<Field>; METAVARIABLES as usize],
 }
 
 impl Said {
@@ -20,8 +25,7 @@ impl Said {
         ensures { SaidBy [] [] result }
     {
         Said {
-            tags: [0u8; METAVARIABLES as usize],
-            nodes: [0usize; METAVARIABLES as usize],
+            fields: [None; METAVARIABLES as usize],
         }
     }
 }

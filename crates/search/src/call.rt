@@ -1,94 +1,58 @@
 // One search call, from any bytes, any place and any allowance.
 ghost use Rattle.masks.specs.Sets.{masks_in};
-ghost use Rattle.search.specs.Calling.{Refuses, Callable, RowThere, Sought, Placed, Answers};
+ghost use Rattle.search.specs.Calling.{Callable, RowThere, Sought, Placed, Answers};
 
-use accept::{Standing, Verdict};
-use faces::first::Firsts;
-use masks::NodeSet;
 use places::{Named, Place, named_by};
-use prepare::prepare;
-use rows::first_row;
-use seeking::{Answer, Fixed, Searched, ended, seek};
+use prepare::{Prepared, prepare};
+use refusal::Refusal;
+use rows::Functions;
+use seeking::{Fixed, Searched, ended};
 use table::TABLE_ROOM;
-
-// "A refusal returns its number only. The output buffer and open search stay": the place is the one that was handed in.
-fn refused(number: u8, place: Place) -> Searched
-    ensures { Refuses number place result }
-{
-    Searched {
-        answer: Answer::Refused(number),
-        place: place,
-        row: [NodeSet::none(); Place::MAX_FUNCTIONS],
-    }
-}
 
 // From a row of the problem on.
 fn from_row(
-    a: Standing,
-    firsts: Firsts,
+    prepared: &Prepared,
+    functions: Functions,
     place: Place,
     n: u32,
-    ps: &[u64],
-    es: &[u64],
-    ns: &[u64],
-    fs: &[u64],
     scratch: &mut [u64],
 ) -> Searched
-    requires callable { Callable ps.now es.now ns.now fs.now a firsts scratch.old }
-    requires row_there { RowThere es.now ns.now a firsts place }
-    ensures { Sought ps.now es.now ns.now fs.now a firsts (masks_in place.sets) n result }
+    requires callable { Callable prepared.now scratch.old }
+    requires row_there { RowThere prepared.now functions place }
+    ensures { Sought prepared.now functions.entry (masks_in place.sets) n result }
 {
-    let p = a.patterns;
-    let e = a.expressions;
-    let k = a.faces;
-    let first = first_row(&es[..e], &ns[..e], firsts);
-    let row = place.sets;
     let fixed = Fixed {
-        functions: a.occurring.functions,
-        firsts: firsts,
-        first: first,
+        tables: prepared.tables,
+        functions,
+        first: functions.first_row(),
     };
-    seek(
-        &ps[..p],
-        &es[..e],
-        &ns[..e],
-        &fs[..k],
-        fixed,
-        row,
-        n,
-        scratch,
-    )
+    fixed.seek(place.sets, n, scratch)
 }
 
 // "15 n is 0; 16 no such place", and else from the place on.
+#[tactic(auto, using(crate::proofs::CallLaws::placing))]
 fn from_place(
-    a: Standing,
-    firsts: Firsts,
+    prepared: &Prepared,
     place: Place,
     n: u32,
-    ps: &[u64],
-    es: &[u64],
-    ns: &[u64],
-    fs: &[u64],
     scratch: &mut [u64],
-) -> Searched
-    requires { Callable ps.now es.now ns.now fs.now a firsts scratch.old }
-    ensures { Placed ps.now es.now ns.now fs.now a firsts place n result }
+) -> Result<Searched, Refusal>
+    requires { Callable prepared.now scratch.old }
+    ensures { Placed prepared.now place n result }
 {
     if n == 0 {
-        return refused(15, place);
+        return Err(Refusal::NoAllowance);
     }
-    let e = a.expressions;
-    let named = named_by(place, a.rows, &es[..e], &ns[..e], firsts);
-    match named {
-        Named::Nothing => refused(16, place),
-        Named::Past => ended(),
-        Named::Row => from_row(a, firsts, place, n, ps, es, ns, fs, scratch),
+    match named_by(place, prepared.functions)? {
+        Named::Past => Ok(ended()),
+        Named::Row(functions) => Ok(from_row(prepared, functions, place, n, scratch)),
     }
 }
 
-// A call on any bytes, place and allowance: document 01's answer, with the place that it leaves.
-pub fn search(problem: &[u8], place: Place, n: u32) -> Searched
+// A call on any bytes, place and allowance: document 01's answer, with the place that it leaves. "A refusal returns its number only. The output
+// buffer and open search stay": the place is passed by value, and stays as the caller has it.
+#[tactic(auto, using(crate::proofs::CallLaws::searching))]
+pub fn search(problem: &[u8], place: Place, n: u32) -> Result<Searched, Refusal>
     ensures { Answers problem.now place n result }
 {
     let mut ps = [0u64; TABLE_ROOM];
@@ -96,11 +60,6 @@ pub fn search(problem: &[u8], place: Place, n: u32) -> Searched
     let mut ns = [0u64; TABLE_ROOM];
     let mut fs = [0u64; TABLE_ROOM];
     let mut scratch = [0u64; TABLE_ROOM];
-    let prepared = prepare(problem, &mut ps, &mut es, &mut ns, &mut fs);
-    let firsts = prepared.firsts;
-    let verdict = prepared.verdict;
-    match verdict {
-        Verdict::Refused(r) => refused(r, place),
-        Verdict::Accepted(a) => from_place(a, firsts, place, n, &ps, &es, &ns, &fs, &mut scratch),
-    }
+    let prepared = prepare(problem, &mut ps, &mut es, &mut ns, &mut fs)?;
+    from_place(&prepared, place, n, &mut scratch)
 }

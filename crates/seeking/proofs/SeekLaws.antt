@@ -5,7 +5,6 @@ use mathlib.Core.List.Memᴰ
 use mathlib.Core.List.{List, [], ◌∷◌, ◌++◌, append_assoc}
 use Prim.Native.Nat.{ℕ, suc, ◌<◌}
 use native.Mathlib.Omega.{arith}
-use lib.ListN.{length}
 use Rattle.meaning.specs.Basics.{choose, ◌∈◌}
 use Rattle.meaning.specs.Search.{at, past, place_of, found, end, paused, Keeps, finds, ends, pauses}
 use Rattle.meaning.proofs.Lists.{mem_split, never}
@@ -14,41 +13,42 @@ use Rattle.masks.specs.Sets.{masks_in}
 use Rattle.masks.specs.declared.NodeSet.{NodeSet}
 use Rattle.choosing.specs.Rows.{MaskRow, Leads, Steps}
 use Rattle.choosing.proofs.Problem.{row_masks}
-use Rattle.rows.specs.Rows.{StepsFrom, rows_of}
+use Rattle.std.specs.Prelude.{Some, None}
+use Rattle.std.specs.Prelude as std
+use Rattle.std.specs.Option as answered
+use Rattle.sources.specs.Kept.{Answers}
+use Rattle.sources.specs.declared.Sources.{Sources}
+use Rattle.fit.proofs.Meaning.{answers_some}
+use Rattle.rows.specs.Rows.{StepsFrom, StepsTo, rows_of}
+use Rattle.rows.specs.Functions.{numbers_in, tokens_in}
 use Rattle.places.specs.Places.{AtRow, AtPast}
 use Rattle.places.specs.declared.Place as code
-use Rattle.fit.specs.Ready as fit
+use Rattle.fit.specs.Tables.{ReadyIn, Room, judged_in}
 use Rattle.fit.proofs.Readiness.{laid_ready}
-use Rattle.seeking.specs.Seeking.{Ended, Grounded, Judged, Passed, Paused, Seekable, Seeks, Steppable, all_rows, judged, mask_place, mask_reply}
-use Rattle.seeking.specs.declared.Fixed.{Fixed}
+use Rattle.seeking.specs.Seeking.{Ended, Grounded, Judged, Passed, Paused, Seeks, StepsOn, all_rows, judged, mask_place, mask_reply}
+use Rattle.seeking.specs.declared.fixed.Fixed.{Fixed}
 use Rattle.seeking.specs.declared.Answer.TheVariants as answers
 use Rattle.seeking.specs.declared.Searched.{Searched}
 
-module _ (ps es ns fs : List ℕ) (fixed : Fixed) (row : MaskRow) (scratch : List ℕ) (h : Seekable ps es ns fs fixed row scratch) where
-  abbrev ground : Grounded ps es ns fs fixed scratch
-  ground = h.grounded
-
-  -- What `judge` requires
-  pub seekable_ready : fit.Ready ps es ns fs fixed.functions fixed.firsts row scratch
-  unfolding rows_of
-  seekable_ready =
-      let (r, m, e) = (row_masks ground.problem ns es fixed.firsts.nodes fixed.firsts.count ground.listed row).0 h.is_row in
-      laid_ready ground.problem ps es ns fs fixed.functions fixed.firsts ground.laid ground.faced.numbers row
-      (record { choices = r; is_row = m; masks = e }) scratch
-      ground.room
-
-  pub seekable_steppable : Steppable es ns fixed row
-  seekable_steppable = record { faced = ground.faced; first = ground.first; is_row = h.is_row }
+-- What `judge` requires of a row
+pub row_ready : (fixed : Fixed) (row : MaskRow) (scratch : List ℕ) → Grounded fixed → row ∈ all_rows fixed → Room fixed.tables scratch
+    → ReadyIn fixed.tables row scratch
+unfolding rows_of
+row_ready fixed row scratch ground here room =
+    let t = fixed.tables in
+    let f = fixed.functions in
+    let (r, m, e) = (row_masks ground.problem (numbers_in f) (tokens_in f) f.firsts.nodes f.firsts.count ground.listed row).0 here in
+    laid_ready ground.problem t.patterns.now t.nodes.tokens.now t.nodes.numbers.now t.faces.now t.functions t.firsts ground.laid t.nodes.one_each
+    row (record { choices = r; is_row = m; masks = e }) scratch room
 
 -- Where a step leads
-abbrev Leading : List ℕ → List ℕ → Fixed → MaskRow → Bool → MaskRow → Type 0
-Leading es ns fixed row more next =
-    (before later : List MaskRow) → all_rows es ns fixed ≡ before ++ (row ∷ later) → Leads (place_of later) more next
+abbrev Leading : Fixed → MaskRow → Bool → MaskRow → Type 0
+Leading fixed row more next =
+    (before later : List MaskRow) → all_rows fixed ≡ before ++ (row ∷ later) → Leads (place_of later) more next
 
-steps_lead : (es ns : List ℕ) (fixed : Fixed) (row : MaskRow) (more : Bool) (next : MaskRow) → StepsFrom es ns fixed.firsts row more next
-    → Leading es ns fixed row more next
+steps_lead : (fixed : Fixed) (row : MaskRow) (more : Bool) (next : MaskRow) → StepsOn fixed row more next → Leading fixed row more next
 unfolding StepsFrom Steps rows_of
-steps_lead es ns fixed row more next h before later e = h before later e
+steps_lead fixed row more next h before later e = h before later e
 
 -- Places
 at_place : (v : code.Place) (row : List NodeSet) → AtRow row v → mask_place v ≡ at (masks_in row)
@@ -67,30 +67,37 @@ later_place v later s = go v.past refl
     go false q =
         ap (λ (b : Bool). choose b past (at (masks_in v.sets))) q ∙ sym (s.goes (ap not q))
 
-module _ (ps es ns fs : List ℕ) (fixed : Fixed) (row : MaskRow) where
+module _ (fixed : Fixed) (row : MaskRow) where
   abbrev Solves : MaskRow → Type 0
-  Solves r = Judged ps es ns fs fixed r
+  Solves r = Judged fixed r
 
-  no_solution_lem : judged ps es ns fs fixed row ≡ false → Solves row → ⊥
+  -- What the test of the row answers
+  pub judged_here : (r : std.Option Sources) → Answers (judged_in fixed.tables row) r
+      → judged fixed row ≡ answered.is_some r
+  judged_here r a = sym (answers_some (judged_in fixed.tables row) r a)
+
+  no_solution_lem : judged fixed row ≡ false → Solves row → ⊥
   no_solution_lem s q = true≢false (sym q ∙ s)
 
   -- A Found
-  pub seeks_found : (n : ℕ) (r : Searched) → 0 < n → judged ps es ns fs fixed row ≡ true → Passed es ns fixed row r
-      → Seeks ps es ns fs fixed row n r
-  seeks_found n r l s p = record {
+  pub seeks_found : (n : ℕ) (here : List NodeSet) (r : Searched) → 0 < n → masks_in here ≡ row → judged fixed row ≡ true
+      → Passed fixed here r → Seeks fixed row n r
+  seeks_found n here r l q s p = record {
     keeps = λ before later e.
-        let leads = steps_lead es ns fixed row _ _ p.after before later e in
-        let reply : mask_reply r.answer (masks_in r.row) r.place ≡ found row (place_of later) =
-        rw (p.answer, p.here, later_place r.place later leads) in
+        let after : StepsOn fixed row (not r.place.past) (masks_in r.place.sets) =
+        subst (λ (x : MaskRow). StepsOn fixed x (not r.place.past) (masks_in r.place.sets)) q p.after in
+        let leads = steps_lead fixed row _ _ after before later e in
+        let reply : mask_reply r.answer r.place ≡ found row (place_of later) =
+        rw (p.answer, q, later_place r.place later leads) in
         subst (Keeps Solves n (row ∷ later)) (sym reply) (finds [] row later tt s l);
     clean = p.clean;
   }
 
   -- A pause, where no allowance is left
-  pub seeks_paused : (n : ℕ) (here : List NodeSet) (r : Searched) → n ≡ 0 → masks_in here ≡ row → Paused here r → Seeks ps es ns fs fixed row n r
+  pub seeks_paused : (n : ℕ) (here : List NodeSet) (r : Searched) → n ≡ 0 → masks_in here ≡ row → Paused here r → Seeks fixed row n r
   seeks_paused n here r z q d = record {
     keeps = λ before later e.
-        let reply : mask_reply r.answer (masks_in r.row) r.place ≡ paused (at row) =
+        let reply : mask_reply r.answer r.place ≡ paused (at row) =
         rw (d.answer, at_place r.place here d.place, q) in
         subst (Keeps Solves n (row ∷ later)) (sym reply) (pauses [] row later tt (omega arith));
     clean = λ q. absurd (true≢false (sym q ∙ d.place.here));
@@ -101,31 +108,31 @@ module _ (ps es ns fs : List ℕ) (fixed : Fixed) (row : MaskRow) where
   begins_with next (x ∷ xs) e = (xs, let z : x ≡ next = cc in ap {B = List MaskRow} (λ y. y ∷ xs) z)
 
   -- No solution row, and a step from it
-  module _ (s : judged ps es ns fs fixed row ≡ false) (more : Bool) (next : MaskRow) (steps : StepsFrom es ns fixed.firsts row more next) where
-    leads : Leading es ns fixed row more next
-    leads = steps_lead es ns fixed row more next steps
+  module _ (s : judged fixed row ≡ false) (more : Bool) (next : MaskRow) (steps : StepsOn fixed row more next) where
+    leads : Leading fixed row more next
+    leads = steps_lead fixed row more next steps
 
     -- An End: no row follows
     no_later : (later : List MaskRow) → Leads (place_of later) more next → more ≡ false → later ≡ []
     no_later [] h m = refl
     no_later (x ∷ xs) h m = never (let z = h.ends m in cc)
 
-    pub seeks_ended : (n : ℕ) (r : Searched) → 0 < n → more ≡ false → Ended r → Seeks ps es ns fs fixed row n r
+    pub seeks_ended : (n : ℕ) (r : Searched) → 0 < n → more ≡ false → Ended r → Seeks fixed row n r
     seeks_ended n r l m d = record {
       keeps = λ before later e.
           let none = no_later later (leads before later e) m in
-          let reply : mask_reply r.answer (masks_in r.row) r.place ≡ end past = rw (d.answer, past_place r.place d.place) in
+          let reply : mask_reply r.answer r.place ≡ end past = rw (d.answer, past_place r.place d.place) in
           subst (Keeps Solves n (row ∷ later)) (sym reply)
           (subst (λ (l : List MaskRow). Keeps Solves n (row ∷ l) (end past)) (sym none) (ends (row ∷ []) (no_solution_lem s, tt) (omega arith)));
       clean = λ q. d.place.masks;
     }
 
     -- One row is passed
-    pub seeks_on : (n m : ℕ) (r : Searched) → n ≡ suc m → more ≡ true → Seeks ps es ns fs fixed next m r → Seeks ps es ns fs fixed row n r
+    pub seeks_on : (n m : ℕ) (r : Searched) → n ≡ suc m → more ≡ true → Seeks fixed next m r → Seeks fixed row n r
     seeks_on n m r z g k = record {
       keeps = λ before later e.
           let (rest, q) = begins_with next later ((leads before later e).goes g) in
-          let on : all_rows es ns fixed ≡ (before ++ (row ∷ [])) ++ (next ∷ rest) =
+          let on : all_rows fixed ≡ (before ++ (row ∷ [])) ++ (next ∷ rest) =
           e ∙ ap (λ (l : List MaskRow). before ++ (row ∷ l)) q ∙ sym (append_assoc before (row ∷ []) (next ∷ rest)) in
           let kept = one_before Solves row (no_solution_lem s) (k.keeps (before ++ (row ∷ [])) rest on) in
           rw (z, q) kept;
@@ -133,50 +140,34 @@ module _ (ps es ns fs : List ℕ) (fixed : Fixed) (row : MaskRow) where
     }
 
     -- ... and the next is again one of the tables
-    next_member : more ≡ true → row ∈ all_rows es ns fixed → next ∈ all_rows es ns fixed
+    pub next_member : more ≡ true → row ∈ all_rows fixed → next ∈ all_rows fixed
     next_member g m =
-        let (before, later, e) = mem_split row (all_rows es ns fixed) m in
+        let (before, later, e) = mem_split row (all_rows fixed) m in
         let (rest, q) = begins_with next later ((leads before later e).goes g) in
         subst (λ (l : List MaskRow). next ∈ l) (sym (e ∙ ap (λ (l : List MaskRow). before ++ (row ∷ l)) q))
         (Memᴰ.append_right before (Memᴰ.tail (Memᴰ.head refl)))
 
-    pub seekable_next : (scratch scratch' : List ℕ) → Seekable ps es ns fs fixed row scratch → more ≡ true → length scratch' ≡ length scratch
-        → Seekable ps es ns fs fixed next scratch'
-    seekable_next scratch scratch' h g l =
-        let ground = h.grounded in
-        let room = ground.room in
-        record {
-          grounded = record {
-            problem = ground.problem;
-            laid = ground.laid;
-            faced = ground.faced;
-            listed = ground.listed;
-            first = ground.first;
-            room = omega arith;
-          };
-          is_row = next_member g h.is_row;
-        }
-
 -- The answers of `found_at`, by where the step from the row leads
-module _ (es ns : List ℕ) (fixed : Fixed) (row : MaskRow) (more : Bool) (next : List NodeSet)
-    (steps : StepsFrom es ns fixed.firsts row more (masks_in next)) (r : Searched) (answer : r.answer ≡ answers.Found)
-    (here : masks_in r.row ≡ row) where
-  pub passed_more : more ≡ true → AtRow next r.place → Passed es ns fixed row r
-  passed_more m place = record {
+module _ (fixed : Fixed) (row : List NodeSet) (r : Searched) (answer : r.answer ≡ answers.Found row) where
+  abbrev StepsThere : std.Option (List NodeSet) → Type 0
+  StepsThere x = StepsTo (tokens_in fixed.functions) (numbers_in fixed.functions) fixed.functions.firsts (masks_in row) x
+
+  pub passed_more : (next : List NodeSet) → StepsThere (Some next) → AtRow next r.place
+      → Passed fixed row r
+  passed_more next steps place = record {
     answer = answer;
-    here = here;
-    after = subst₂ (StepsFrom es ns fixed.firsts row) (m ∙ sym (ap not place.here)) (sym (ap masks_in place.sets)) steps;
+    after = subst₂ (StepsOn fixed (masks_in row)) (sym (ap not place.here)) (sym (ap masks_in place.sets)) steps;
     clean = λ q. absurd (true≢false (sym q ∙ place.here));
   }
 
-  pub passed_last : more ≡ false → AtPast r.place → Passed es ns fixed row r
-  unfolding StepsFrom Steps
-  passed_last m place = record {
+  pub passed_last : StepsThere None → AtPast r.place → Passed fixed row r
+  passed_last steps place = record {
     answer = answer;
-    here = here;
-    after = λ before later e. record {
-      goes = λ q. absurd (true≢false (sym q ∙ ap not place.past));
-      ends = λ q. (steps before later e).ends m;
-    };
+    after = subst (λ (b : Bool). StepsOn fixed (masks_in row) b (masks_in r.place.sets)) (sym (ap not place.past))
+        (steps (masks_in r.place.sets));
     clean = λ q. place.masks;
   }
+
+-- ---- what each function cites
+
+pub ruleset passing = (passed_more, passed_last)

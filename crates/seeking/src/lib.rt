@@ -1,60 +1,32 @@
 // Judging rows one after the other, from a row of a prepared problem on. What happens here once a row is small and allocates nothing.
 #![tactic(auto)]
 
-ghost use Rattle.std.specs.Prelude.{◌<◌};
-ghost use Rattle.masks.specs.Sets.{masks_in};
-ghost use Rattle.seeking.specs.Seeking.{Steppable, Passed, Ended, Paused, Seekable, Seeks};
+mod fixed;
 
-use faces::first::Firsts;
+ghost use Rattle.meaning.specs.Basics.{◌∈◌};
+ghost use Rattle.masks.specs.Sets.{masks_in};
+ghost use Rattle.rows.specs.Functions.{rows_in};
+ghost use Rattle.fit.specs.Tables.{Room};
+ghost use Rattle.seeking.specs.Seeking.{Grounded, Passed, Ended, Paused, Seeks};
+
 use fit::judge;
+pub use fixed::Fixed;
 use masks::NodeSet;
 use places::Place;
-use rows::{begin_again, last_function, next_of, next_row, stepping};
-
-// What stays the same from row to row: the set of functions, the nodes of their faces, and the first row, which `begin_again` is lent.
-#[derive(Clone, Copy)]
-pub struct Fixed {
-    pub first: [NodeSet; Place::MAX_FUNCTIONS],
-    pub firsts: Firsts,
-    pub functions: u32,
-}
 
 #[derive(Clone, Copy)]
 pub enum Answer {
-    // "15 n is 0; 16 no such place", and 1 to 14, 25
-    Refused(u8),
-    Found,
+    // The row that was found.
+    Found([NodeSet; Place::MAX_FUNCTIONS]),
     End,
     Paused,
 }
 
-// The answer, with the place that the call leaves, and the row of a Found beside it; no other answer's row means anything.
+// The answer, with the place that the call leaves.
 #[derive(Clone, Copy)]
 pub struct Searched {
-    pub row: [NodeSet; Place::MAX_FUNCTIONS],
-    pub place: Place,
     pub answer: Answer,
-}
-
-// A Found at the row, and the place after it.
-fn found_at(es: &[u64], ns: &[u64], fixed: Fixed, row: [NodeSet; Place::MAX_FUNCTIONS]) -> Searched
-    requires { Steppable es.now ns.now fixed (masks_in row) }
-    ensures { Passed es.now ns.now fixed (masks_in row) result }
-{
-    let firsts = fixed.firsts;
-    let first = fixed.first;
-    let stepped = next_row(es, ns, firsts, first, row);
-    let next = stepped.row;
-    let place = if stepped.more {
-        Place::at(next)
-    } else {
-        Place::past_last()
-    };
-    Searched {
-        answer: Answer::Found,
-        place: place,
-        row: row,
-    }
+    pub place: Place,
 }
 
 pub fn ended() -> Searched
@@ -63,7 +35,6 @@ pub fn ended() -> Searched
     Searched {
         answer: Answer::End,
         place: Place::past_last(),
-        row: [NodeSet::none(); Place::MAX_FUNCTIONS],
     }
 }
 
@@ -73,47 +44,55 @@ fn pause_at(row: [NodeSet; Place::MAX_FUNCTIONS]) -> Searched
     Searched {
         answer: Answer::Paused,
         place: Place::at(row),
-        row: [NodeSet::none(); Place::MAX_FUNCTIONS],
     }
 }
 
-// Rows from `row` on, at most n: the first solution row, or that none is left, or a pause at the row after n of them.
-pub fn seek(
-    ps: &[u64],
-    es: &[u64],
-    ns: &[u64],
-    fs: &[u64],
-    fixed: Fixed,
-    row: [NodeSet; Place::MAX_FUNCTIONS],
-    n: u32,
-    scratch: &mut [u64],
-) -> Searched
-    requires { Seekable ps.now es.now ns.now fs.now fixed (masks_in row) scratch.old }
-    ensures { Seeks ps.now es.now ns.now fs.now fixed (masks_in row) n result }
-{
-    let firsts = fixed.firsts;
-    let first = fixed.first;
-    let last = last_function(firsts);
-    let mut at = row;
-    let mut left = n;
-    while 0 < left {
-        let judged = judge(ps, es, ns, fs, fixed.functions, firsts, at, scratch);
-        if judged.solves {
-            return found_at(es, ns, fixed, at);
+impl Fixed<'_> {
+    // A Found at the row, and the place after it.
+    #[tactic(auto, using(crate::proofs::SeekLaws::passing))]
+    fn found_at(&self, row: [NodeSet; Place::MAX_FUNCTIONS]) -> Searched
+        requires { masks_in row ∈ rows_in self.now.functions }
+        ensures { Passed self.now row result }
+    {
+        let place = match self.functions.next_row(self.first, row) {
+            Some(next) => Place::at(next),
+            None => Place::past_last(),
+        };
+        Searched {
+            answer: Answer::Found(row),
+            place,
         }
-        let mut k = firsts.count;
-        // Most steps are the last function's: then no row is handed over, which would copy it.
-        if at[last].is_empty() {
-            k = stepping(firsts, at);
-            if k == 0 {
-                return ended();
-            }
-            let begun = begin_again(firsts, first, k, at);
-            at = begun;
-        }
-        let set = at[k - 1];
-        at[k - 1] = next_of(es, ns, firsts, k - 1, set);
-        left -= 1;
     }
-    pause_at(at)
+
+    // Rows from `row` on, at most n: the first solution row, or that none is left, or a pause at the row after n of them.
+    pub fn seek(
+        &self,
+        row: [NodeSet; Place::MAX_FUNCTIONS],
+        n: u32,
+        scratch: &mut [u64],
+    ) -> Searched
+        requires grounded { Grounded self.now }
+        requires is_row { masks_in row ∈ rows_in self.now.functions }
+        requires room { Room self.now.tables scratch.old }
+        ensures { Seeks self.now (masks_in row) n result }
+    {
+        let last = self.functions.last();
+        let mut at = row;
+        for _ in 0..n {
+            if judge(&self.tables, at, scratch).is_some() {
+                return self.found_at(at);
+            }
+            let mut k = self.functions.firsts.count;
+            // Most steps are the last function's: then no row is handed over, which would copy it.
+            if at[last].is_empty() {
+                k = self.functions.stepping(at);
+                if k == 0 {
+                    return ended();
+                }
+                at = self.functions.begin_again(self.first, k, at);
+            }
+            at[k - 1] = self.functions.next_of(k - 1, at[k - 1]);
+        }
+        pause_at(at)
+    }
 }

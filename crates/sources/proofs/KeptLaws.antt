@@ -1,6 +1,6 @@
 -- What the code of demands owes: the law of each return and of each turn of the loop.
 use mathlib.Core.Path.{◌≡◌, refl, ap, sym, ◌∙◌, subst}
-use mathlib.Core.Bool.{Bool, true, false, not, not-not}
+use mathlib.Core.Bool.{Bool, true, false}
 use mathlib.Core.List.{List, [], ◌∷◌, ◌++◌}
 use mathlib.Core.Option.{Option, none, some}
 use Prim.Native.Nat.{ℕ, suc, ◌+◌, ◌<◌, ◌≤◌}
@@ -9,62 +9,48 @@ use lib.ListN.{length, drop, set, length-set, drop_of_length-le}
 use lib.Seq.{drop-cons, get_or-set_same, get_or-set_other}
 use lib.Dec.{eqb}
 use borrow.Author.Tests.{eq-eqb, ne_eqb, eqb-false}
-use Rattle.meaning.specs.Basics.{choose, All, and_then, guard, is_some}
-use Rattle.meaning.proofs.Lists.{never, eqb_eq, by_test, choose_true, choose_false}
+use Rattle.meaning.specs.Basics.{All, and_then, guard}
+use Rattle.meaning.proofs.Lists.{never, eqb_eq, by_test}
 use Rattle.tokens.specs.Token.{tag_in, payload_in}
 use Rattle.tokens.specs.Key.{at}
-use Rattle.numbers.specs.Tests.{Tests, closed_by, told}
+use Rattle.numbers.specs.Tests.{Tests, told}
 use Rattle.lockstep.specs.Walk.{pattern_node, expression_node}
-use Rattle.sources.specs.Demand.{Demand, open_node, demand_at, demands_in, agrees_at, kept_with, kept_after}
-use Rattle.sources.specs.Kept.{Kept, Askable, Demandable, Answers}
-use Rattle.sources.specs.declared.Agreed.{Agreed}
+use Rattle.std.specs.Prelude.{Some, None}
+use Rattle.std.specs.Prelude as std
+use Rattle.std.specs.Bool.{then_some}
+use Rattle.std.proofs.lemmas.Option.{same_Some}
+use Rattle.sources.specs.Demand.{Demand, Nodes, first_of, demand_at, demands_in, agrees_after, agrees_at, kept_beside, kept_with, kept_after}
+use Rattle.sources.specs.Kept.{Kept, Askable, Demandable, sources_of, Answers}
+use Rattle.sources.specs.declared.Sources.{Sources}
 
--- An answer that is a test and, where it holds, a list
-answers_guard : (b : Bool) (kept : List ℕ) → Answers (guard b (some kept)) (record { ok = b; sources = record { nodes = kept } })
-answers_guard true kept = record { ok = refl; nodes = λ ns e. cc }
-answers_guard false kept = record { ok = refl; nodes = λ ns e. never (cc) }
+-- An answer that is a test and, where it holds, what is kept
+answers_guard : (b : Bool) (kept : Nodes) → then_some b (record { nodes = kept }) ≡ sources_of (guard b (some kept))
+answers_guard true kept = refl
+answers_guard false kept = refl
 
 -- One demand
-module _ (q : Tests) (kept : List ℕ) (d : Demand) where
-  -- the first of its metavariable
-  module _ (h : at kept d.0 ≡ open_node) where
-    first_agrees : agrees_at q kept d ≡ closed_by q d.1
-    unfolding agrees_at
-    first_agrees = choose_true _ _ (eq-eqb (at kept d.0) open_node h)
+module _ (q : Tests) (kept : Nodes) (d : Demand) (o : std.Option ℕ) (here : first_of kept d.0 ≡ o) where
+  demand_agrees : agrees_at q kept d ≡ agrees_after q o d.1
+  unfolding agrees_at
+  demand_agrees = ap (λ (x : std.Option ℕ). agrees_after q x d.1) here
 
-    first_kept : kept_with kept d ≡ set kept d.0 d.1
-    unfolding kept_with
-    first_kept = choose_true _ _ (eq-eqb (at kept d.0) open_node h)
+  demand_kept : kept_with kept d ≡ kept_beside o kept d
+  unfolding kept_with
+  demand_kept = ap (λ (x : std.Option ℕ). kept_beside x kept d) here
 
-    pub answers_first : (b : Bool) → b ≡ closed_by q d.1
-        → Answers (kept_after q kept (d ∷ [])) (record { ok = b; sources = record { nodes = set kept d.0 d.1 } })
-    unfolding kept_after
-    answers_first b e =
-        rw (first_agrees, ← e, first_kept) (answers_guard b (set kept d.0 d.1))
+  pub answers_demand : (b : Bool) → b ≡ agrees_after q o d.1 → (r : std.Option Sources)
+      → r ≡ then_some b (record { nodes = kept_beside o kept d }) → Answers (kept_after q kept (d ∷ [])) r
+  unfolding kept_after
+  answers_demand b e r is = rw (demand_agrees, ← e, demand_kept) (is ∙ answers_guard b (kept_beside o kept d))
 
-  -- a later one
-  module _ (h : at kept d.0 ≡ open_node → ⊥) where
-    later_agrees : agrees_at q kept d ≡ q.same (at kept d.0) d.1
-    unfolding agrees_at
-    later_agrees = choose_false _ _ (ne_eqb (at kept d.0) open_node h)
-
-    later_kept : kept_with kept d ≡ kept
-    unfolding kept_with
-    later_kept = choose_false _ _ (ne_eqb (at kept d.0) open_node h)
-
-    pub answers_later : (b : Bool) → b ≡ q.same (at kept d.0) d.1
-        → Answers (kept_after q kept (d ∷ [])) (record { ok = b; sources = record { nodes = kept } })
-    unfolding kept_after
-    answers_later b e = rw (later_agrees, ← e, later_kept) (answers_guard b kept)
-
-answers_none : (q : Tests) (kept : List ℕ) → Answers (kept_after q kept []) (record { ok = true; sources = record { nodes = kept } })
+answers_none : (q : Tests) (kept : Nodes) → Answers (kept_after q kept []) (Some (record { nodes = kept }))
 unfolding kept_after
-answers_none q kept = record { ok = refl; nodes = λ ns e. cc }
+answers_none q kept = refl
 
 -- The demand of a recorded face, by the parts of its slot's token
-module _ (ps ns kept : List ℕ) (n tag : ℕ) (is : tag ≡ tag_in (at ps (pattern_node n))) where
+module _ (ps ns : List ℕ) (kept : Nodes) (n tag : ℕ) (is : tag ≡ tag_in (at ps (pattern_node n))) where
   pub face_none : (tag ≡ 5 → ⊥)
-      → Answers (kept_after (told ns) kept (demand_at ps n)) (record { ok = true; sources = record { nodes = kept } })
+      → Answers (kept_after (told ns) kept (demand_at ps n)) (Some (record { nodes = kept }))
   unfolding demand_at
   face_none h = rw (← is, ne_eqb tag 5 h) (answers_none (told ns) kept)
 
@@ -76,12 +62,12 @@ module _ (ps ns kept : List ℕ) (n tag : ℕ) (is : tag ≡ tag_in (at ps (patt
     pub face_asks : Demandable ps ns n → Askable ns (m, expression_node n)
     face_asks r = (subst (All (Askable ns)) face_demand r.asks).0
 
-    pub face_one : (r : Agreed) → Answers (kept_after (told ns) kept ((m, expression_node n) ∷ [])) r
+    pub face_one : (r : std.Option Sources) → Answers (kept_after (told ns) kept ((m, expression_node n) ∷ [])) r
         → Answers (kept_after (told ns) kept (demand_at ps n)) r
     face_one r a = subst (λ (ds : List Demand). Answers (kept_after (told ns) kept ds) r) (sym face_demand) a
 
 -- Demands after others
-pub kept_append : (q : Tests) (kept : List ℕ) (ds ds' : List Demand)
+pub kept_append : (q : Tests) (kept : Nodes) (ds ds' : List Demand)
     → kept_after q kept (ds ++ ds') ≡ and_then (kept_after q kept ds) (λ ns. kept_after q ns ds')
 unfolding kept_after
 kept_append q kept [] ds' = refl
@@ -94,33 +80,35 @@ kept_append q kept (d ∷ ds) ds' = go (agrees_at q kept d) (kept_append q (kept
     go false e = refl
 
 -- The nodes kept stay nodes of the table
-module _ (ns kept : List ℕ) (d : Demand) (k : Kept ns kept) (a : Askable ns d) where
-  set_kept : Kept ns (set kept d.0 d.1)
+module _ (ns : List ℕ) (kept : Nodes) (d : Demand) (k : Kept ns kept) (a : Askable ns d) where
+  set_kept : Kept ns (set kept d.0 (Some d.1))
   set_kept =
       record {
-        long = length-set kept d.0 d.1 ∙ k.long;
-        inside = λ m h o.
+        long = length-set kept d.0 (Some d.1) ∙ k.long;
+        inside = λ m h node is.
             by_test (eqb m d.0)
-            (λ t. subst (λ (j : ℕ). j < length ns) (sym (same m (eqb_eq m d.0 t))) a.inside)
-            (λ t. let e = other m (eqb-false m d.0 t) in subst (λ (j : ℕ). j < length ns) (sym e) (k.inside m h (λ q. o (e ∙ q))));
+            (λ t. let e : Some d.1 ≡ Some node = sym (same m (eqb_eq m d.0 t)) ∙ is in
+            subst (λ (j : ℕ). j < length ns) (same_Some d.1 node e) a.inside)
+            (λ t. k.inside m h node (sym (other m (eqb-false m d.0 t)) ∙ is));
       }
     where
-      same : (m : ℕ) → m ≡ d.0 → at (set kept d.0 d.1) m ≡ d.1
+      same : (m : ℕ) → m ≡ d.0 → first_of (set kept d.0 (Some d.1)) m ≡ Some d.1
       same m e =
-          ap (at (set kept d.0 d.1)) e ∙ get_or-set_same kept d.0 d.1 0 (subst (λ (n : ℕ). d.0 < n) (sym k.long) a.number)
+          ap (first_of (set kept d.0 (Some d.1))) e
+          ∙ get_or-set_same kept d.0 (Some d.1) None (subst (λ (n : ℕ). d.0 < n) (sym k.long) a.number)
 
-      other : (m : ℕ) → (m ≡ d.0 → ⊥) → at (set kept d.0 d.1) m ≡ at kept m
-      other m e = get_or-set_other kept d.0 m d.1 0 e
+      other : (m : ℕ) → (m ≡ d.0 → ⊥) → first_of (set kept d.0 (Some d.1)) m ≡ first_of kept m
+      other m e = get_or-set_other kept d.0 m (Some d.1) None e
 
   kept_with_lem : Kept ns (kept_with kept d)
   unfolding kept_with
-  kept_with_lem = go (eqb (at kept d.0) open_node)
+  kept_with_lem = go (first_of kept d.0)
     where
-      go : (b : Bool) → Kept ns (choose b (set kept d.0 d.1) kept)
-      go true = set_kept
-      go false = k
+      go : (o : std.Option ℕ) → Kept ns (kept_beside o kept d)
+      go None = set_kept
+      go (Some first) = k
 
-pub kept_stays : (q : Tests) (ns kept : List ℕ) (ds : List Demand) (kept' : List ℕ) → Kept ns kept → All (Askable ns) ds
+pub kept_stays : (q : Tests) (ns : List ℕ) (kept : Nodes) (ds : List Demand) (kept' : Nodes) → Kept ns kept → All (Askable ns) ds
     → kept_after q kept ds ≡ some kept' → Kept ns kept'
 unfolding kept_after
 kept_stays q ns kept [] kept' k a e = subst (Kept ns) (let i : kept ≡ kept' = cc in i) k
@@ -133,28 +121,28 @@ kept_stays q ns kept (d ∷ ds) kept' k a e =
     go false f x = never (cc)
 
 -- What an answer says
-module _ (o : Option (List ℕ)) (r : Agreed) (a : Answers o r) where
-  pub answer_some : r.ok ≡ true → o ≡ some r.sources.nodes
-  answer_some e = go o refl (sym a.ok ∙ e)
+module _ (o : Option Nodes) (r : std.Option Sources) (a : Answers o r) where
+  pub answer_some : (t : Sources) → r ≡ Some t → o ≡ some t.nodes
+  answer_some t e = go o refl (sym e ∙ a)
     where
-      go : (w : Option (List ℕ)) → o ≡ w → is_some w ≡ true → o ≡ some r.sources.nodes
-      go none q t = never (cc)
-      go (some ns) q t = q ∙ ap some (sym (a.nodes ns q))
+      go : (w : Option Nodes) → o ≡ w → Some t ≡ sources_of w → o ≡ some t.nodes
+      go none q i = never (cc)
+      go (some kept) q i = q ∙ ap (λ (u : Sources). some u.nodes) (sym (same_Some t (record { nodes = kept }) i))
 
-  pub answer_none : r.ok ≡ false → o ≡ none
-  answer_none e = go o refl (sym a.ok ∙ e)
+  pub answer_none : r ≡ None → o ≡ none
+  answer_none e = go o refl (sym e ∙ a)
     where
-      go : (w : Option (List ℕ)) → o ≡ w → is_some w ≡ false → o ≡ none
-      go none q t = q
-      go (some ns) q t = never (cc)
+      go : (w : Option Nodes) → o ≡ w → None ≡ sources_of w → o ≡ none
+      go none q i = q
+      go (some kept) q i = never (cc)
 
 -- The demands of the recorded faces from k on: what is kept so far leads where the demands from the start lead
-pub record Going (ps ns faces : List ℕ) (end : Option (List ℕ)) (k : ℕ) (kept : List ℕ) : Type 0 where
+pub record Going (ps ns faces : List ℕ) (end : Option Nodes) (k : ℕ) (kept : Nodes) : Type 0 where
   pub nodes : Kept ns kept
   pub reads : All (Demandable ps ns) (drop k faces)
   pub leads : kept_after (told ns) kept (demands_in ps (drop k faces)) ≡ end
 
-module _ (ps ns faces : List ℕ) (end : Option (List ℕ)) (k : ℕ) (kept : List ℕ) (g : Going ps ns faces end k kept) where
+module _ (ps ns faces : List ℕ) (end : Option Nodes) (k : ℕ) (kept : Nodes) (g : Going ps ns faces end k kept) where
   module _ (h : k < length faces) where
     rest : drop k faces ≡ at faces k ∷ drop (suc k) faces
     rest = drop-cons faces k 0 h
@@ -162,38 +150,42 @@ module _ (ps ns faces : List ℕ) (end : Option (List ℕ)) (k : ℕ) (kept : Li
     both : All (Demandable ps ns) (at faces k ∷ drop (suc k) faces)
     both = subst (All (Demandable ps ns)) rest g.reads
 
-    pub going_reads : Demandable ps ns (at faces k)
-    going_reads = both.0
-
     goes : and_then (kept_after (told ns) kept (demand_at ps (at faces k))) (λ ms. kept_after (told ns) ms (demands_in ps (drop (suc k) faces)))
         ≡ end
     goes =
         sym (kept_append (told ns) kept (demand_at ps (at faces k)) (demands_in ps (drop (suc k) faces)))
-        ∙ sym (ap (λ (ms : List ℕ). kept_after (told ns) kept (demands_in ps ms)) rest) ∙ g.leads
+        ∙ sym (ap (λ (fs : List ℕ). kept_after (told ns) kept (demands_in ps fs)) rest) ∙ g.leads
 
-    module _ (r : Agreed) (a : Answers (kept_after (told ns) kept (demand_at ps (at faces k))) r) where
-      pub going_on : not r.ok ≡ false → Going ps ns faces end (k + 1) r.sources.nodes
-      going_on e =
-          let q = answer_some (kept_after (told ns) kept (demand_at ps (at faces k))) r a (sym (not-not r.ok) ∙ ap not e) in
+    module _ (r : std.Option Sources) (a : Answers (kept_after (told ns) kept (demand_at ps (at faces k))) r) where
+      after : Option Nodes → Option Nodes
+      after o = and_then o (λ ms. kept_after (told ns) ms (demands_in ps (drop (suc k) faces)))
+
+      pub going_on : (next : Sources) → r ≡ Some next → Going ps ns faces end (k + 1) next.nodes
+      unfolding after
+      going_on next e =
+          let q = answer_some (kept_after (told ns) kept (demand_at ps (at faces k))) r a next e in
           let z : k + 1 ≡ suc k = omega arith in
           rw z
           (record {
-            nodes = kept_stays (told ns) ns kept (demand_at ps (at faces k)) r.sources.nodes g.nodes both.0.asks q;
+            nodes = kept_stays (told ns) ns kept (demand_at ps (at faces k)) next.nodes g.nodes both.0.asks q;
             reads = both.1;
-            leads =
-                sym (ap (λ (o : Option (List ℕ)). and_then o (λ ms. kept_after (told ns) ms (demands_in ps (drop (suc k) faces)))) q) ∙ goes;
+            leads = sym (ap after q) ∙ goes;
           })
 
-      pub going_fails : not r.ok ≡ true → Answers end r
-      going_fails t =
-          let e : r.ok ≡ false = sym (not-not r.ok) ∙ ap not t in
+      pub going_fails : r ≡ None → Answers end None
+      unfolding after
+      going_fails e =
           let q = answer_none (kept_after (told ns) kept (demand_at ps (at faces k))) r a e in
-          let w : none ≡ end =
-          sym (ap (λ (o : Option (List ℕ)). and_then o (λ ms. kept_after (told ns) ms (demands_in ps (drop (suc k) faces)))) q) ∙ goes in
-          subst (λ (o : Option (List ℕ)). Answers o r) w (record { ok = e; nodes = λ ms f. never (cc) })
+          let w : none ≡ end = sym (ap after q) ∙ goes in
+          ap sources_of w
 
-  pub going_ends : length faces ≤ k → Answers end (record { ok = true; sources = record { nodes = kept } })
+  pub going_ends : length faces ≤ k → Answers end (Some (record { nodes = kept }))
   going_ends h =
-      subst (λ (o : Option (List ℕ)). Answers o (record { ok = true; sources = record { nodes = kept } }))
-      (sym (ap (λ (ms : List ℕ). kept_after (told ns) kept (demands_in ps ms)) (drop_of_length-le faces h)) ∙ g.leads)
+      subst (λ (o : Option Nodes). Answers o (Some (record { nodes = kept })))
+      (sym (ap (λ (fs : List ℕ). kept_after (told ns) kept (demands_in ps fs)) (drop_of_length-le faces h)) ∙ g.leads)
       (answers_none (told ns) kept)
+
+-- What `demanded_at` and `all_demanded` cite
+pub ruleset facing = (face_none, face_asks, face_one)
+
+pub ruleset going = (going_fails, going_ends)

@@ -10,12 +10,12 @@ use mathlib.Core.Logic.{◌↔◌, ◌⊎◌, inl, inr}
 use mathlib.Core.Bool.{Bool, true, false, ◌&&◌, not, not-not}
 use mathlib.Core.List.{List, [], ◌∷◌, ◌++◌, append_assoc, append-nil}
 use mathlib.Core.Option.{Option, none, some}
-use Prim.Native.Nat.{ℕ, ◌<◌, ◌≤◌}
+use Prim.Native.Nat.{ℕ, ◌<◌}
 use native.Mathlib.Omega.{arith}
 use lib.ListN.{length, set, length-set}
 use lib.Seq.{get_or-set_same, get_or-set_other}
 use lib.Dec.{eqb, T}
-use borrow.Author.Tests.{eq-eqb, ne_eqb, eqb-false}
+use borrow.Author.Tests.{eqb-false}
 use Rattle.meaning.specs.Limits.{metavariable_count}
 use Rattle.meaning.specs.Basics.{guard, is_some, or_else}
 use Rattle.meaning.specs.Term.{one, Term}
@@ -25,7 +25,7 @@ use Rattle.meaning.specs.Lower.{lower}
 use Rattle.meaning.specs.ClosedTest.{is_closed}
 use Rattle.meaning.specs.Same.{same_terms}
 use Rattle.meaning.specs.Value.{Source, lookup}
-use Rattle.meaning.proofs.Lists.{never, T_true, true_T, eqb_eq, by_test, choose_true, choose_false}
+use Rattle.meaning.proofs.Lists.{never, T_true, true_T, eqb_eq, by_test, choose_false}
 use Rattle.meaning.proofs.ShiftLaws.{lower_shift, shift_closed, test_closed, closed_test}
 use Rattle.meaning.proofs.Nodes.{closed_more}
 use Rattle.meaning.proofs.Renaming.{one_injective}
@@ -35,11 +35,13 @@ use Rattle.meaning.proofs.Candidate.{lookup_cases}
 use Rattle.demands.specs.Agreeing.{agrees_with, agree_after}
 use Rattle.demands.proofs.Agreement.{lookup_append, lookup_earlier, lookup_later, lookup_own, lookup_only}
 use Rattle.masks.proofs.Cases.{same_truth}
-use Rattle.tokens.specs.Key.{at, level_from, same_at, uses_at, closed_at}
+use Rattle.std.specs.Prelude.{Some, None}
+use Rattle.std.specs.Prelude as std
+use Rattle.tokens.specs.Key.{level_from, same_at, uses_at, closed_at}
 use Rattle.tokens.proofs.KeyLaws.{closed_means, same_means}
 use Rattle.numbers.specs.Tests.{Tests, closed_by, Tells}
 use Rattle.faces.proofs.NodeTokens.{AtNode, node_inside}
-use Rattle.sources.specs.Demand.{Demand, open_node, agrees_at, kept_with, kept_after}
+use Rattle.sources.specs.Demand.{Demand, Nodes, first_of, agrees_after, agrees_at, kept_beside, kept_with, kept_after}
 
 -- The tests on a table, of the terms at its nodes
 module _ (table : List ℕ) (a : ℕ) (t : Term) (n : AtNode table a t) where
@@ -116,13 +118,13 @@ module _ (es : List ℕ) (d : Demand) (s : Source) (w : Says es d s) where
       )
 
 -- The node of a source that may be missing
-abbrev pub node_of : Option Source → ℕ
-node_of none = open_node
-node_of (some s) = s.node
+abbrev pub node_of : Option Source → std.Option ℕ
+node_of none = None
+node_of (some s) = Some s.node
 
-pub record Firsts (es kept : List ℕ) (ks : List Source) : Type 0 where
+pub record Firsts (es : List ℕ) (kept : Nodes) (ks : List Source) : Type 0 where
   pub long : length kept ≡ metavariable_count
-  pub nodes : (m : ℕ) → m < metavariable_count → at kept m ≡ node_of (lookup m ks)
+  pub nodes : (m : ℕ) → m < metavariable_count → first_of kept m ≡ node_of (lookup m ks)
   pub said : (m : ℕ) (s : Source) → lookup m ks ≡ some s → Says es (m, s.node) s × ClosedTerm s.term
 
 -- What is asked of the nodes, as the table says it
@@ -137,34 +139,29 @@ module _ (es : List ℕ) (q : Tests) (tells : Tells es q) where
   told_same a b h g c = tells.same 0 a b h g (λ y l r. omega arith) (sym (not-not (uses_at es a 0)) ∙ ap not c)
 
 -- One demand more
-module _ (es : List ℕ) (few : length es ≤ 65536) (kept : List ℕ) (ks : List Source) (f : Firsts es kept ks) (d : Demand) (s : Source)
+module _ (es : List ℕ) (kept : Nodes) (ks : List Source) (f : Firsts es kept ks) (d : Demand) (s : Source)
     (w : Says es d s) where
-  here : at kept d.0 ≡ node_of (lookup s.number ks)
-  here = ap (at kept) w.number ∙ f.nodes s.number w.small
+  here : first_of kept d.0 ≡ node_of (lookup s.number ks)
+  here = ap (first_of kept) w.number ∙ f.nodes s.number w.small
 
-  open_here : lookup s.number ks ≡ none → eqb (at kept d.0) open_node ≡ true
-  open_here e = eq-eqb (at kept d.0) open_node (here ∙ ap node_of e)
+  open_here : lookup s.number ks ≡ none → first_of kept d.0 ≡ None
+  open_here e = here ∙ ap node_of e
 
-  -- A node that is kept is one of the table
-  kept_here : (k : Source) → lookup s.number ks ≡ some k → eqb (at kept d.0) open_node ≡ false
-  kept_here k e =
-      let small : k.node < length es = said_inside es (s.number, k.node) k (f.said s.number k e).0 in
-      let q : at kept d.0 ≡ k.node = here ∙ ap node_of e in
-      ne_eqb (at kept d.0) open_node (λ o. omega arith)
+  kept_here : (k : Source) → lookup s.number ks ≡ some k → first_of kept d.0 ≡ Some k.node
+  kept_here k e = here ∙ ap node_of e
 
   test_said : (q : Tests) → Tells es q → (o : Option Source) → lookup s.number ks ≡ o → agrees_at q kept d ≡ agrees_with o s
   unfolding agrees_at
   test_said q tells none e =
       let c = said_closed es d s w in
-      choose_true _ _ (open_here e)
+      ap (λ (o : std.Option ℕ). agrees_after q o d.1) (open_here e)
       ∙ told_closed es q tells d.1 (said_inside es d s w)
       ∙ same_truth (closed_at es d.1) (is_closed 0 (one s.term))
       (λ t. T_true (closed_test 0 (one s.term) (c.0 t))) (λ t. c.1 (test_closed 0 (one s.term) (true_T t)))
   test_said q tells (some k) e =
       let (v, c) = f.said s.number k e in
       let n = said_same es (s.number, k.node) k v d s w c in
-      choose_false _ _ (kept_here k e)
-      ∙ ap (λ (j : ℕ). q.same j d.1) (here ∙ ap node_of e)
+      ap (λ (o : std.Option ℕ). agrees_after q o d.1) (kept_here k e)
       ∙ told_same es q tells k.node d.1 (said_inside es (s.number, k.node) k v) (said_inside es d s w)
       ((said_closed es (s.number, k.node) k v).1 c)
       ∙ same_truth (same_at es k.node d.1) (same_terms (one k.term) (one s.term))
@@ -199,27 +196,27 @@ module _ (es : List ℕ) (few : length es ≤ 65536) (kept : List ℕ) (ks : Lis
   firsts_after : (o : Option Source) → lookup s.number ks ≡ o → agrees_with o s ≡ true → Firsts es (kept_with kept d) after
   unfolding kept_with
   firsts_after none e t =
-      subst (λ (l : List ℕ). Firsts es l after) (sym (choose_true _ _ (open_here e)))
+      subst (λ (o : std.Option ℕ). Firsts es (kept_beside o kept d) after) (sym (open_here e))
       (record {
-        long = length-set kept d.0 d.1 ∙ f.long;
+        long = length-set kept d.0 (Some d.1) ∙ f.long;
         nodes = λ m h. by_test (eqb m s.number) (λ q. own m h (eqb_eq m s.number q)) (other m h);
         said = λ m x q. said_after m x (λ z. test_closed 0 (one s.term) (true_T t)) q (lookup_cases m ks);
       })
     where
-      own : (m : ℕ) → m < metavariable_count → m ≡ s.number → at (set kept d.0 d.1) m ≡ node_of (lookup m after)
+      own : (m : ℕ) → m < metavariable_count → m ≡ s.number → first_of (set kept d.0 (Some d.1)) m ≡ node_of (lookup m after)
       own m h q =
-          ap (at (set kept d.0 d.1)) (q ∙ sym w.number)
-          ∙ get_or-set_same kept d.0 d.1 0
+          ap (first_of (set kept d.0 (Some d.1))) (q ∙ sym w.number)
+          ∙ get_or-set_same kept d.0 (Some d.1) None
           (subst (λ (n : ℕ). d.0 < n) (sym f.long) (subst (λ (n : ℕ). n < metavariable_count) (q ∙ sym w.number) h))
-          ∙ w.node
+          ∙ ap (λ (j : ℕ). Some j) w.node
           ∙ sym (ap node_of (ap (λ (n : ℕ). lookup n after) q ∙ lookup_later s.number ks (s ∷ []) e ∙ lookup_own s []))
 
-      other : (m : ℕ) → m < metavariable_count → eqb m s.number ≡ false → at (set kept d.0 d.1) m ≡ node_of (lookup m after)
+      other : (m : ℕ) → m < metavariable_count → eqb m s.number ≡ false → first_of (set kept d.0 (Some d.1)) m ≡ node_of (lookup m after)
       other m h q =
-          get_or-set_other kept d.0 m d.1 0 (λ z. eqb-false m s.number q (z ∙ w.number)) ∙ f.nodes m h ∙ sym
+          get_or-set_other kept d.0 m (Some d.1) None (λ z. eqb-false m s.number q (z ∙ w.number)) ∙ f.nodes m h ∙ sym
           (ap node_of (other_same m q))
   firsts_after (some k) e t =
-      subst (λ (l : List ℕ). Firsts es l after) (sym (choose_false _ _ (kept_here k e)))
+      subst (λ (o : std.Option ℕ). Firsts es (kept_beside o kept d) after) (sym (kept_here k e))
       (record {
         long = f.long;
         nodes = λ m h. f.nodes m h ∙ sym (ap node_of (by_test (eqb m s.number) (λ q. own m (eqb_eq m s.number q)) (other_same m)));
@@ -231,29 +228,29 @@ module _ (es : List ℕ) (few : length es ≤ 65536) (kept : List ℕ) (ks : Lis
           let l : lookup m ks ≡ some k = ap (λ (n : ℕ). lookup n ks) q ∙ e in
           lookup_earlier m ks (s ∷ []) k l ∙ sym l
 
-pub record Told (es : List ℕ) (o : Option (List ℕ)) (ks ss : List Source) : Type 0 where
+pub record Told (es : List ℕ) (o : Option Nodes) (ks ss : List Source) : Type 0 where
   pub test : is_some o ≡ agree_after ks ss
-  pub nodes : (kept : List ℕ) → o ≡ some kept → Firsts es kept (ks ++ ss)
+  pub nodes : (kept : Nodes) → o ≡ some kept → Firsts es kept (ks ++ ss)
 
 -- THE THEOREM: one demand after the other, from what those before have left
-pub kept_means : (es : List ℕ) → length es ≤ 65536 → (q : Tests) → Tells es q
-    → (kept : List ℕ) (ks : List Source) (ds : List Demand) (ss : List Source) → Firsts es kept ks
+pub kept_means : (es : List ℕ) (q : Tests) → Tells es q
+    → (kept : Nodes) (ks : List Source) (ds : List Demand) (ss : List Source) → Firsts es kept ks
     → AllSay es ds ss → Told es (kept_after q kept ds) ks ss
 unfolding kept_after
-kept_means es few q tells kept ks [] [] f w =
+kept_means es q tells kept ks [] [] f w =
     record {
       test =
           refl;
       nodes =
-          λ l e. subst (λ (x : List ℕ). Firsts es x (ks ++ [])) (let i : kept ≡ l = cc in i)
+          λ l e. subst (λ (x : Nodes). Firsts es x (ks ++ [])) (let i : kept ≡ l = cc in i)
           (subst (Firsts es kept) (sym (append-nil ks)) f);
     }
-kept_means es few q tells kept ks [] (s ∷ ss) f w = absurd w
-kept_means es few q tells kept ks (d ∷ ds) [] f w = absurd w
-kept_means es few q tells kept ks (d ∷ ds) (s ∷ ss) f w =
-    go (agrees_with (lookup s.number ks) s) refl (test_said es few kept ks f d s w.0 q tells (lookup s.number ks) refl)
-    (λ t. kept_means es few q tells (kept_with kept d) (ks ++ (s ∷ [])) ds ss
-    (firsts_after es few kept ks f d s w.0 (lookup s.number ks) refl t) w.1)
+kept_means es q tells kept ks [] (s ∷ ss) f w = absurd w
+kept_means es q tells kept ks (d ∷ ds) [] f w = absurd w
+kept_means es q tells kept ks (d ∷ ds) (s ∷ ss) f w =
+    go (agrees_with (lookup s.number ks) s) refl (test_said es kept ks f d s w.0 q tells (lookup s.number ks) refl)
+    (λ t. kept_means es q tells (kept_with kept d) (ks ++ (s ∷ [])) ds ss
+    (firsts_after es kept ks f d s w.0 (lookup s.number ks) refl t) w.1)
   where
     go : (b : Bool) → agrees_with (lookup s.number ks) s ≡ b → agrees_at q kept d ≡ agrees_with (lookup s.number ks) s
         → (agrees_with (lookup s.number ks) s ≡ true → Told es (kept_after q (kept_with kept d) ds) (ks ++ (s ∷ [])) ss)

@@ -1,8 +1,10 @@
 -- Demands on the metavariables, on the token tables.
 --   Demand      a metavariable, and a node of the expressions: the subexpression there is what it must stand for
---   kept        one node for each metavariable: that of its first demand, or `open_node` where there was none
+--   Nodes       for each metavariable the node of its first demand, or None where there was none: what is kept
+--   first_of    what is kept for a metavariable
 --   kept_after   one demand after the other; none where one disagrees. What is asked of the nodes are the tests q
-use Rattle.std.specs.Prelude.{ℕ, Bool, List, [], ◌∷◌, set, eqb}
+use Rattle.std.specs.Prelude.{ℕ, Bool, List, [], ◌∷◌, set, eqb, slice_index_or, Some, None}
+use Rattle.std.specs.Prelude as std
 use Rattle.std.proofs.Math.Option.{Option, some}
 use Rattle.meaning.specs.Basics.{choose, each, guard}
 use Rattle.tokens.specs.Token.{tag_in, payload_in}
@@ -13,9 +15,11 @@ use Rattle.lockstep.specs.Walk.{pattern_node, expression_node}
 abbrev pub Demand : Type 0
 Demand = ℕ × ℕ
 
--- No table has a node of that number
-abbrev pub open_node : ℕ
-open_node = 65536
+abbrev pub Nodes : Type 0
+Nodes = List (std.Option ℕ)
+
+abbrev pub first_of : Nodes → ℕ → std.Option ℕ
+first_of kept m = slice_index_or kept m None
 
 -- A recorded face makes a demand where it is that of a metavariable alone
 unfoldable pub demand_at : List ℕ → ℕ → List Demand
@@ -26,13 +30,21 @@ demands_in ps faces = each (demand_at ps) faces
 
 -- "Values and bodies have no variable bound outside themselves": the first demand of a metavariable must be closed; a later one must be
 -- the same as the first
-unfoldable pub agrees_at : Tests → List ℕ → Demand → Bool
-agrees_at q kept d = choose (eqb (at kept d.0) open_node) (closed_by q d.1) (q.same (at kept d.0) d.1)
+abbrev pub agrees_after : Tests → std.Option ℕ → ℕ → Bool
+agrees_after q None node = closed_by q node
+agrees_after q (Some first) node = q.same first node
+
+unfoldable pub agrees_at : Tests → Nodes → Demand → Bool
+agrees_at q kept d = agrees_after q (first_of kept d.0) d.1
 
 -- "A value comes from the metavariable's first occurrence": the first demand is kept
-unfoldable pub kept_with : List ℕ → Demand → List ℕ
-kept_with kept d = choose (eqb (at kept d.0) open_node) (set kept d.0 d.1) kept
+abbrev pub kept_beside : std.Option ℕ → Nodes → Demand → Nodes
+kept_beside None kept d = set kept d.0 (Some d.1)
+kept_beside (Some first) kept d = kept
 
-unfoldable pub kept_after : Tests → List ℕ → List Demand → Option (List ℕ)
+unfoldable pub kept_with : Nodes → Demand → Nodes
+kept_with kept d = kept_beside (first_of kept d.0) kept d
+
+unfoldable pub kept_after : Tests → Nodes → List Demand → Option Nodes
 kept_after q kept [] = some kept
 kept_after q kept (d ∷ ds) = guard (agrees_at q kept d) (kept_after q (kept_with kept d) ds)

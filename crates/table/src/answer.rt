@@ -1,8 +1,9 @@
-// What reading answers: document 01's refusal by its number, or counts of what stands in the tables.
+// What reading answers: counts of what stands in the tables.
 
 #[derive(Clone, Copy)]
-pub enum Read {
-    // The nodes of all patterns, the nodes of all expressions, and how many constraints.
-    Problem(usize, usize, usize),
-    Refused(u8),
+pub struct Read {
+    // The nodes of all patterns, and of all expressions.
+    pub patterns: usize,
+    pub expressions: usize,
+    pub constraints: usize,
 }

@@ -34,6 +34,11 @@ pub after_none : {A : Type 0} (f : A → A) → ((x : A) → f x ≡ x) → (a :
 after_none f e (refused r) = refl
 after_none f e (got x) = ap got (sym (e x))
 
+-- What is refused when it is read and then changed was refused when it was read
+pub still_refused : {A B : Type 0} (a : Answer A) (f : A → B) {r : ℕ} → refused r ≡ after a (λ x. got (f x)) → a ≡ refused r
+still_refused (refused q) f {r} e = let w : q ≡ r = cc in rw w
+still_refused (got x) f e = refused_got e
+
 pub record Within (s : Bytes) (x : NamedTerm × Bytes) : Type 0 where
   pub rest : x.1 ≡ drop (length s - length x.1) s
   pub room : 3 * size (one x.0) + length x.1 ≤ length s

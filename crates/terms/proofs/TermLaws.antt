@@ -1,6 +1,6 @@
 -- Terms and lists of inner fields: what the recursive functions leave at each return.
 --   next-..     what is due decides how a list of fields is read
---   Took        a term that was read, taken out of the code's answer
+--   Taken       a term that was read, taken out of the code's answer
 --   Reading     what the loop of `read_fields` keeps: the fields before `at` are read, their tokens the front of the table; with those
 --               that are left they are all
 --   reading-..  its steps, and the returns of `read_fields`; term-.. those of `read_term`
@@ -19,24 +19,26 @@ use Rattle.meaning.specs.Term.{Forest, nil, graft, one, trees, Named, NamedTerm}
 use Rattle.meaning.specs.Problem.{forest_of}
 use Rattle.meaning.specs.Scope.{enter}
 use Rattle.meaning.specs.Read.{Answer, refused, got, after, Context, Reader, context_below, read_exactly, read_all, read_term}
-use Rattle.tokens.specs.Token.{tokens}
+use Rattle.meaning.specs.Field.{tag_of}
+use Rattle.tokens.specs.Token.{token_of, payload_of, tokens}
 use Rattle.fields.specs.Heads.{label_of, fixed_of, due_of, read_fields, open_read, OpenFits, OpenDone}
 use Rattle.sites.specs.Site.{site_scope}
-use Rattle.terms.specs.Reading.{Space, Written, term_answer, TermDone, fields_answer, FieldsDone, next_of, node_token, Closed}
-use Rattle.terms.specs.declared.term.Term.{Term}
-use Rattle.terms.specs.declared.term.Term.TheVariants as terms
+use Rattle.terms.specs.Reading.{Space, Written, TermDone, fields_answer, FieldsDone, next_of}
 use Rattle.fields.specs.declared.node.Node.{Node}
 use Rattle.fields.specs.declared.node.Node.TheVariants as nodes
 use Rattle.fields.specs.declared.node.Due.{Due}
 use Rattle.fields.specs.declared.node.Due.TheVariants as dues
-use Rattle.fields.specs.declared.node.Opened.TheVariants as opens
 use Rattle.sites.specs.declared.site.Site.{Site}
+use Rattle.fields.specs.declared.node.Opened.{Opened}
+use Rattle.terms.specs.declared.term.Took.{Took}
 use Rattle.terms.specs.declared.term.Fields.{Fields}
-use Rattle.terms.specs.declared.term.Fields.TheVariants as fields
-use Rattle.terms.specs.declared.term.Next.TheVariants as nexts
-use Rattle.meaning.proofs.ByteLaws.{by_choice}
+use Rattle.refusal.specs.Number.{number}
+use Rattle.refusal.specs.declared.Refusal.{Refusal}
+use Rattle.refusal.specs.declared.Refusal.TheVariants.{InnerFields}
+use Rattle.std.proofs.Common.{Ok, Err, Some, None, set}
+use Rattle.meaning.proofs.ByteLaws.{by_choice, got_is, refused_not}
 use Rattle.tokens.proofs.TokenParts.{tokens_length}
-use Rattle.terms.proofs.Bounds.{Fine, after_none, after_twice}
+use Rattle.terms.proofs.Bounds.{Fine, after_none, after_twice, still_refused}
 use Rattle.terms.proofs.Rows.{Row, row_more, row_none, row_space, tokens_more}
 use Rattle.sites.proofs.SiteLaws.{names_length}
 use Rattle.slices.proofs.Slices.{rest_all, part_length, head_put}
@@ -59,31 +61,26 @@ fields_from : Due → Reader → NamedTerm × Bytes → Answer (Forest Named)
 fields_from due read x = after (read_fields due read x.1) (λ f. got (graft x.0 f))
 
 module _ (read : Reader) (fine : Fine read) (s : Bytes) where
-  next_done : (due : Due) → next_of due (length s) ≡ nexts.Done → read_fields due read s ≡ got nil
+  next_done : (due : Due) → next_of due (length s) ≡ Ok None → read_fields due read s ≡ got nil
   unfolding read_fields read_all read_exactly
   next_done dues.All h =
-      by_choice (eqb (length s) 0) nexts.Done (nexts.Field dues.All) h
-      (λ b e. rw (eqb-true (length s) 0 b))
-      (λ b e. absurd (let z : ◌≡◌ {A = ℕ} 0 1 = cc in omega arith))
+      by_choice (eqb (length s) 0) (Ok None) (Ok (Some dues.All)) h (λ b e. rw (eqb-true (length s) 0 b)) (λ b e. cc)
   next_done (dues.Exactly n) h =
-      by_choice (eqb n 0) (choose (eqb (length s) 0) nexts.Done (nexts.Refused 7)) (nexts.Field (dues.Exactly (n - 1))) h
-      (λ b e. by_choice (eqb (length s) 0) nexts.Done (nexts.Refused 7) e
+      by_choice (eqb n 0) (choose (eqb (length s) 0) (Ok None) (Err InnerFields)) (Ok (Some (dues.Exactly (n - 1)))) h
+      (λ b e. by_choice (eqb (length s) 0) (Ok None) (Err InnerFields) e
       (λ b2 e2. rw (eqb-true n 0 b, read_exactly, b2))
-      (λ b2 e2. absurd (let z : ◌≡◌ {A = ℕ} 0 1 = cc in omega arith)))
-      (λ b e. absurd (let z : ◌≡◌ {A = ℕ} 0 1 = cc in omega arith))
+      (λ b2 e2. cc))
+      (λ b e. cc)
 
-  next_refused : (due : Due) {r : ℕ} → next_of due (length s) ≡ nexts.Refused r → read_fields due read s ≡ refused r
+  next_refused : (due : Due) {r : Refusal} → next_of due (length s) ≡ Err r → read_fields due read s ≡ refused (number r)
   unfolding read_fields read_all read_exactly
-  next_refused dues.All h =
-      by_choice (eqb (length s) 0) nexts.Done (nexts.Field dues.All) h
-      (λ b e. absurd (let z : ◌≡◌ {A = ℕ} 0 1 = cc in omega arith))
-      (λ b e. absurd (let z : ◌≡◌ {A = ℕ} 0 1 = cc in omega arith))
+  next_refused dues.All h = by_choice (eqb (length s) 0) (Ok None) (Ok (Some dues.All)) h (λ b e. cc) (λ b e. cc)
   next_refused (dues.Exactly n) {r} h =
-      by_choice (eqb n 0) (choose (eqb (length s) 0) nexts.Done (nexts.Refused 7)) (nexts.Field (dues.Exactly (n - 1))) h
-      (λ b e. by_choice (eqb (length s) 0) nexts.Done (nexts.Refused 7) e
-      (λ b2 e2. absurd (let z : ◌≡◌ {A = ℕ} 0 1 = cc in omega arith))
-      (λ b2 e2. let w : 7 ≡ r = cc in rw (eqb-true n 0 b, read_exactly, b2, w)))
-      (λ b e. absurd (let z : ◌≡◌ {A = ℕ} 0 1 = cc in omega arith))
+      by_choice (eqb n 0) (choose (eqb (length s) 0) (Ok None) (Err InnerFields)) (Ok (Some (dues.Exactly (n - 1)))) h
+      (λ b e. by_choice (eqb (length s) 0) (Ok None) (Err InnerFields) e
+      (λ b2 e2. cc)
+      (λ b2 e2. let w : InnerFields ≡ r = cc in rw (eqb-true n 0 b, read_exactly, b2, ← w)))
+      (λ b e. cc)
 
   all_step : (n : ℕ) → length s ≡ n → (n ≡ 0 → ⊥) → read_all n read s ≡ after (read s) (fields_from dues.All read)
   unfolding read_all read_fields fields_from
@@ -101,69 +98,69 @@ module _ (read : Reader) (fine : Fine read) (s : Bytes) where
   exactly_step zero z = absurd (z refl)
   exactly_step (suc n) z = let w : suc n - 1 ≡ n = omega arith in rw w
 
-  next_field : (due later : Due) → next_of due (length s) ≡ nexts.Field later
+  next_field : (due later : Due) → next_of due (length s) ≡ Ok (Some later)
       → read_fields due read s ≡ after (read s) (fields_from later read)
   unfolding read_fields
   next_field dues.All later h =
-      by_choice (eqb (length s) 0) nexts.Done (nexts.Field dues.All) h
-      (λ b e. absurd (let z : ◌≡◌ {A = ℕ} 0 1 = cc in omega arith))
+      by_choice (eqb (length s) 0) (Ok None) (Ok (Some dues.All)) h
+      (λ b e. cc)
       (λ b e. let w : dues.All ≡ later = cc in rw (← w) (all_step (length s) refl (eqb-false (length s) 0 b)))
   next_field (dues.Exactly n) later h =
-      by_choice (eqb n 0) (choose (eqb (length s) 0) nexts.Done (nexts.Refused 7)) (nexts.Field (dues.Exactly (n - 1))) h
-      (λ b e. by_choice (eqb (length s) 0) nexts.Done (nexts.Refused 7) e
-      (λ b2 e2. absurd (let z : ◌≡◌ {A = ℕ} 0 1 = cc in omega arith))
-      (λ b2 e2. absurd (let z : ◌≡◌ {A = ℕ} 0 1 = cc in omega arith)))
+      by_choice (eqb n 0) (choose (eqb (length s) 0) (Ok None) (Err InnerFields)) (Ok (Some (dues.Exactly (n - 1)))) h
+      (λ b e. by_choice (eqb (length s) 0) (Ok None) (Err InnerFields) e (λ b2 e2. cc) (λ b2 e2. cc))
       (λ b e. let w : dues.Exactly (n - 1) ≡ later = cc in rw (← w) (exactly_step n (eqb-false n 0 b)))
 
 -- A term that was read, taken out of the code's answer
-pub record Took (sc : List ℕ) (s : Bytes) (a : Answer (NamedTerm × Bytes)) (before after : List ℕ) (bytes nodes : ℕ) : Type 0 where
+pub record Taken (sc : List ℕ) (s : Bytes) (a : Answer (NamedTerm × Bytes)) (before after : List ℕ) (t : Took) : Type 0 where
   pub term : NamedTerm
   pub later : Bytes
   pub reads : a ≡ got (term, later)
-  pub bytes_are : bytes ≡ length s - length later
-  pub nodes_are : nodes ≡ length (tokens sc (one term))
+  pub bytes_are : t.bytes ≡ length s - length later
+  pub nodes_are : t.nodes ≡ length (tokens sc (one term))
   pub row : after ≡ tokens sc (one term) ++ drop (length (tokens sc (one term))) before
 
-pub took : (sc : List ℕ) (s : Bytes) (a : Answer (NamedTerm × Bytes)) (before after : List ℕ) (k m : ℕ)
-    → TermDone sc s a before after (terms.Took k m) → Took sc s a before after k m
-unfolding term_answer Written
-took sc s (refused r) before after k m d = absurd (let q = d.answer in let z : ◌≡◌ {A = ℕ} 0 1 = cc in omega arith)
-took sc s (got x) before after k m d =
-    let q = d.answer in
-    record { term = x.0; later = x.1; reads = refl; bytes_are = cc; nodes_are = cc; row = d.table }
-
-pub not_took : {sc : List ℕ} {s : Bytes} {a : Answer (NamedTerm × Bytes)} {before after : List ℕ} {r : ℕ}
-    → TermDone sc s a before after (terms.Refused r) → a ≡ refused r
-unfolding term_answer
-not_took {sc} {s} {a} {r = r} d = go a d.answer
-  where
-    go : (a : Answer (NamedTerm × Bytes)) → terms.Refused r ≡ term_answer sc s a → a ≡ refused r
-    go (refused q) h = cc
-    go (got x) h = absurd (let z : ◌≡◌ {A = ℕ} 0 1 = cc in omega arith)
-
-pub record TookFits (s : Bytes) (k m : ℕ) : Type 0 where
-  pub some : 3 ≤ k
-  pub within : k ≤ length s
-  pub nodes : 3 * m ≤ k
-
-pub took_fits : (read : Reader) → Fine read → (sc : List ℕ) (s : Bytes) (before after : List ℕ) {k m : ℕ}
-    → TermDone sc s (read s) before after (terms.Took k m) → TookFits s k m
-took_fits read fine sc s before after {k} {m} d =
-    let t = took sc s (read s) before after k m d in
-    let w = fine s (t.term, t.later) t.reads in
-    let n = tokens_length sc (one t.term) in
+pub taken : (sc : List ℕ) (s : Bytes) (a : Answer (NamedTerm × Bytes)) (before after : List ℕ) (t : Took)
+    → TermDone sc s a before after (Ok t) → Taken sc s a before after t
+unfolding Written
+taken sc s (refused r) before after t d = absurd (refused_not (sym d.answer))
+taken sc s (got x) before after t d =
+    let q = got_is d.answer in
     record {
-      some = omega (arith, t.bytes_are, w.room);
-      within = omega (arith, t.bytes_are);
-      nodes = omega (arith, t.bytes_are, t.nodes_are, w.room, n);
+      term = x.0;
+      later = x.1;
+      reads = refl;
+      bytes_are = ap (λ (u : Took). u.bytes) q;
+      nodes_are = ap (λ (u : Took). u.nodes) q;
+      row = d.table;
+    }
+
+pub not_taken : {sc : List ℕ} {s : Bytes} {a : Answer (NamedTerm × Bytes)} {before after : List ℕ} {r : Refusal}
+    → TermDone sc s a before after (Err r) → a ≡ refused (number r)
+not_taken d = still_refused _ _ d.answer
+
+pub record TookFits (s : Bytes) (t : Took) : Type 0 where
+  pub some : 3 ≤ t.bytes
+  pub within : t.bytes ≤ length s
+  pub nodes : 3 * t.nodes ≤ t.bytes
+
+pub took_fits : (read : Reader) → Fine read → (sc : List ℕ) (s : Bytes) (before after : List ℕ) {t : Took}
+    → TermDone sc s (read s) before after (Ok t) → TookFits s t
+took_fits read fine sc s before after {t} d =
+    let x = taken sc s (read s) before after t d in
+    let w = fine s (x.term, x.later) x.reads in
+    let n = tokens_length sc (one x.term) in
+    record {
+      some = omega (arith, x.bytes_are, w.room);
+      within = omega (arith, x.bytes_are);
+      nodes = omega (arith, x.bytes_are, x.nodes_are, w.room, n);
     }
 
 pub later_part : (read : Reader) → Fine read
-    → (sc : List ℕ) (s : Bytes) (before after : List ℕ) {k m : ℕ} (t : Took sc s (read s) before after k m)
-    → take (length s - k) (drop k s) ≡ t.later
-later_part read fine sc s before after {k} t =
-    let w = fine s (t.term, t.later) t.reads in
-    rest_all k s ∙ ap (λ (n : ℕ). drop n s) t.bytes_are ∙ sym w.rest
+    → (sc : List ℕ) (s : Bytes) (before after : List ℕ) {t : Took} (x : Taken sc s (read s) before after t)
+    → take (length s - t.bytes) (drop t.bytes s) ≡ x.later
+later_part read fine sc s before after {t} x =
+    let w = fine s (x.term, x.later) x.reads in
+    rest_all t.bytes s ∙ ap (λ (n : ℕ). drop n s) x.bytes_are ∙ sym w.rest
 
 -- Terms before the others of a forest
 abbrev graft_all : List NamedTerm → Forest Named → Forest Named
@@ -183,16 +180,20 @@ trees_all [] = refl
 trees_all (t ∷ ts) = ap suc (trees_all ts)
 
 -- What is refused, and what is read to the end
-fields_refused : {sc o p : List ℕ} {a : Answer (Forest Named)} {r : ℕ} → a ≡ refused r → FieldsDone sc a o p (fields.Refused r)
-unfolding fields_answer Written
-fields_refused e = record { answer = rw (e, fields_answer); table = rw (e, Written) tt; fits = tt }
+fields_refused : {sc o p : List ℕ} {a : Answer (Forest Named)} {r : Refusal} → a ≡ refused (number r) → FieldsDone sc a o p (Err r)
+unfolding Written
+fields_refused e = record { answer = rw e; table = rw (e, Written) tt; fits = tt }
 
 fields_got : {sc o p : List ℕ} {a : Answer (Forest Named)} {nodes count bytes : ℕ} (ts : List NamedTerm) → a ≡ got (forest_of ts)
-    → Row (tokens sc (forest_of ts)) nodes bytes o p → count ≡ length ts → (nodes < 65535) × (count < 65535)
-    → FieldsDone sc a o p (fields.Read nodes count)
-unfolding fields_answer Written
-fields_got ts e row counted fits =
-    record { answer = rw (e, fields_answer, row.count, counted, trees_all ts); table = rw (e, Written) row.front; fits = fits }
+    → Row (tokens sc (forest_of ts)) nodes bytes o p → count ≡ length ts → nodes < 65535 → count < 65535
+    → FieldsDone sc a o p (Ok (record { nodes = nodes; count = count }))
+unfolding Written
+fields_got ts e row counted small few =
+    record {
+      answer = rw (e, row.count, counted, trees_all ts);
+      table = rw (e, Written) row.front;
+      fits = record { nodes = small; count = few };
+    }
 
 pub record Reading (read : Reader) (sc : List ℕ) (due : Due) (s o p : List ℕ) (left : Due) (nodes count at : ℕ) : Type 0 where
   pub done : List NamedTerm
@@ -216,15 +217,15 @@ reading_begins read sc due s o =
 
 module _ {read : Reader} (fine : Fine read) {sc : List ℕ} {due left : Due} {s o p : List ℕ} {nodes count at : ℕ}
     (r : Reading read sc due s o p left nodes count at) where
-  pub reading_ends : length s < 65536 → next_of left (length s - at) ≡ nexts.Done
-      → FieldsDone sc (read_fields due read s) o p (fields.Read nodes count)
+  pub reading_ends : length s < 65536 → next_of left (length s - at) ≡ Ok None
+      → FieldsDone sc (read_fields due read s) o p (Ok (record { nodes = nodes; count = count }))
   reading_ends short h =
       let none = next_done read fine (drop at s) left (rw (length-drop at s) h) in
       fields_got r.done (r.leads ∙ rw (none, graft_none r.done)) r.row r.counted
-      (omega (arith, r.row.few, r.within), omega (arith, r.few, r.within))
+      (omega (arith, r.row.few, r.within)) (omega (arith, r.few, r.within))
 
-  pub reading_refused : {q : ℕ} {p' : List ℕ} → next_of left (length s - at) ≡ nexts.Refused q
-      → FieldsDone sc (read_fields due read s) o p' (fields.Refused q)
+  pub reading_refused : {q : Refusal} {p' : List ℕ} → next_of left (length s - at) ≡ Err q
+      → FieldsDone sc (read_fields due read s) o p' (Err q)
   reading_refused {q} h = fields_refused (r.leads ∙ rw (next_refused read fine (drop at s) left {r = q} (rw (length-drop at s) h)))
 
   abbrev rest : Bytes
@@ -240,53 +241,53 @@ module _ {read : Reader} (fine : Fine read) {sc : List ℕ} {due left : Due} {s 
   pub rest_space : Space (length s) (length o) → Space (length rest) (length room)
   rest_space space = row_space r.row r.within space (omega (arith, rest_length, r.within))
 
-  module _ {later : Due} (h : next_of left (length s - at) ≡ nexts.Field later) where
+  module _ {later : Due} (h : next_of left (length s - at) ≡ Ok (Some later)) where
     next : read_fields due read s ≡ after (after (read rest) (fields_from later read)) (λ f. got (graft_all r.done f))
     next = r.leads ∙ rw (next_field read fine (drop at s) left later (rw (length-drop at s) h), rest_all at s)
 
-    pub reading_cut : {q : ℕ} {x p' : List ℕ} → TermDone sc rest (read rest) room x (terms.Refused q)
-        → FieldsDone sc (read_fields due read s) o p' (fields.Refused q)
-    reading_cut d = fields_refused (next ∙ rw (not_took d))
+    pub reading_cut : {q : Refusal} {x p' : List ℕ} → TermDone sc rest (read rest) room x (Err q)
+        → FieldsDone sc (read_fields due read s) o p' (Err q)
+    reading_cut d = fields_refused (next ∙ rw (not_taken d))
 
     -- One field more
-    module _ {k m : ℕ} (x : List ℕ) (d : TermDone sc rest (read rest) room x (terms.Took k m)) where
-      one_more : Took sc rest (read rest) room x k m
-      one_more = took sc rest (read rest) room x k m d
+    module _ {t : Took} (x : List ℕ) (d : TermDone sc rest (read rest) room x (Ok t)) where
+      one_more : Taken sc rest (read rest) room x t
+      one_more = taken sc rest (read rest) room x t d
 
-      fits : TookFits rest k m
+      fits : TookFits rest t
       fits = took_fits read fine sc rest room x d
 
-      within : at + k ≤ length s
+      within : at + t.bytes ≤ length s
       within = omega (arith, fits.within, rest_length, r.within)
 
-      pub sums_fit : length s < 65536 → (nodes + m < 2 ^ 64) × (count + 1 < 2 ^ 64) × (at + k < 2 ^ 64)
+      pub sums_fit : length s < 65536 → (nodes + t.nodes < 2 ^ 64) × (count + 1 < 2 ^ 64) × (at + t.bytes < 2 ^ 64)
       sums_fit short =
           let all = within in
           (omega (arith, fits.nodes, r.row.few), omega (arith, fits.some, r.few), omega arith)
 
-      later_is : one_more.later ≡ drop (at + k) s
+      later_is : one_more.later ≡ drop (at + t.bytes) s
       later_is =
-          sym (later_part read fine sc rest room x one_more) ∙ rest_all k rest ∙ ap (drop k) (rest_all at s) ∙ drop-drop k at s
+          sym (later_part read fine sc rest room x one_more) ∙ rest_all t.bytes rest ∙ ap (drop t.bytes) (rest_all at s) ∙ drop-drop t.bytes at s
 
-      pub bytes_less : length s - (at + k) < length s - at
+      pub bytes_less : length s - (at + t.bytes) < length s - at
       bytes_less = omega (arith, fits.some, within)
 
       pub reading_goes : length x ≡ length room
-          → Reading read sc due s o (put_mid nodes (length p - nodes) p x) later (nodes + m) (count + 1) (at + k)
+          → Reading read sc due s o (put_mid nodes (length p - nodes) p x) later (nodes + t.nodes) (count + 1) (at + t.bytes)
       unfolding fields_from
       reading_goes kept =
-          let t = one_more.term in
+          let u = one_more.term in
           record {
-            done = r.done ++ (t ∷ []);
+            done = r.done ++ (u ∷ []);
             leads =
                 next
                 ∙ rw (one_more.reads, fields_from, later_is)
-                (after_twice (graft_all r.done) (graft t) (graft_all (r.done ++ (t ∷ []))) (graft_more r.done t)
-                (read_fields later read (drop (at + k) s)));
+                (after_twice (graft_all r.done) (graft u) (graft_all (r.done ++ (u ∷ []))) (graft_more r.done u)
+                (read_fields later read (drop (at + t.bytes) s)));
             row =
-                rw (tokens_more sc r.done t)
-                (row_more r.row (tokens sc (one t)) x one_more.nodes_are fits.nodes one_more.row kept);
-            counted = ap (λ (j : ℕ). j + 1) r.counted ∙ sym (length-append r.done (t ∷ []));
+                rw (tokens_more sc r.done u)
+                (row_more r.row (tokens sc (one u)) x one_more.nodes_are fits.nodes one_more.row kept);
+            counted = ap (λ (j : ℕ). j + 1) r.counted ∙ sym (length-append r.done (u ∷ []));
             few = omega (arith, r.few, fits.some);
             within = within;
           }
@@ -299,6 +300,9 @@ label_enter (nodes.Binder b x) count sc = refl
 label_enter (nodes.Metavariable m) count sc = refl
 label_enter (nodes.Function m) count sc = refl
 label_enter nodes.Hole count sc = refl
+
+abbrev node_token : Site → Node → ℕ → ℕ → ℕ
+node_token x n size count = token_of (tag_of (label_of n count)) x.scope.depth size (payload_of (site_scope x) (label_of n count))
 
 -- The tokens of a node with its children
 node_tokens : (x : Site) (n : Node) (f : Forest Named)
@@ -314,45 +318,62 @@ node_tokens x n f =
       add-one,
     )
 
--- A node after its inner fields
-term_headed : (site : Site) (n : Node) (s o x : List ℕ) (end : ℕ) (a : Answer (Forest Named)) (inner : Fields) (o' : List ℕ) (r : Term)
-    → 1 ≤ length o → end ≤ length s
-    → inner ≡ fields_answer (enter (label_of n 0) (site_scope site)) a
-    → Written (tokens (enter (label_of n 0) (site_scope site))) a (take (length o - 1) (drop 1 o)) x
-    → Closed site n end inner (put_mid 1 (length o - 1) o x) o' r
-    → TermDone (site_scope site) s (after a (λ f. got ((label_of n (trees f), f), drop end s))) o o' r
-unfolding fields_answer Written term_answer
-term_headed site n s o x end (refused q) inner o' r ho he e v c = record { answer = c.answer ∙ rw e; table = tt }
-term_headed site n s o x end (got f) inner o' r ho he e v c =
-    let sc = enter (label_of n 0) (site_scope site) in
-    let taken : end ≡ length s - length (drop end s) = omega (arith, length-drop end s) in
-    let one_more : 1 + length (tokens sc f) ≡ suc (length (tokens sc f)) = omega arith in
-    let rest : drop (length (tokens sc f)) (take (length o - 1) (drop 1 o)) ≡ drop (suc (length (tokens sc f))) o =
-    ap (drop (length (tokens sc f))) (rest_all 1 o) ∙ drop-drop (length (tokens sc f)) 1 o ∙ rw one_more in
-    record {
-      answer = c.answer ∙ rw e (rw (node_tokens site n f, ← taken, add-one));
-      table =
-          c.table ∙ rw e (head_put o x (node_token site n (length (tokens sc f) + 1) (trees f)) ho ∙ rw (node_tokens site n f, v, rest));
-    }
+-- A node before its inner fields
+module _ (site : Site) (n : Node) (s o x : List ℕ) (end : ℕ) where
+  abbrev below : List ℕ
+  below = enter (label_of n 0) (site_scope site)
+
+  abbrev with_node : Answer (Forest Named) → Answer (NamedTerm × Bytes)
+  with_node a = after a (λ f. got ((label_of n (trees f), f), drop end s))
+
+  term_headed : (a : Answer (Forest Named)) (f : Fields) → 1 ≤ length o → end ≤ length s → got f ≡ fields_answer below a
+      → Written (tokens below) a (take (length o - 1) (drop 1 o)) x
+      → TermDone (site_scope site) s (with_node a) o (set (put_mid 1 (length o - 1) o x) 0 (node_token site n (f.nodes + 1) f.count))
+      (Ok (record { bytes = end; nodes = f.nodes + 1 }))
+  unfolding Written
+  term_headed (refused q) f ho he e v = absurd (refused_not (sym e))
+  term_headed (got f') f ho he e v =
+      let taken : end ≡ length s - length (drop end s) = omega (arith, length-drop end s) in
+      let one_more : 1 + length (tokens below f') ≡ suc (length (tokens below f')) = omega arith in
+      let rest : drop (length (tokens below f')) (take (length o - 1) (drop 1 o)) ≡ drop (suc (length (tokens below f'))) o =
+      ap (drop (length (tokens below f'))) (rest_all 1 o) ∙ drop-drop (length (tokens below f')) 1 o ∙ rw one_more in
+      rw (got_is e)
+      (record {
+        answer = rw (node_tokens site n f', ← taken, add-one);
+        table = head_put o x (node_token site n (length (tokens below f') + 1) (trees f')) ho ∙ rw (node_tokens site n f', v, rest);
+      })
 
 -- The returns of `read_term`
 module _ (site : Site) (levels : ℕ) (ctx : Context) (s o : List ℕ) where
-  pub term_refused : {r : ℕ} → OpenDone levels ctx s (opens.Refused r)
-      → TermDone (site_scope site) s (read_term levels ctx s) o o (terms.Refused r)
-  unfolding open_read term_answer Written
-  term_refused h = record { answer = rw (h.says, term_answer); table = rw (h.says, Written) tt }
+  pub term_refused : {r : Refusal} {o' : List ℕ} → OpenDone levels ctx s (Err r)
+      → TermDone (site_scope site) s (read_term levels ctx s) o o' (Err r)
+  unfolding open_read Written
+  term_refused h = record { answer = rw h.says; table = rw (h.says, Written) tt }
 
-  pub term_closed : {levels' : ℕ} {ctx' : Context} {sc' : List ℕ} (n : Node) (end : ℕ) (x o' : List ℕ) (inner : Fields) (r : Term)
-      → OpenDone levels ctx s (opens.Node n end) → 1 ≤ length o
-      → levels' ≡ levels - 1 → ctx' ≡ context_below (label_of n 0) ctx → sc' ≡ enter (label_of n 0) (site_scope site)
-      → FieldsDone sc' (read_fields (due_of n) (read_term levels' ctx') (take (end - (3 + fixed_of n)) (drop (3 + fixed_of n) s)))
-      (take (length o - 1) (drop 1 o)) x inner
-      → Closed site n end inner (put_mid 1 (length o - 1) o x) o' r
-      → TermDone (site_scope site) s (read_term levels ctx s) o o' r
-  unfolding open_read
-  term_closed n end x o' inner r h ho hl hc hs f c =
-      rw h.says
-      (term_headed site n s o x end _ inner o' r ho h.fits.within (rw (hl, hc, hs) at f.answer) (rw (hl, hc, hs) at f.table) c)
+  -- What the fields in a node answer, by the site below it
+  module _ {levels' : ℕ} {ctx' : Context} {sc' : List ℕ} (opened : Opened) (h : OpenDone levels ctx s (Ok opened))
+      (hl : levels' ≡ levels - 1) (hc : ctx' ≡ context_below (label_of opened.node 0) ctx) (hs : sc' ≡ enter (label_of opened.node 0) (site_scope site))
+      (x : List ℕ) where
+    abbrev fields : Answer (Forest Named)
+    fields =
+        read_fields (due_of opened.node) (read_term levels' ctx')
+        (take (opened.end - (3 + fixed_of opened.node)) (drop (3 + fixed_of opened.node) s))
+
+    pub term_broken : {r : Refusal} {o' : List ℕ} → FieldsDone sc' fields (take (length o - 1) (drop 1 o)) x (Err r)
+        → TermDone (site_scope site) s (read_term levels ctx s) o o' (Err r)
+    unfolding open_read Written
+    term_broken f =
+        let e = still_refused _ _ (rw (hl, hc) at f.answer) in
+        record { answer = rw (h.says, e); table = rw (h.says, open_read, e, Written) tt }
+
+    pub term_closed : (inner : Fields) → 1 ≤ length o → FieldsDone sc' fields (take (length o - 1) (drop 1 o)) x (Ok inner)
+        → TermDone (site_scope site) s (read_term levels ctx s) o
+        (set (put_mid 1 (length o - 1) o x) 0 (node_token site opened.node (inner.nodes + 1) inner.count))
+        (Ok (record { bytes = opened.end; nodes = inner.nodes + 1 }))
+    unfolding open_read
+    term_closed inner ho f =
+        rw h.says
+        (term_headed site opened.node s o x opened.end _ inner ho h.fits.within (rw (hl, hc, hs) at f.answer) (rw (hl, hc, hs) at f.table))
 
 -- Room for what is read inside: the calls of `read_term` and of `read_fields`
 pub inner_less : {levels fixed end : ℕ} (s : Bytes) → OpenFits levels (length s) fixed end

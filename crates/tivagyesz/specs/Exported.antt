@@ -6,8 +6,9 @@
 --   ..After     what a slice holds after an answer
 --   with_row     "18 buffer too short", of a row buffer that has fewer words than a place
 --   ..Export    one for each exported function
---   Coded       the number of a search's answer
-use Rattle.std.specs.Prelude.{◌≡◌, ℕ, ◌<◌, Bool, true, false, List, length, eqb}
+--   Given       an answer of a search as a C program has it
+--   RowTold     the part of it that does not hang on the place
+use Rattle.std.specs.Prelude.{◌≡◌, ℕ, Bool, true, false, List, length}
 use Rattle.meaning.specs.Basics.{Bytes, choose}
 use Rattle.meaning.specs.Read.{Answer, after, got, refused}
 use Rattle.meaning.specs.Search.{found, end, paused, refused_call}
@@ -16,7 +17,6 @@ use Rattle.meaning.specs.Entry.{HostReply, start_call, SearchCall, WriteCall, ch
 use Rattle.meaning.specs.Longest.{LongestCall}
 use Rattle.search.specs.Calling.{reply_with}
 use Rattle.seeking.specs.declared.Answer as code
-use Rattle.seeking.specs.declared.Answer.TheVariants as answers
 use Rattle.words.specs.Words.{has_place, place_of_words, placed}
 
 -- The start, into words that may be too few for a place: 18, after 1 to 14 and 25
@@ -68,6 +68,17 @@ row_after words (found row next) = placed words row
 row_after words (paused next) = words
 row_after words (end next) = words
 
+-- An answer's number, and what the place and the row buffer hold after it
+pub record Given (reply : HostReply) (place row place' row' : List ℕ) (r : ℕ) : Type 0 where
+  pub code : r ≡ reply_code (with_row (has_place (length row)) reply)
+  pub leaves : place' ≡ place_after place (with_row (has_place (length row)) reply)
+  pub gives : row' ≡ row_after row (with_row (has_place (length row)) reply)
+
+-- The number of an answer that is no refusal, and the row buffer, which has room; whatever place it leaves
+pub record RowTold (answer : code.Answer) (row row' : List ℕ) (r : ℕ) : Type 0 where
+  pub code : (next : PlaceValue) → r ≡ reply_code (reply_with answer next)
+  pub gives : (next : PlaceValue) → row' ≡ row_after row (reply_with answer next)
+
 -- `matcher_search`
 pub record SearchExport (s : Bytes) (n : ℕ) (place row place' row' : List ℕ) (r : ℕ) : Type 0 where
   pub reply : HostReply
@@ -75,15 +86,6 @@ pub record SearchExport (s : Bytes) (n : ℕ) (place row place' row' : List ℕ)
   pub code : r ≡ reply_code (with_row (has_place (length row)) reply)
   pub leaves : place' ≡ place_after place (with_row (has_place (length row)) reply)
   pub gives : row' ≡ row_after row (with_row (has_place (length row)) reply)
-
--- The row of a Found, and no other
-abbrev pub row_given : ℕ → PlaceValue → List ℕ → List ℕ
-row_given code v words = choose (eqb code 256) (placed words v) words
-
--- The number, whatever row and place the answer comes with. Refusals have one byte, so that 256 and more are answers
-pub record Coded (answer : code.Answer) (row_words r : ℕ) : Type 0 where
-  pub code : (row : List ℕ) (v : PlaceValue) → r ≡ reply_code (with_row (has_place row_words) (reply_with answer row v))
-  pub refusal : (number : ℕ) → answer ≡ answers.Refused number → number < 256
 
 abbrev pub write_code : Answer ℕ → ℕ
 write_code (got n) = 0

@@ -7,17 +7,19 @@ pub mod codes;
 
 ghost use Rattle.std.specs.Prelude.{◌≡◌, ◌≤◌, length};
 ghost use Rattle.places.specs.Places.{value_of};
+ghost use Rattle.search.specs.Calling.{reply_with};
 ghost use Rattle.copying.specs.Answered.{answer_of};
 ghost use Rattle.words.specs.Words.{place_words};
-ghost use Rattle.tivagyesz.specs.Exported.{place_into, Told, row_given, length_after, write_code};
+ghost use Rattle.tivagyesz.specs.Exported.{place_into, Told, RowTold, Given, length_after};
 ghost use Rattle.tivagyesz.specs.Exported.{StartExport, SearchExport, WriteExport, LongestExport, CheckExport};
 
 use checking::check;
-use codes::{BUFFER_TOO_SHORT, FOUND, check_code, search_code};
-use copying::Written;
+use codes::{DONE, END, FOUND, PAUSED, check_code, refusal_code, write_code};
 use longest::write_longest;
-use places::{Place, Start};
+use places::Place;
+use refusal::Refusal;
 use search::call::search;
+use seeking::{Answer, Searched};
 use words::{PLACE_WORDS, place_of, put_place};
 use writing::write::write;
 
@@ -26,10 +28,11 @@ fn give_start(words: &mut [u64], first: Place) -> u32
     ensures { Told (place_into words.old (value_of first)) words.old words.new result }
 {
     if words.len() < PLACE_WORDS {
-        return BUFFER_TOO_SHORT;
+        refusal_code(Refusal::BufferTooShort)
+    } else {
+        put_place(words, first);
+        DONE
     }
-    put_place(words, first);
-    0
 }
 
 // The start of a problem into `place`.
@@ -37,24 +40,37 @@ fn give_start(words: &mut [u64], first: Place) -> u32
 pub extern "C" fn matcher_start(problem: &[u8], place: &mut [u64]) -> u32
     ensures { StartExport problem.now place.old place.new result }
 {
-    let started = Place::start(problem);
-    let answer = started.answer;
-    let first = started.place;
-    match answer {
-        Start::Refused(r) => r as u32,
-        Start::Begins => give_start(place, first),
+    match Place::start(problem) {
+        Ok(first) => give_start(place, first),
+        Err(refusal) => refusal_code(refusal),
     }
 }
 
-// The row of a Found into `words`.
-fn give_row(words: &mut [u64], code: u32, row: Place)
-    requires { code ≡ 256 → place_words ≤ length words.old }
-    ensures { words.new ≡ row_given code (value_of row) words.old }
+// The row of a Found into `words`, and the number of the answer.
+fn give_row(words: &mut [u64], answer: Answer) -> u32
+    requires { place_words ≤ length words.old }
+    ensures { RowTold answer words.old words.new result }
 {
-    if code != FOUND {
-        return;
+    match answer {
+        Answer::Found(row) => {
+            put_place(words, Place::at(row));
+            FOUND
+        }
+        Answer::Paused => PAUSED,
+        Answer::End => END,
     }
-    put_place(words, row);
+}
+
+// An answer that is no refusal: the place is moved and the row of a Found given, where the row buffer has room for a row.
+fn give_answer(place: &mut [u64], row: &mut [u64], searched: Searched) -> u32
+    requires { place_words ≤ length place.old }
+    ensures { Given (reply_with searched.answer (value_of searched.place)) place.old row.old place.new row.new result }
+{
+    if row.len() < PLACE_WORDS {
+        return refusal_code(Refusal::BufferTooShort);
+    }
+    put_place(place, searched.place);
+    give_row(row, searched.answer)
 }
 
 // A search call from the place in `place`, which is moved; the row of a Found goes into `row`.
@@ -63,38 +79,19 @@ pub extern "C" fn matcher_search(problem: &[u8], place: &mut [u64], row: &mut [u
     ensures { SearchExport problem.now n place.old row.old place.new
         row.new result }
 {
-    let searched = search(problem, place_of(place), n);
-    let answer = searched.answer;
-    let next = searched.place;
-    let found = searched.row;
-    let here = Place::at(found);
-    let code = search_code(answer, row.len());
-    if code < FOUND {
-        return code;
-    }
-    put_place(place, next);
-    give_row(row, code, here);
-    code
-}
-
-// The number of a writer's answer.
-fn write_code(answer: Written) -> u32
-    ensures { result ≡ write_code (answer_of answer) }
-{
-    match answer {
-        Written::Refused(r) => r as u32,
-        Written::Wrote(n) => 0,
+    match search(problem, place_of(place), n) {
+        Ok(searched) => give_answer(place, row, searched),
+        Err(refusal) => refusal_code(refusal),
     }
 }
 
 // How many bytes were written into `written`, if any were.
-fn give_length(answer: Written, written: &mut usize)
+fn give_length(answer: Result<usize, Refusal>, written: &mut usize)
     ensures { written.new ≡ length_after written.old (answer_of answer) }
 {
-    let Written::Wrote(n) = answer else {
-        return;
-    };
-    *written = n;
+    if let Ok(n) = answer {
+        *written = n;
+    }
 }
 
 // The text of a row at the front of `out`, and its length into `written`.

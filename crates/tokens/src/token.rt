@@ -39,5 +39,5 @@ pub fn token(tag: u64, depth: usize, size: usize, payload: u64) -> u64
 pub fn pair(low: u16, high: u16) -> u64
     ensures { (result ≡ low + 65536 * high) × (result < 4294967296) }
 {
-    (low as u64) + 65536 * (high as u64)
+    u64::from(low) + 65536 * u64::from(high)
 }

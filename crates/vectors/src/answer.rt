@@ -1,80 +1,52 @@
 // One line of the output: the label of an input, and what the matcher answers.
 ghost use Rattle.std.specs.Prelude.{◌≤◌, length};
+ghost use Rattle.terms.specs.Reading.{Space};
 
-use accept::{Standing, Verdict, accept};
-use lines::output::{end_line, print, print_number};
+use accept::accept;
+use refusal::Refusal;
+use std::io::Result as Written;
 use table::TABLE_ROOM;
-use terms::term::{Term, read_body, read_expression, read_pattern};
+use terms::term::Took;
 
 // The nodes that 8,192 bytes may have.
 const TERM_ROOM: usize = 2731;
 
-fn print_refused(r: u8) {
-    print(b": refused ");
-    print_number(r as u64);
-    end_line();
+fn print_refused(rt: &impl Print, refusal: Refusal) -> Written<()> {
+    println!(rt; ": refused {}", refusal.number())
 }
 
-fn print_accepted(a: Standing) {
-    print(b": accepted, nodes ");
-    print_number(a.patterns as u64);
-    print(b" and ");
-    print_number(a.expressions as u64);
-    print_rows(a.rows);
-    end_line();
-}
-
-fn print_rows(rows: bool) {
-    if rows {
-        print(b", rows");
-    } else {
-        print(b", no rows");
-    }
-}
-
-pub fn show_problem(label: &[u8], bytes: &[u8]) {
+pub fn show_problem(rt: &impl Print, label: &[u8], bytes: &[u8]) -> Written<()> {
     let mut patterns = [0u64; TABLE_ROOM];
     let mut expressions = [0u64; TABLE_ROOM];
     let mut faces = [0u64; TABLE_ROOM];
-    print(label);
+    rt.write_all(label)?;
     match accept(bytes, &mut patterns, &mut expressions, &mut faces) {
-        Verdict::Refused(r) => print_refused(r),
-        Verdict::Accepted(a) => print_accepted(a),
-    }
-}
-
-fn print_term(label: &[u8], term: Term) {
-    print(label);
-    match term {
-        Term::Refused(r) => print_refused(r),
-        Term::Took(bytes, nodes) => {
-            print(b": read, bytes ");
-            print_number(bytes as u64);
-            print(b", nodes ");
-            print_number(nodes as u64);
-            end_line();
+        Err(refusal) => print_refused(rt, refusal),
+        Ok(a) => {
+            let rows = if a.faces.is_some() { "rows" } else { "no rows" };
+            println!(rt;
+                ": accepted, nodes {} and {}, {rows}",
+                a.patterns.len(),
+                a.expressions.len()
+            )
         }
     }
 }
 
-// A term by itself, in each of its places.
-pub fn show_pattern(label: &[u8], bytes: &[u8])
-    requires { length bytes.now ≤ 8192 }
+// A term by itself, in the place that the reader is for.
+pub fn show_term<F: Fn(&[u8], &mut [u64]) -> Result<Took, Refusal>>(
+    rt: &impl Print,
+    label: &[u8],
+    bytes: &[u8],
+    read: F,
+) -> Written<()>
+    requires few { length bytes.now ≤ 8192 }
+    requires reads { (s : _) (out : _) → Space (length s.now) (length out.now) → F.pre read s out }
 {
     let mut room = [0u64; TERM_ROOM];
-    print_term(label, read_pattern(bytes, &mut room));
-}
-
-pub fn show_expression(label: &[u8], bytes: &[u8])
-    requires { length bytes.now ≤ 8192 }
-{
-    let mut room = [0u64; TERM_ROOM];
-    print_term(label, read_expression(bytes, &mut room));
-}
-
-pub fn show_body(label: &[u8], bytes: &[u8])
-    requires { length bytes.now ≤ 8192 }
-{
-    let mut room = [0u64; TERM_ROOM];
-    print_term(label, read_body(bytes, &mut room));
+    rt.write_all(label)?;
+    match read(bytes, &mut room) {
+        Err(refusal) => print_refused(rt, refusal),
+        Ok(took) => println!(rt; ": read, bytes {}, nodes {}", took.bytes, took.nodes),
+    }
 }

@@ -1,45 +1,34 @@
 // One line of the input: its kind, its bytes out of their digits, and its label.
-ghost use Rattle.std.specs.Prelude.{◌≡◌, ◌≤◌, length};
+ghost use Rattle.std.specs.Prelude.{◌≤◌, length};
 
-use crate::answer;
-use lines::input::{Part, kind, read_part};
+use crate::answer::{show_problem, show_term};
+use lines::input::{letter_of, read_part};
 use lines::output::bad;
+use std::io::Result;
+use terms::term::{read_body, read_expression, read_pattern};
 
 // The bytes that a line may have.
 const MOST: usize = 8192;
 
-fn show_input(kind: u8, label: &[u8], bytes: &[u8])
+fn show_input(rt: &impl Print, kind: u8, label: &[u8], bytes: &[u8]) -> Result<()>
     requires { length bytes.now ≤ 8192 }
 {
     match kind {
-        // P, T, E, B
-        80 => answer::show_problem(label, bytes),
-        84 => answer::show_pattern(label, bytes),
-        69 => answer::show_expression(label, bytes),
-        66 => answer::show_body(label, bytes),
-        _ => bad(label),
+        b'P' => show_problem(rt, label, bytes),
+        b'T' => show_term(rt, label, bytes, read_pattern),
+        b'E' => show_term(rt, label, bytes, read_expression),
+        b'B' => show_term(rt, label, bytes, read_body),
+        _ => bad(rt, label),
     }
 }
 
-// A line of that kind, whose bytes the buffer has room for.
-fn show_kind(kind: u8, line: &[u8], bytes: &mut [u8])
-    requires { length bytes.old ≡ 8192 }
-{
-    let part = read_part(line, 2, bytes);
-    let Part::Bytes(n) = part else {
-        bad(line);
-        return;
-    };
-    let label = 3 + 2 * n;
-    show_input(kind, &line[label..], &bytes[..n]);
-}
-
-pub fn show(line: &[u8]) {
+pub fn show(rt: &impl Print, line: &[u8]) -> Result<()> {
     let mut bytes = [0u8; MOST];
-    let letter = kind(line);
-    if letter == 0 {
-        bad(line);
-        return;
+    let Some((kind, rest)) = letter_of(line) else {
+        return bad(rt, line);
+    };
+    match read_part(rest, &mut bytes) {
+        Some((n, label)) => show_input(rt, kind, label, &bytes[..n]),
+        None => bad(rt, line),
     }
-    show_kind(letter, line, &mut bytes);
 }

@@ -9,27 +9,13 @@ mod answer;
 mod line;
 
 use line::show;
-use lines::input::line_end;
-use lines::output::bad;
+use lines::input::for_each_line;
+use std::io::Result;
 
-// The input may have this many bytes: one fewer than the buffer, so that none is cut off.
-const MOST: usize = 65535;
+// The input may have one byte fewer, so that none is cut off.
+const ROOM: usize = 65536;
 
-fn show_all(input: &[u8]) {
-    let mut at = 0;
-    while at < input.len() {
-        let end = line_end(input, at);
-        show(&input[at..end]);
-        at = end + 1;
-    }
-}
-
-fn main() {
-    let mut input = io::large_buffer();
-    let n = io::read_full(0, &mut input);
-    if MOST < n {
-        bad(b"the input is too long");
-        return;
-    }
-    show_all(&input[..n]);
+fn main(rt: HostRuntime) -> Result<()> {
+    let mut input = [0u8; ROOM];
+    for_each_line(&rt, &mut input, |line| show(&rt, line))
 }

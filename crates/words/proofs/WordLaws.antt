@@ -10,8 +10,9 @@ use native.Mathlib.Omega.{arith}
 use borrow.Author.Tests.{le-leb, leb-false, leb-true, lt-leb}
 use lib.ListN.{length, take, drop, get_or, set, length-append, length-map, length-drop, replicate, take-append-drop}
 use lib.Pow.{pow_pos}
-use lib.Seq.{take-suc, take-suc-set, take_all, take_at, drop_at, drop-append-add, drop-drop, drop-cons, get_or_at, length-take-le}
-use lib.Seq.{set_split, sets, sets-eq}
+use mir.Val.{bool_byte}
+use lib.Seq.{take-suc, take-suc-set, take_all, take_at, drop_at, drop-append-add, drop-drop, get_or_at, length-take-le}
+use lib.Seq.{set_split, sets}
 use Rattle.meaning.specs.Limits.{max_face_nodes, max_functions}
 use Rattle.meaning.specs.Basics.{All, each}
 use Rattle.meaning.specs.Problem.{Problem}
@@ -24,43 +25,25 @@ use Rattle.masks.specs.Mask.{marks, value}
 use Rattle.masks.specs.Sets.{marks_in, mask, masks_in, width, word_count, word_nodes, words, words_in, words_of}
 use Rattle.masks.specs.declared.NodeSet.{NodeSet}
 use Rattle.masks.proofs.Marks.{length_marks, marks_value, value_marks}
-use Rattle.masks.proofs.Words.{length_words, masks_set, mask_words}
+use Rattle.masks.proofs.Words.{length_words, masks_set, mask_words, words_array}
 use Rattle.words.specs.Storing.{PutRow, PutWords}
 use Rattle.words.specs.Words.{has_place, last_word, mask_in, masks_from, nowhere, place_of_words, place_words, placed, row_words, value_with}
 
 -- ---- the words of one set
 
--- Four words, one after the other
-four : (l : List ℕ) (i : ℕ) → i + word_count ≤ length l
-    → take word_count (drop i l) ≡ get_or l i 0 ∷ get_or l (i + 1) 0 ∷ get_or l (i + 2) 0 ∷ get_or l (i + 3) 0 ∷ []
-four l i h =
-    let one : i + 1 ≡ suc i = add-one i in
-    let two : i + 2 ≡ suc (suc i) = omega arith in
-    let three : i + 3 ≡ suc (suc (suc i)) = omega arith in
-    rw (one, two, three)
-    (ap (take 4)
-    (drop-cons l i 0 (omega arith) ∙ ap {B = List ℕ} (λ r. get_or l i 0 ∷ r)
-    (drop-cons l (suc i) 0 (omega arith) ∙ ap {B = List ℕ} (λ r. get_or l (suc i) 0 ∷ r)
-    (drop-cons l (suc (suc i)) 0 (omega arith) ∙ ap {B = List ℕ} (λ r. get_or l (suc (suc i)) 0 ∷ r)
-    (drop-cons l (suc (suc (suc i))) 0 (omega arith))))))
-
 -- As the code reads a set
-pub set_read : (l : List ℕ) (i : ℕ) (s : NodeSet) → i + word_count ≤ length l
-    → words s ≡ get_or l i 0 ∷ get_or l (i + 1) 0 ∷ get_or l (i + 2) 0 ∷ get_or l (i + 3) 0 ∷ [] → mask s ≡ mask_in (take word_count (drop i l))
+pub set_read : (s : NodeSet) (ws : List ℕ) → length s.words ≡ word_count → s.words ≡ ws → mask s ≡ mask_in ws
 unfolding mask
-set_read l i s h e = ap mask_in (e ∙ sym (four l i h))
+set_read s ws four e = ap mask_in (words_array s four ∙ e)
 
 -- ... and as it stores one
-pub set_put : (l : List ℕ) (i : ℕ) (s : NodeSet) → i + word_count ≤ length l
-    → s.w0 < 2 ^ word_nodes → s.w1 < 2 ^ word_nodes → s.w2 < 2 ^ word_nodes → s.w3 < 2 ^ word_nodes
-    → set (set (set (set l i s.w0) (i + 1) s.w1) (i + 2) s.w2) (i + 3) s.w3
-    ≡ take i l ++ words_of (mask s) ++ drop (i + word_count) l
-set_put l i s h a b c d =
-    let one : i + 1 ≡ suc i = add-one i in
-    let two : i + 2 ≡ suc (suc i) = omega arith in
-    let three : i + 3 ≡ suc (suc (suc i)) = omega arith in
-    rw (one, two, three)
-    (sets-eq (words s) l i h ∙ ap (λ (r : List ℕ). take i l ++ r ++ drop (i + word_count) l) (sym (mask_words s a b c d)))
+pub set_put : (l : List ℕ) (i : ℕ) (s : NodeSet) → length s.words ≡ word_count
+    → get_or s.words 0 0 < 2 ^ word_nodes → get_or s.words 1 0 < 2 ^ word_nodes
+    → get_or s.words 2 0 < 2 ^ word_nodes → get_or s.words 3 0 < 2 ^ word_nodes
+    → take i l ++ (s.words ++ drop word_count (drop i l)) ≡ take i l ++ words_of (mask s) ++ drop (i + word_count) l
+set_put l i s four a b c d =
+    ap₂ (λ (x y : List ℕ). take i l ++ (x ++ y)) (sym (mask_words s a b c d ∙ words_array s four)) (drop-drop word_count i l)
+    ∙ sym (append_assoc (take i l) (words_of (mask s)) (drop (i + word_count) l))
 
 -- The mask of a mask's words is the mask
 marks_back : (n : ℕ) (l : List Bool) → length l ≡ n * word_nodes → marks_in (words_in n l) ≡ l
@@ -163,6 +146,11 @@ module _ (start : ℕ) (ms before : List ℕ) (long : length ms ≡ max_function
         (ap (λ (n : ℕ). drop (start + n * word_count) before) e);
   }
 
+-- The last word as the code makes it of a truth value
+pub last_byte : (b : Bool) → bool_byte b ≡ last_word b
+last_byte false = refl
+last_byte true = refl
+
 -- The last word, after those of the sets
 pub put_last : (l l₀ ms : List ℕ) (last : ℕ) (is_past : Bool) → place_words ≤ length l₀ → length l ≡ length l₀
     → PutRow 0 ms l₀ l → last ≡ last_word is_past
@@ -246,9 +234,7 @@ masks_back (m ∷ ms) later h =
 
 -- Every small mask is that of a set
 abbrev pub set_of : ℕ → NodeSet
-set_of m =
-    let ws = words_of m in
-    record { w0 = get_or ws 0 0; w1 = get_or ws 1 0; w2 = get_or ws 2 0; w3 = get_or ws 3 0 }
+set_of m = record { words = words_of m }
 
 set_back : (m : ℕ) → m < 2 ^ width → mask (set_of m) ≡ m
 unfolding mask words_of words_in

@@ -7,7 +7,7 @@ ghost use Rattle.meaning.specs.Limits.{max_functions};
 ghost use Rattle.masks.specs.Sets.{mask, masks_in, word_count, words_of};
 ghost use Rattle.places.specs.Places.{value_of};
 ghost use Rattle.words.specs.Storing.{PutRow, PutWords};
-ghost use Rattle.words.specs.Words.{last_word, mask_in, masks_from, nowhere, place_of_words, place_words, placed, row_words};
+ghost use Rattle.words.specs.Words.{mask_in, masks_from, nowhere, place_of_words, place_words, placed, row_words};
 
 use masks::NodeSet;
 use places::Place;
@@ -22,10 +22,7 @@ fn nowhere() -> Place
     ensures { value_of result ≡ nowhere }
 {
     let last = NodeSet {
-        w0: 0,
-        w1: 0,
-        w2: 0,
-        w3: 1,
+        words: [0, 0, 0, 1],
     };
     Place {
         sets: [last; Place::MAX_FUNCTIONS],
@@ -38,12 +35,9 @@ fn set_at(words: &[u64], at: usize) -> NodeSet
     requires { at + word_count ≤ length words.now }
     ensures { mask result ≡ mask_in (take word_count (drop at words.now)) }
 {
-    NodeSet {
-        w0: words[at],
-        w1: words[at + 1],
-        w2: words[at + 2],
-        w3: words[at + 3],
-    }
+    let mut set = NodeSet::none();
+    set.words.copy_from_slice(&words[at..at + NodeSet::WORDS]);
+    set
 }
 
 // The sets at the front of the words.
@@ -52,10 +46,8 @@ fn sets_in(words: &[u64]) -> [NodeSet; Place::MAX_FUNCTIONS]
     ensures { masks_in result ≡ masks_from max_functions words.now }
 {
     let mut sets = [NodeSet::none(); Place::MAX_FUNCTIONS];
-    let mut k = 0;
-    while k < Place::MAX_FUNCTIONS {
-        sets[k] = set_at(words, k * NodeSet::WORDS);
-        k += 1;
+    for (k, set) in sets.iter_mut().enumerate() {
+        *set = set_at(words, k * NodeSet::WORDS);
     }
     sets
 }
@@ -67,15 +59,13 @@ pub fn place_of(words: &[u64]) -> Place
     if words.len() < PLACE_WORDS {
         return nowhere();
     }
-    let sets = sets_in(words);
-    let last = words[ROW_WORDS];
-    match last {
+    match words[ROW_WORDS] {
         0 => Place {
-            sets: sets,
+            sets: sets_in(words),
             past: false,
         },
         1 => Place {
-            sets: sets,
+            sets: sets_in(words),
             past: true,
         },
         _ => nowhere(),
@@ -87,10 +77,7 @@ fn put_set(words: &mut [u64], at: usize, s: NodeSet)
     requires { at + word_count ≤ length words.old }
     ensures { PutWords at word_count (words_of (mask s)) words.old words.new }
 {
-    words[at] = s.w0;
-    words[at + 1] = s.w1;
-    words[at + 2] = s.w2;
-    words[at + 3] = s.w3;
+    words[at..at + NodeSet::WORDS].copy_from_slice(&s.words);
 }
 
 // The words of a row's sets from word `at` on; the others stay as they are.
@@ -98,17 +85,9 @@ pub fn put_row(words: &mut [u64], at: usize, row: [NodeSet; Place::MAX_FUNCTIONS
     requires { at + row_words ≤ length words.old }
     ensures { PutRow at (masks_in row) words.old words.new }
 {
-    let mut k = 0;
-    while k < Place::MAX_FUNCTIONS {
-        put_set(words, at + k * NodeSet::WORDS, row[k]);
-        k += 1;
+    for (k, set) in row.iter().enumerate() {
+        put_set(words, at + k * NodeSet::WORDS, *set);
     }
-}
-
-fn last_word(past: bool) -> u64
-    ensures { result ≡ last_word past }
-{
-    if past { 1 } else { 0 }
 }
 
 // The words of a place at the front; the later ones stay as they are.
@@ -116,7 +95,6 @@ pub fn put_place(words: &mut [u64], place: Place)
     requires { place_words ≤ length words.old }
     ensures { words.new ≡ placed words.old (value_of place) }
 {
-    let sets = place.sets;
-    put_row(words, 0, sets);
-    words[ROW_WORDS] = last_word(place.past);
+    put_row(words, 0, place.sets);
+    words[ROW_WORDS] = u64::from(place.past);
 }

@@ -4,11 +4,12 @@ use mathlib.Core.Path.{◌≡◌, refl, ap, ap₂, sym, ◌∙◌, subst}
 use mathlib.Core.Bool.{Bool, true, false, ◌||◌, true≢false}
 use mathlib.Core.List.{List}
 use mathlib.Core.Option.{Option, none, some}
+use Rattle.std.proofs.Common.{Some, None}
+use Rattle.std.specs.Prelude as std
 use Prim.Native.Nat.{ℕ, ◌<◌, ◌≤◌}
 use native.Mathlib.Omega.{arith}
 use lib.ListN.{get_or, length}
 use lib.Seq.{get_or-take}
-use borrow.Author.Tests.{eq-eqb, ne_eqb}
 use Rattle.meaning.specs.Limits.{max_face_nodes, metavariable_count}
 use Rattle.meaning.specs.Basics.{or_none, ◌∈◌}
 use Rattle.meaning.specs.Term.{NamedTerm, Term}
@@ -28,18 +29,15 @@ use Rattle.meaning.proofs.Proper.{accepted_proper, applied_functions, plain_occu
 use Rattle.meaning.proofs.TextLaws.{copied, value_copied, written_value_lem}
 use Rattle.masks.specs.Sets.{mask, masks_in}
 use Rattle.masks.specs.declared.NodeSet.{NodeSet}
-use Rattle.masks.proofs.Words.{masks_at}
+use Rattle.masks.proofs.Words.{masks_at, no_nodes}
 use Rattle.tokens.specs.Token.{expression_tokens, pattern_tokens}
 use Rattle.tokens.specs.Key.{at}
-use Rattle.tokens.proofs.KeyLaws.{stands_inside}
-use Rattle.tokens.proofs.ProblemTokens.{expression_table_lem}
-use Rattle.meaning.specs.Read.{in_expression}
 use Rattle.metavariables.specs.Survey.{Surveyed, count, has}
 use Rattle.metavariables.specs.declared.Occurring.{Occurring}
 use Rattle.metavariables.proofs.SurveyMeaning.{survey_functions, survey_plain}
 use Rattle.faces.specs.First.{listed}
 use Rattle.faces.specs.declared.first.Firsts.{Firsts}
-use Rattle.sources.specs.Demand.{open_node}
+use Rattle.sources.specs.Demand.{first_of}
 use Rattle.sources.specs.declared.Sources.{Sources}
 use Rattle.sources.proofs.KeptMeaning.{node_of}
 use Rattle.numbers.specs.Tests.{Tests}
@@ -49,16 +47,15 @@ use Rattle.fit.proofs.Functions.{function_at, laid_own}
 use Rattle.copying.specs.Copied as copying
 use Rattle.copying.specs.Copied.{TermIn}
 use Rattle.copying.proofs.CopiedMeaning.{copied_choice, expression_in}
-use Rattle.composing.specs.Entries.{Denotes, DenotesAll, Planned, body_at, entry_at, value_at}
+use Rattle.composing.specs.Entries.{Denotes, DenotesAll, Planned, body_at, entry_at, value_at, value_from}
 use Rattle.composing.specs.declared.entry.Plan.{Plan}
 use Rattle.composing.specs.declared.entry.Entry.{Entry}
-use Rattle.composing.specs.declared.entry.Entry.TheVariants as entries
 use Rattle.composing.proofs.FieldLaws.{entry_or}
 
 module _ (p : Problem) (tests : Tests) (ps es ns : List ℕ) (o : Occurring) (firsts : Firsts) (l : Laid p tests ps es ns o.functions firsts)
     (survey : Surveyed (pattern_tokens p) o) (r : Row) (i : r ∈ rows p) (solved : solves p r ≡ true) (sets : List NodeSet)
     (masks : masks_in sets ≡ masks_of r) (kept : Sources)
-    (source : (m : ℕ) → m < metavariable_count → at kept.nodes m ≡ node_of (lookup m (sources p r))) where
+    (source : (m : ℕ) → m < metavariable_count → first_of kept.nodes m ≡ node_of (lookup m (sources p r))) where
   abbrev pub plan : Plan
   plan = record { occurring = o; nodes = firsts.nodes; row = sets; sources = kept }
 
@@ -100,12 +97,12 @@ module _ (p : Problem) (tests : Tests) (ps es ns : List ℕ) (o : Occurring) (fi
         choose_true (written_body p r m) (written_value p (lookup m (sources p r))) e
         ∙ ap (λ (n : ℕ). body (punch_term marks (term_at p n))) node
 
-    body_denotes : Denotes (expression_tokens p) (body_at plan k) (entry_of p r m)
+    body_denotes : Denotes (expression_tokens p) (Some (body_at plan k)) (entry_of p r m)
     unfolding body_at
     body_denotes =
         let a = function_at p tests ns o.functions firsts own r i k m (rank_at_lem p o.functions l.set m (function_in_lem m e)) in
         let c = copied p (at firsts.nodes k) (face_of p m) a.face in
-        let same : mask (get_or sets k (record { w0 = 0; w1 = 0; w2 = 0; w3 = 0 })) ≡ mask_of max_face_nodes marks =
+        let same : mask (get_or sets k (no_nodes)) ≡ mask_of max_face_nodes marks =
         masks_at sets k ∙ ap (λ (row : List ℕ). at row k) masks ∙ a.mask in
         let few : length marks ≤ max_face_nodes = omega (arith, a.choice.long, a.small) in (
           face,
@@ -130,26 +127,21 @@ module _ (p : Problem) (tests : Tests) (ps es ns : List ℕ) (o : Occurring) (fi
     value_entry_lem : entry_of p r m ≡ written_value p (lookup m (sources p r))
     value_entry_lem = written_value_lem p r l.accepted solved m no_function
 
-    value_denotes : Denotes (expression_tokens p) (value_at plan m) (entry_of p r m)
+    value_denotes : Denotes (expression_tokens p) (Some (value_at plan m)) (entry_of p r m)
     unfolding value_at
     value_denotes = go (lookup m (sources p r)) refl
       where
-        go : (x : Option Source) → lookup m (sources p r) ≡ x → Denotes (expression_tokens p) (value_at plan m) (entry_of p r m)
+        go : (x : Option Source) → lookup m (sources p r) ≡ x → Denotes (expression_tokens p) (Some (value_at plan m)) (entry_of p r m)
         go none e =
-            subst (λ (y : Entry). Denotes (expression_tokens p) y (entry_of p r m))
-            (sym (choose_true _ _ (eq-eqb (at kept.nodes m) open_node (source m small ∙ ap node_of e))))
-            (value_entry_lem ∙ ap (written_value p) e)
+            subst (λ (y : std.Option ℕ). Denotes (expression_tokens p) (Some (value_from y)) (entry_of p r m))
+            (sym (source m small ∙ ap node_of e)) (value_entry_lem ∙ ap (written_value p) e)
         go (some s) e =
-            let node : at kept.nodes m ≡ s.node = source m small ∙ ap node_of e in
             let there : TermIn (expression_tokens p) s.node (term_at p s.node) =
             expression_in p l.accepted.within s.node (term_at p s.node)
             (value_copied p r l.accepted solved m s (plain_occurs p (accepted_proper p l.accepted) m
             (is_in_mem m (plain (patterns p)) q)) no_function (is_in_mem m (plain (patterns p)) q) e).1.there in
-            let inside = stands_inside there.levels in_expression (expression_tokens p) s.node there.scope (term_at p s.node)
-            there.held there.stands in
-            let few = (expression_table_lem p l.accepted.within).small in
-            subst (λ (y : Entry). Denotes (expression_tokens p) y (entry_of p r m))
-            (sym (choose_false _ _ (ne_eqb (at kept.nodes m) open_node (λ z. omega (arith, inside.starts))) ∙ ap entries.Value node))
+            subst (λ (y : std.Option ℕ). Denotes (expression_tokens p) (Some (value_from y)) (entry_of p r m))
+            (sym (source m small ∙ ap node_of e))
             (term_at p s.node, there, value_entry_lem ∙ ap (written_value p) e)
 
   -- THE PLAN DENOTES THE ENTRIES OF THE TEXT
@@ -165,22 +157,22 @@ module _ (p : Problem) (tests : Tests) (ps es ns : List ℕ) (o : Occurring) (fi
       told_plain : has o.plain m ≡ is_plain p m
       told_plain = survey_plain p l.accepted.within o survey m small
 
-      moved : (x : Entry) (e : meant.Entry NamedTerm) → entry_at plan m ≡ x → entry_or p r m ≡ e → Denotes (expression_tokens p) x e
+      moved : (x : std.Option Entry) (e : meant.Entry NamedTerm) → entry_at plan m ≡ x → entry_or p r m ≡ e → Denotes (expression_tokens p) x e
           → Denotes (expression_tokens p) (entry_at plan m) (entry_or p r m)
       moved x e a b d =
-          subst (λ (y : Entry). Denotes (expression_tokens p) y (entry_or p r m)) (sym a) (subst (Denotes (expression_tokens p) x) (sym b) d)
+          subst (λ (y : std.Option Entry). Denotes (expression_tokens p) y (entry_or p r m)) (sym a) (subst (Denotes (expression_tokens p) x) (sym b) d)
 
       as_function : is_function p m ≡ true → Denotes (expression_tokens p) (entry_at plan m) (entry_or p r m)
       as_function f =
-          moved (body_at plan (count m o.functions)) (entry_of p r m) (choose_true _ _ (told_function ∙ f))
+          moved (Some (body_at plan (count m o.functions))) (entry_of p r m) (choose_true _ _ (told_function ∙ f))
           (choose_true _ _ (ap (λ (b : Bool). b || is_plain p m) f)) (body_denotes m f)
 
       as_plain : is_function p m ≡ false → is_plain p m ≡ true → Denotes (expression_tokens p) (entry_at plan m) (entry_or p r m)
       as_plain f q =
-          moved (value_at plan m) (entry_of p r m) (choose_false _ _ (told_function ∙ f) ∙ choose_true _ _ (told_plain ∙ q))
+          moved (Some (value_at plan m)) (entry_of p r m) (choose_false _ _ (told_function ∙ f) ∙ choose_true _ _ (told_plain ∙ q))
           (choose_true _ _ (ap₂ (λ (a b : Bool). a || b) f q)) (value_denotes m small f q)
 
       as_absent : is_function p m ≡ false → is_plain p m ≡ false → Denotes (expression_tokens p) (entry_at plan m) (entry_or p r m)
       as_absent f q =
-          moved entries.Absent absent (choose_false _ _ (told_function ∙ f) ∙ choose_false _ _ (told_plain ∙ q))
+          moved None absent (choose_false _ _ (told_function ∙ f) ∙ choose_false _ _ (told_plain ∙ q))
           (choose_false _ _ (ap₂ (λ (a b : Bool). a || b) f q)) refl

@@ -5,7 +5,7 @@ use Rattle.bodies.proofs.ClosedLaws.{Testing}
 use Rattle.bodies.proofs.body_closed.Given as goal
 
 abbrev pub invariant-loop-i : goal.invariant-loop-i
-invariant-loop-i l = Testing l.es l.face (mask l.set) l.n l.d l.i
+invariant-loop-i l = Testing l.tokens l.face (mask l.set) l.n l.d l.i
 
 abbrev pub decreases-loop-i : goal.decreases-loop-i
 decreases-loop-i l = l.n - l.i

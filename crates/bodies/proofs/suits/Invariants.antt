@@ -6,7 +6,7 @@ use Rattle.bodies.proofs.SuitsLaws.{Walking}
 use Rattle.bodies.proofs.suits.Given as goal
 
 abbrev pub invariant-loop-i : goal.invariant-loop-i
-invariant-loop-i l = Walking (told l.ns) l.es l.face l.faced (mask l.set) l.n l.d l.e l.low l.i l.j
+invariant-loop-i l = Walking (told l.nodes.numbers.now) l.nodes.tokens.now l.face l.faced (mask l.set) l.n l.d l.e l.low l.i l.j
 
 abbrev pub decreases-loop-i : goal.decreases-loop-i
 decreases-loop-i l = l.n - l.i

@@ -1,18 +1,15 @@
 -- `check` meets its contract: the problem is accepted, and the text checked.
-use Rattle.std.proofs.Common.{[]}
-use Rattle.accept.proofs.AcceptanceLaws.{are_bytes_lem}
-use Rattle.checking.proofs.CheckLaws.{check_accepted, check_ground, check_refused}
+use Rattle.std.proofs.lemmas.Result.{err_from_is_err_and}
+use Rattle.checking.proofs.CheckLaws.{accepted_ground, check_accepted, check_refused}
 use Rattle.checking.proofs.check.Goals as goal
 
-pub check_text-requires-clause-ground : goal.check_text-requires-clause-ground
-check_text-requires-clause-ground c =
-    check_ground _ [] _ _ _ _ _ _ c.accept-verdict.ensures (are_bytes_lem c.args.problem.now (λ i. (c.type_inv.problem i).fits)) _
-    c.in-Accepted.is
+pub check_text-requires : goal.check_text-requires
+check_text-requires c = accepted_ground _ _ c.in_ok-standing.ensures
 
-pub returns-in-Refused : goal.returns-in-Refused
-returns-in-Refused c = check_refused _ _ _ _ _ _ _ _ c.accept-verdict.ensures _ c.in-Refused.is
+pub returns-in_err-standing : goal.returns-in_err-standing
+returns-in_err-standing c =
+    let p = err_from_is_err_and c.from_residual.result c.from_residual.ensures.1 in
+    rw (p.1, p.2) (check_refused _ _ _ c.in_err-standing.ensures)
 
-pub returns-in-Accepted : goal.returns-in-Accepted
-returns-in-Accepted c =
-    check_accepted _ _ _ _ _ _ _ _ c.accept-verdict.ensures (are_bytes_lem c.args.problem.now (λ i. (c.type_inv.problem i).fits)) _
-    c.in-Accepted.is _ c.check_text.ensures
+pub returns : goal.returns
+returns c = check_accepted _ _ _ c.in_ok-standing.ensures _ c.check_text.ensures

@@ -7,7 +7,4 @@ use Rattle.masks.specs.Sets.{nodes}
 use Rattle.choosing.proofs.last.Given as goal
 
 abbrev pub invariant-loop-i : goal.invariant-loop-i
-invariant-loop-i l = (l.i ≤ l.n) × ((k : ℕ) → l.i ≤ k → get_or (nodes l.set) k false ≡ false)
-
-abbrev pub decreases-loop-i : goal.decreases-loop-i
-decreases-loop-i l = l.i
+invariant-loop-i l = (k : ℕ) → l.i ≤ k → get_or (nodes l.set) k false ≡ false

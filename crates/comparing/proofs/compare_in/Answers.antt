@@ -1,30 +1,15 @@
--- `compare_in` meets its contract.
-use Prim.Native.Nat.{ℕ, ◌<◌}
-use mathlib.Core.List.{List}
-use native.Mathlib.Omega.{arith}
-use Rattle.meaning.specs.Basics.{All}
-use Rattle.accept.proofs.AcceptanceLaws.{are_bytes_lem}
-use Rattle.comparing.proofs.Answering.{answers_refused, table_inside, table_ready, answers_compared}
+-- `compare_in` meets its contract: what reading and checking lends is what is compared.
+use Rattle.std.proofs.lemmas.Result.{err_from_is_err_and}
+use Rattle.comparing.proofs.Answering.{answers_refused, lent_nested, answers_compared}
 use Rattle.comparing.proofs.compare_in.Goals as goal
 
+pub returns-in_err-standing : goal.returns-in_err-standing
+returns-in_err-standing c =
+    let p = err_from_is_err_and c.from_residual.result c.from_residual.ensures.1 in
+    rw (p.1, p.2) (answers_refused _ _ c.in_err-standing.ensures c.args.a c.args.b)
+
 pub compare_present-requires : goal.compare_present-requires
-compare_present-requires c =
-    let s : List ℕ = c.args.problem.now in
-    let bytes : All (λ b. b < 256) s = are_bytes_lem s (λ i. omega (arith, c.type_inv.problem i)) in
-    record {
-      front = table_inside s _ _ _ _ _ bytes _ c.accept.ensures c.in-Accepted.standing c.in-Accepted.is;
-      nested = table_ready s _ _ _ _ _ bytes _ c.accept.ensures c.in-Accepted.standing c.in-Accepted.is;
-    }
+compare_present-requires c = lent_nested _ _ c.in_ok-standing.ensures
 
-pub returns-in-Refused : goal.returns-in-Refused
-returns-in-Refused c =
-    let s : List ℕ = c.args.problem.now in
-    let bytes : All (λ b. b < 256) s = are_bytes_lem s (λ i. omega (arith, c.type_inv.problem i)) in
-    answers_refused s _ _ _ _ _ bytes _ c.accept.ensures _ _ _ c.in-Refused.is
-
-pub returns-in-Accepted : goal.returns-in-Accepted
-returns-in-Accepted c =
-    let s : List ℕ = c.args.problem.now in
-    let bytes : All (λ b. b < 256) s = are_bytes_lem s (λ i. omega (arith, c.type_inv.problem i)) in
-    answers_compared s _ _ _ _ _ bytes _ c.accept.ensures c.in-Accepted.standing c.in-Accepted.is _ _ _
-    c.compare_present.ensures
+pub returns : goal.returns
+returns c = answers_compared _ _ c.in_ok-standing.ensures _ _ _ c.compare_present.ensures

@@ -1,32 +1,27 @@
--- `number_in` meets its contract.
-use Prim.Native.Nat.{ℕ, ◌<◌}
-use mathlib.Core.List.{List}
+-- `number_in` meets its contract: what reading and checking lends is what is numbered.
 use native.Mathlib.Omega.{arith}
-use Rattle.meaning.specs.Basics.{All}
-use Rattle.accept.proofs.AcceptanceLaws.{are_bytes_lem}
-use Rattle.comparing.proofs.Answering.{numbers_refused, table_inside, table_numbers, table_short, answers_numbered}
+use Prim.Native.Nat.{ℕ}
+use lib.ListN.{length-replicate}
+use Rattle.std.proofs.lemmas.Result.{err_from_is_err_and}
+use Rattle.table.specs.Whole.{table_room}
+use Rattle.comparing.proofs.Answering.{numbers_refused, lent_numerable, lent_short, answers_numbered}
 use Rattle.comparing.proofs.number_in.Goals as goal
 
-pub number_present-requires : goal.number_present-requires
-number_present-requires c =
-    let s : List ℕ = c.args.problem.now in
-    let bytes : All (λ b. b < 256) s = are_bytes_lem s (λ i. omega (arith, c.type_inv.problem i)) in
-    let short = table_short s _ _ _ _ _ bytes _ c.accept.ensures c.in-Accepted.standing c.in-Accepted.is in record {
-      front = table_inside s _ _ _ _ _ bytes _ c.accept.ensures c.in-Accepted.standing c.in-Accepted.is;
-      numerable = table_numbers s _ _ _ _ _ bytes _ c.accept.ensures c.in-Accepted.standing c.in-Accepted.is;
-      room = (short, omega (arith, c.requires));
-    }
+pub returns-in_err-lent : goal.returns-in_err-lent
+returns-in_err-lent c =
+    let p = err_from_is_err_and c.from_residual.result c.from_residual.ensures.1 in
+    rw (p.1, p.2) (numbers_refused _ _ c.in_err-lent.ensures c.args.ns.now)
 
-pub returns-in-Refused : goal.returns-in-Refused
-returns-in-Refused c =
-    let s : List ℕ = c.args.problem.now in
-    let bytes : All (λ b. b < 256) s = are_bytes_lem s (λ i. omega (arith, c.type_inv.problem i)) in
-    numbers_refused s _ _ _ _ _ bytes _ c.accept.ensures _ _ c.in-Refused.is
+pub number-requires : goal.number-requires
+number-requires c = (
+  lent_numerable _ _ c.in_ok-lent.ensures,
+  let short = lent_short _ _ c.in_ok-lent.ensures in
+      record {
+        for_numbers = omega (arith, c.requires, short);
+        for_links = omega (arith, length-replicate {A = ℕ} table_room 0, short);
+      },
+)
 
-pub returns-in-Accepted : goal.returns-in-Accepted
-returns-in-Accepted c =
-    let s : List ℕ = c.args.problem.now in
-    let bytes : All (λ b. b < 256) s = are_bytes_lem s (λ i. omega (arith, c.type_inv.problem i)) in
-    let made = c.number_present in
-    answers_numbered s _ _ _ _ _ bytes _ c.accept.ensures c.in-Accepted.standing c.in-Accepted.is _ _
-    (omega (arith, c.requires, made.auto.ns)) made.ensures
+pub returns : goal.returns
+returns c =
+    answers_numbered _ _ c.in_ok-lent.ensures _ (omega (arith, c.requires, c.number.auto.ns)) c.number.ensures

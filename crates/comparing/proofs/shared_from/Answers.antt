@@ -9,13 +9,11 @@ overflow_add-next c = omega (arith, c.size.ensures, c.requires.nested.ends c.arg
 
 pub loop-next-init : goal.loop-next-init
 loop-next-init c =
-    passed_first c.args.t.now c.requires.nested c.args.a c.args.b c.requires.in_order c.requires.second_in c.depth-shared.result c.size.result
-    c.depth-shared.ensures c.size.ensures
+    passed_first _ c.requires.nested _ _ c.requires.in_order c.requires.second_in _ _ c.depth-shared.ensures c.size.ensures
 
 pub returns-then-shared-eq0 : goal.returns-then-shared-eq0
 returns-then-shared-eq0 c =
-    let l = c.loop-next in
-    passed_none c.args.t.now c.requires.nested c.args.a c.args.b c.requires.in_order c.requires.second_in l.shared l.next l.invariant c.if-shared-eq0.true
+    passed_none _ c.requires.nested _ _ c.requires.in_order c.requires.second_in _ _ c.loop-next.invariant c.if-shared-eq0.true
 
 pub overflow_add-next-in-loop-next : goal.overflow_add-next-in-loop-next
 overflow_add-next-in-loop-next c =
@@ -27,12 +25,9 @@ loop-next-smaller c =
 
 pub loop-next-preserved : goal.loop-next-preserved
 loop-next-preserved c =
-    let l = c.loop-next in
-    passed_next c.args.t.now c.requires.nested c.args.a c.args.b c.requires.in_order c.requires.second_in l.shared l.next l.invariant
-    c.least-shared.result c.depth-d.result c.size-in-loop-next.result c.loop-next-test.true
-    c.least-shared.ensures c.depth-d.ensures c.size-in-loop-next.ensures
+    passed_next _ c.requires.nested _ _ c.requires.in_order c.requires.second_in _ _ c.loop-next.invariant _ _ _ c.loop-next-test.true
+    c.min-shared.ensures c.depth-d.ensures c.size-in-loop-next.ensures
 
 pub returns : goal.returns
 returns c =
-    let l = c.loop-next in
-    passed_all c.args.t.now c.requires.nested c.args.a c.args.b c.requires.in_order c.requires.second_in l.shared l.next l.invariant c.loop-next-test.false
+    passed_all _ c.requires.nested _ _ c.requires.in_order c.requires.second_in _ _ c.loop-next.invariant c.loop-next-test.false

@@ -1,20 +1,20 @@
 -- `copy_term` and `copy_terms`, which call each other, meet their contracts.
-use mathlib.Core.Path.{refl, sym, ◌∙◌}
+use mathlib.Core.Path.{refl, sym}
 use native.Mathlib.Omega.{arith}
 use borrow.Author.Rules.{rules}
 use borrow.Rule.Slice.PartMut.{same_len_mid}
 use Rattle.copying.proofs.SpanLaws.{term_inside}
-use Rattle.copying.proofs.CopyLaws.{copying_begins, copying_ends, copying_goes, hole_room, inner_copies, inner_less}
+use Rattle.copying.proofs.CopyLaws.{copying_ends, copying_goes, hole_room, inner_copies, inner_less}
 use Rattle.copying.proofs.CopyLaws.{inner_room, next_copies, next_less, next_nodes, next_short, node_room, term_copied, term_hole}
 use Rattle.copying.proofs.CopyLaws.{written_inside}
 use Rattle.copying.proofs.+copy_term_copy_terms.Goals as goal
 
 -- `copy_term`: a hole is written
 pub copy_term-write_hole-requires : goal.copy_term-write_hole-requires
-copy_term-write_hole-requires t c = hole_room c.requires (sym c.has.ensures ∙ c.if-has.true)
+copy_term-write_hole-requires t c = hole_room c.requires (sym c.if-has.ensures)
 
 pub copy_term-returns-then-has : goal.copy_term-returns-then-has
-copy_term-returns-then-has t c = term_hole (sym c.has.ensures ∙ c.if-has.true) c.write_hole.ensures
+copy_term-returns-then-has t c = term_hole (sym c.if-has.ensures) c.write_hole.ensures
 
 -- the node is no hole
 pub copy_term-offset_bounds-es-at : goal.copy_term-offset_bounds-es-at
@@ -25,10 +25,7 @@ copy_term-bounds-es-at t c = (term_inside c.requires.there).starts
 
 pub copy_term-overflow_add-inner : goal.copy_term-overflow_add-inner
 copy_term-overflow_add-inner t c =
-    omega (arith, inner_room c.requires (sym c.has.ensures ∙ c.if-has.false) c.fixed_length-inner.ensures)
-
-pub copy_term-overflow_add-end : goal.copy_term-overflow_add-end
-copy_term-overflow_add-end t c = omega (arith, c.size.ensures, (term_inside c.requires.there).ends)
+    omega (arith, inner_room c.requires (sym c.if-has.ensures) c.fixed_length-inner.ensures)
 
 pub copy_term-overflow_add-at : goal.copy_term-overflow_add-at
 copy_term-overflow_add-at t c = omega (arith, (term_inside c.requires.there).starts)
@@ -36,34 +33,31 @@ copy_term-overflow_add-at t c = omega (arith, (term_inside c.requires.there).sta
 -- room for its head and fixed part
 pub copy_term-slice_bounds-copy_terms-count : goal.copy_term-slice_bounds-copy_terms-count
 copy_term-slice_bounds-copy_terms-count t c =
-    inner_room c.requires (sym c.has.ensures ∙ c.if-has.false) c.fixed_length-inner.ensures
+    inner_room c.requires (sym c.if-has.ensures) c.fixed_length-inner.ensures
 
 pub copy_term-slice_bounds-copy_terms-start : goal.copy_term-slice_bounds-copy_terms-start
 copy_term-slice_bounds-copy_terms-start t c =
-    inner_room c.requires (sym c.has.ensures ∙ c.if-has.false) c.fixed_length-inner.ensures
+    inner_room c.requires (sym c.if-has.ensures) c.fixed_length-inner.ensures
 
 pub copy_term-copy_terms-n-requires : goal.copy_term-copy_terms-n-requires
 copy_term-copy_terms-n-requires t c =
-    let e = sym c.has.ensures ∙ c.if-has.false in (
+    let e = sym c.if-has.ensures in (
       omega (arith, inner_less c.requires e c.size.ensures, c.decreases),
       inner_copies c.requires e c.size.ensures c.args.out.now refl c.fixed_length-inner.ensures,
     )
 
 pub copy_term-write_node-requires : goal.copy_term-write_node-requires
 copy_term-write_node-requires t c =
-    node_room c.requires (sym c.has.ensures ∙ c.if-has.false) c.size.ensures _ (same_len_mid _ _ _ _ c.copy_terms-n.auto.out)
+    node_room c.requires (sym c.if-has.ensures) c.size.ensures _ (same_len_mid _ _ _ _ c.copy_terms-n.auto.out)
     c.copy_terms-n.ensures
 
 pub copy_term-returns : goal.copy_term-returns
 copy_term-returns t c =
-    let e = sym c.has.ensures ∙ c.if-has.false in
+    let e = sym c.if-has.ensures in
     term_copied c.requires.begins e c.fixed_length-inner.ensures c.size.ensures
     (inner_room c.requires e c.fixed_length-inner.ensures) c.copy_terms-n.ensures c.write_node.ensures
 
 -- `copy_terms`
-pub copy_terms-loop-next-init : goal.copy_terms-loop-next-init
-copy_terms-loop-next-init t c = copying_begins
-
 -- what is written lies in the buffer
 pub copy_terms-slice_bounds-copy_term-count : goal.copy_terms-slice_bounds-copy_term-count
 copy_terms-slice_bounds-copy_term-count t c = written_inside c.loop-next.invariant c.requires
@@ -91,10 +85,6 @@ copy_terms-offset_bounds-es-next t c =
 
 pub copy_terms-bounds-es-next : goal.copy_terms-bounds-es-next
 copy_terms-bounds-es-next t c = (term_inside (next_copies c.loop-next.invariant c.requires c.loop-next-test.true).there).starts
-
-pub copy_terms-overflow_add-next : goal.copy_terms-overflow_add-next
-copy_terms-overflow_add-next t c =
-    omega (arith, c.size.ensures, next_nodes c.loop-next.invariant c.requires c.loop-next-test.true, c.ranges.to)
 
 pub copy_terms-loop-next-smaller : goal.copy_terms-loop-next-smaller
 copy_terms-loop-next-smaller t c =

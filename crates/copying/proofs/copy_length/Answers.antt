@@ -1,5 +1,5 @@
 -- `copying::copy_length` meets its contract: the whole term, or what is left of it where its holes save.
-use mathlib.Core.Path.{sym, ◌∙◌}
+use mathlib.Core.Path.{sym}
 use native.Mathlib.Omega.{arith}
 use borrow.Author.Tests.{eqb-true, eqb-false}
 use Rattle.copying.proofs.SpanLaws.{term_inside}
@@ -7,21 +7,23 @@ use Rattle.copying.proofs.BodyLaws.{body_measured, body_saved, empty_measured, h
 use Rattle.copying.proofs.copy_length.Goals as goal
 
 pub returns-then-is_empty : goal.returns-then-is_empty
-returns-then-is_empty c = empty_measured c.term_length-whole.ensures (eqb-true _ 0 (sym c.is_empty.ensures ∙ c.if-is_empty.true))
+returns-then-is_empty c = empty_measured c.term_length-whole.ensures (eqb-true _ 0 (sym c.if-is_empty.ensures))
 
 pub overflow_add-node : goal.overflow_add-node
 overflow_add-node c =
-    let holed = eqb-false _ 0 (sym c.is_empty.ensures ∙ c.if-is_empty.false) in
-    omega (arith, (term_inside (hole_measurable c.requires holed c.lowest.ensures).there).starts)
+    omega (
+      arith,
+      (term_inside (hole_measurable c.requires (eqb-false _ 0 (sym c.if-is_empty.ensures)) c.lowest.ensures).there).starts,
+    )
 
 pub term_length-hole-requires : goal.term_length-hole-requires
 term_length-hole-requires c =
     hole_measurable c.requires
-    (eqb-false _ 0 (sym c.is_empty.ensures ∙ c.if-is_empty.false)) c.lowest.ensures
+    (eqb-false _ 0 (sym c.if-is_empty.ensures)) c.lowest.ensures
 
 pub overflow_sub-result : goal.overflow_sub-result
 overflow_sub-result c =
-    hole_head c.requires.face.there c.requires.chosen (eqb-false _ 0 (sym c.is_empty.ensures ∙ c.if-is_empty.false))
+    hole_head c.requires.face.there c.requires.chosen (eqb-false _ 0 (sym c.if-is_empty.ensures))
     c.term_length-whole.ensures c.lowest.ensures c.term_length-hole.ensures c.holes.ensures
 
 -- What the holes save is less than the whole
@@ -30,7 +32,7 @@ overflow_mul-result c =
     omega (
       arith,
       body_saved c.requires.face.there c.requires.chosen
-          (eqb-false _ 0 (sym c.is_empty.ensures ∙ c.if-is_empty.false)) c.term_length-whole.ensures
+          (eqb-false _ 0 (sym c.if-is_empty.ensures)) c.term_length-whole.ensures
           c.lowest.ensures c.term_length-hole.ensures c.holes.ensures,
     )
 
@@ -39,12 +41,12 @@ overflow_sub-result-2 c =
     omega (
       arith,
       body_saved c.requires.face.there c.requires.chosen
-          (eqb-false _ 0 (sym c.is_empty.ensures ∙ c.if-is_empty.false)) c.term_length-whole.ensures
+          (eqb-false _ 0 (sym c.if-is_empty.ensures)) c.term_length-whole.ensures
           c.lowest.ensures c.term_length-hole.ensures c.holes.ensures,
     )
 
 pub returns : goal.returns
 returns c =
     body_measured c.term_length-whole.ensures
-    (eqb-false _ 0 (sym c.is_empty.ensures ∙ c.if-is_empty.false)) c.lowest.ensures
+    (eqb-false _ 0 (sym c.if-is_empty.ensures)) c.lowest.ensures
     c.term_length-hole.ensures c.holes.ensures

@@ -3,7 +3,6 @@ use mathlib.Core.Path.{refl}
 use native.Mathlib.Omega.{arith}
 use Rattle.copying.proofs.FixedLaws.{fixed_symbol, fixed_variable, fixed_binder, fixed_none, symbol_long, number_long, numbers_long}
 use Rattle.copying.proofs.WriteLaws.{symbol_wrote, number_wrote, numbers_wrote, none_wrote}
-use borrow.Author.Rules.{rules}
 use Rattle.copying.proofs.write_fixed.Goals as goal
 
 pub write_symbol-requires : goal.write_symbol-requires
@@ -12,17 +11,10 @@ write_symbol-requires c =
     omega (arith, symbol_long _ _ fixed c.symbol.ensures, c.requires)
 
 pub write_word-requires : goal.write_word-requires
-write_word-requires c = (
-  search rules,
-  omega (arith, number_long _ (fixed_variable _ _ c.tag.ensures c.in-2.is), c.requires),
-)
+write_word-requires c = omega (arith, number_long _ (fixed_variable _ _ c.tag.ensures c.in-2.is), c.requires)
 
 pub write_words-requires : goal.write_words-requires
-write_words-requires c = (
-  search rules,
-  search rules,
-  omega (arith, numbers_long _ (fixed_binder _ _ c.tag.ensures c.in-4.is), c.requires),
-)
+write_words-requires c = omega (arith, numbers_long _ (fixed_binder _ _ c.tag.ensures c.in-4.is), c.requires)
 
 pub returns-in-1 : goal.returns-in-1
 returns-in-1 c =
@@ -41,5 +33,4 @@ returns-in-4 c =
 
 pub returns-in_default : goal.returns-in_default
 returns-in_default c =
-    let r = c.in_default.in_default-own.rest in
-    none_wrote c.args.x c.args.out.now _ (fixed_none _ _ c.tag.ensures r.0.0.1 r.0.1 r.1) refl
+    none_wrote c.args.x c.args.out.now _ (fixed_none _ _ c.tag.ensures (λ e. omega arith) (λ e. omega arith) (λ e. omega arith)) refl

@@ -1,11 +1,7 @@
--- `copying::write_head` meets its contract: three stores at the front.
+-- `copying::write_head` meets its contract: the length goes into the part after the tag.
 use native.Mathlib.Omega.{arith}
-use lib.ListN.{length-set}
-use Rattle.copying.proofs.WriteLaws.{three_bytes}
+use Rattle.copying.proofs.WriteLaws.{head_wrote}
 use Rattle.copying.proofs.write_head.Goals as goal
 
-pub bounds-out-1 : goal.bounds-out-1
-bounds-out-1 c = simp length-set (omega (arith, c.requires.room))
-
 pub returns : goal.returns
-returns c = three_bytes c.args.out.now c.args.tag c.args.length c.requires.room
+returns c = head_wrote c.args.tag c.args.length c.args.out.now _ (omega (arith, c.requires.room)) c.write_word.ensures

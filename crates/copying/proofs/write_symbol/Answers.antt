@@ -2,17 +2,30 @@
 use native.Mathlib.Omega.{arith}
 use Rattle.meaning.specs.Limits.{first_wide}
 use Rattle.meaning.proofs.ByteLaws.{narrow_two, wide_four}
-use Rattle.copying.proofs.WriteLaws.{narrow_wrote, wide_wrote}
-use borrow.Author.Rules.{rules}
+use mathlib.Core.Path.{ap, ◌∙◌}
+use mathlib.Core.List.{◌++◌}
+use lib.ListN.{drop, length, length-take}
+use Rattle.meaning.specs.Basics.{Bytes}
+use Rattle.copying.proofs.WriteLaws.{four_bytes, narrow_wrote, wide_wrote}
 use Rattle.copying.proofs.write_symbol.Goals as goal
 
 pub write_word-requires : goal.write_word-requires
 unfolding first_wide
-write_word-requires c = (search rules, omega (arith, narrow_two _ c.if-n-lt-FIRST_WIDE.true))
+write_word-requires c = omega (arith, narrow_two _ c.if-n-lt-FIRST_WIDE.true)
 
-pub write_words-requires : goal.write_words-requires
+pub slice_bounds-copy_from_slice-end : goal.slice_bounds-copy_from_slice-end
 unfolding first_wide
-write_words-requires c = (search rules, search rules, omega (arith, wide_four _ c.if-n-lt-FIRST_WIDE.false))
+slice_bounds-copy_from_slice-end c = omega (arith, wide_four _ c.if-n-lt-FIRST_WIDE.false)
+
+pub slice_bounds-copy_from_slice-end-else-n-lt-FIRST_WIDE : goal.slice_bounds-copy_from_slice-end-else-n-lt-FIRST_WIDE
+unfolding first_wide
+slice_bounds-copy_from_slice-end-else-n-lt-FIRST_WIDE c =
+    simp length-take (omega (arith, wide_four _ c.if-n-lt-FIRST_WIDE.false))
+
+pub copy_from_slice-requires : goal.copy_from_slice-requires
+unfolding first_wide
+copy_from_slice-requires c =
+    simp length-take (omega (arith, wide_four _ c.if-n-lt-FIRST_WIDE.false, ap length c.to_be_bytes.ensures))
 
 pub returns-then-n-lt-FIRST_WIDE : goal.returns-then-n-lt-FIRST_WIDE
 unfolding first_wide
@@ -20,4 +33,7 @@ returns-then-n-lt-FIRST_WIDE c = narrow_wrote _ _ _ c.if-n-lt-FIRST_WIDE.true c.
 
 pub returns-else-n-lt-FIRST_WIDE : goal.returns-else-n-lt-FIRST_WIDE
 unfolding first_wide
-returns-else-n-lt-FIRST_WIDE c = wide_wrote _ _ _ c.if-n-lt-FIRST_WIDE.false c.write_words.ensures
+returns-else-n-lt-FIRST_WIDE c =
+    wide_wrote _ _ _ c.if-n-lt-FIRST_WIDE.false
+    (ap (λ (front : Bytes). front ++ drop 4 c.args.out.now)
+    (c.copy_from_slice.ensures.after ∙ c.to_be_bytes.ensures ∙ four_bytes c.args.x.0 (omega arith)))

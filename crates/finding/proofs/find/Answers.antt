@@ -1,19 +1,14 @@
 -- `find`.
-use native.Mathlib.Omega.{arith}
+use Rattle.std.proofs.Common.{arith}
 use Rattle.accept.proofs.AcceptanceLaws.{are_bytes_lem}
-use Rattle.finding.proofs.FindingLaws.{nothing_found, text_found, never_refused}
+use Rattle.finding.proofs.FindingLaws.{text_found, never_refused}
 use Rattle.finding.proofs.find.Goals as goal
 
-pub returns-in_default : goal.returns-in_default
-returns-in_default c = nothing_found c.search-searched.ensures c.in_default.not-Found
+pub returns-in_err-length-in-Found : goal.returns-in_err-length-in-Found
+returns-in_err-length-in-Found c =
+    never_refused c.at.ensures c.in_ok-searched.searched c.in-Found.is c.in_ok-searched.ensures _
+    (are_bytes_lem c.args.problem.now (λ i. omega (arith, c.type_inv.problem i))) c.requires c.in_err-length-in-Found.ensures
 
-pub returns-in-Wrote : goal.returns-in-Wrote
-returns-in-Wrote c =
-    text_found c.search-searched.ensures c.in-Found.is c.at.ensures
-    c.write-written.result c.in-Wrote.is c.write-written.ensures
-
-pub returns-in_default-written : goal.returns-in_default-written
-returns-in_default-written c =
-    never_refused c.search-searched.ensures c.in-Found.is c.at.ensures
-    c.write-written.result c.in_default-written.is
-    (are_bytes_lem c.args.problem.now (λ i. omega (arith, c.type_inv.problem i))) c.requires c.write-written.ensures
+pub returns-in_ok-length-in-Found : goal.returns-in_ok-length-in-Found
+returns-in_ok-length-in-Found c =
+    record { call = c.in_ok-searched.ensures; text = text_found c.at.ensures c.in-Found.is c.in_ok-length-in-Found.ensures }

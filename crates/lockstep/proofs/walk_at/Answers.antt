@@ -17,14 +17,6 @@ returns-then-j-es c =
     (left_out c.args.ps.now c.args.es.now c.args.span c.requires.inside c.loop-i.i c.loop-i.j c.loop-i-test.true
     c.if-j-es.true)
 
-pub loop-i-smaller-then-is_slot : goal.loop-i-smaller-then-is_slot
-loop-i-smaller-then-is_slot c =
-    omega (
-      arith,
-      c.requires.patterns.counted c.loop-i.i
-          (omega (arith, c.requires.inside, c.loop-i-test.true)),
-    )
-
 pub loop-i-preserved-then-is_slot : goal.loop-i-preserved-then-is_slot
 loop-i-preserved-then-is_slot c =
     let w = walking_face c.args.ps.now c.args.es.now c.args.out.now c.args.span c.requires

@@ -1,11 +1,12 @@
--- `is_outside` meets its contract.
+-- `is_outside` meets its contract: what `contains` tells of the range.
+use mathlib.Core.Path.{ap, ◌∙◌}
+use mathlib.Core.Bool.{not}
 use Rattle.meaning.specs.Limits.{max_face_nodes}
-use Rattle.longest.proofs.WriteLaws.{outside_above, outside_below}
+use Rattle.longest.proofs.WriteLaws.{outside_told}
 use Rattle.longest.proofs.is_outside.Goals as goal
 
-pub returns-then-n-lt1 : goal.returns-then-n-lt1
-returns-then-n-lt1 c = outside_below c.args.n c.if-n-lt1.true
-
-pub returns-else-n-lt1 : goal.returns-else-n-lt1
+pub returns : goal.returns
 unfolding max_face_nodes
-returns-else-n-lt1 c = outside_above c.args.n c.if-n-lt1.false
+returns c =
+    let told = rw (c.new.ensures.start, c.new.ensures.end, c.new.ensures.exhausted) at c.contains.ensures.value in
+    ap not told ∙ outside_told c.args.n

@@ -19,7 +19,7 @@ returns-then-in_word c =
     let here = sym c.in_word.ensures ∙ c.if-in_word.true in
     ap (λ (x : ℕ). marks word_nodes (s.w - x)) c.bit.ensures ∙ marks_leave word_nodes s.w s.k c.ranges.w.fits here
 
-pub returns : goal.returns
-returns c =
+pub returns-else-in_word : goal.returns-else-in_word
+returns-else-in_word c =
     let s = c.args in
     leave_none (marks word_nodes s.w) s.k (sym c.in_word.ensures ∙ c.if-in_word.false)

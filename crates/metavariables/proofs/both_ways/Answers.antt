@@ -1,4 +1,4 @@
--- `survey::both_ways` meets its contract: two sets meet where `&` is not 0.
+-- `both_ways` meets its contract: two sets meet where `&` is not 0.
 use Rattle.metavariables.proofs.SurveyLaws.{meets_code}
 use Rattle.metavariables.proofs.both_ways.Goals as goal
 

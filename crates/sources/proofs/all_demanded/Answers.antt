@@ -1,32 +1,11 @@
--- `all_demanded` meets its contract. The loop's invariant: the demands that are left lead, from what is kept, where all of them lead from
--- the start. The measure is the number of faces left.
-use mathlib.Core.Path.{refl}
-use Rattle.sources.proofs.KeptLaws.{going_reads, going_on, going_fails, going_ends}
+-- `all_demanded` meets its contract: each face leads on.
+use Rattle.sources.proofs.KeptLaws.{going_on}
 use Rattle.sources.proofs.all_demanded.Goals as goal
 
-pub loop-k-init : goal.loop-k-init
-loop-k-init c = record { nodes = c.requires.0; reads = c.requires.1; leads = refl }
-
-pub demanded_at-next-requires : goal.demanded_at-next-requires
-demanded_at-next-requires c = (
-  c.loop-k.invariant.nodes,
-  going_reads c.args.ps.now c.args.ns.now c.args.faces.now _ c.loop-k.k c.loop-k.kept.nodes
-      c.loop-k.invariant c.loop-k-test.true,
-)
-
-pub returns-then-not-next : goal.returns-then-not-next
-returns-then-not-next c =
-    let n = c.demanded_at-next in
-    going_fails c.args.ps.now c.args.ns.now c.args.faces.now _ c.loop-k.k c.loop-k.kept.nodes c.loop-k.invariant
-    c.loop-k-test.true n.result n.ensures c.if-not-next.true
-
-pub loop-k-preserved : goal.loop-k-preserved
-loop-k-preserved c =
-    let n = c.demanded_at-next in
-    going_on c.args.ps.now c.args.ns.now c.args.faces.now _ c.loop-k.k c.loop-k.kept.nodes c.loop-k.invariant
-    c.loop-k-test.true n.result n.ensures c.if-not-next.false
-
-pub returns : goal.returns
-returns c =
-    going_ends c.args.ps.now c.args.ns.now c.args.faces.now _ c.loop-k.k c.loop-k.kept.nodes c.loop-k.invariant
-    c.loop-k-test.false
+pub loop-face-preserved : goal.loop-face-preserved
+loop-face-preserved c =
+    let a = c.args in
+    let l = c.loop-face in
+    let d = c.demanded_at in
+    going_on a.patterns.now a.nodes.numbers.now a.faces.now _ l.face-index l.kept.nodes l.invariant
+    c.loop-face-test.true d.result d.ensures c.in_ok-kept.kept c.in_ok-kept.was

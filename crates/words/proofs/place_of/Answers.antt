@@ -10,19 +10,23 @@ pub returns-then-words-lt-PLACE_WORDS : goal.returns-then-words-lt-PLACE_WORDS
 unfolding max_functions
 returns-then-words-lt-PLACE_WORDS c = c.nowhere.ensures ∙ sym (too_few _ c.if-words-lt-PLACE_WORDS.true)
 
-pub sets_in-sets-requires : goal.sets_in-sets-requires
+pub sets_in-requires : goal.sets_in-requires
 unfolding max_functions
-sets_in-sets-requires c = search rules
+sets_in-requires c = search rules
+
+pub sets_in-requires-in-1 : goal.sets_in-requires-in-1
+unfolding max_functions
+sets_in-requires-in-1 c = search rules
 
 pub returns-in-0 : goal.returns-in-0
 unfolding max_functions
-returns-in-0 c = row_read _ c.if-words-lt-PLACE_WORDS.false _ c.sets_in-sets.ensures c.in-0.is
+returns-in-0 c = row_read _ c.if-words-lt-PLACE_WORDS.false _ c.sets_in.ensures c.in-0.is
 
 pub returns-in-1 : goal.returns-in-1
 unfolding max_functions
-returns-in-1 c = past_read _ c.if-words-lt-PLACE_WORDS.false _ c.sets_in-sets.ensures c.in-1.is
+returns-in-1 c = past_read _ c.if-words-lt-PLACE_WORDS.false _ c.sets_in-in-1.ensures c.in-1.is
 
 pub returns-in_default : goal.returns-in_default
 unfolding max_functions
 returns-in_default c =
-    c.nowhere-in_default.ensures ∙ sym (other_read _ c.if-words-lt-PLACE_WORDS.false (omega (arith, c.in_default.in_default-own.rest)))
+    c.nowhere-in_default.ensures ∙ sym (other_read _ c.if-words-lt-PLACE_WORDS.false (omega arith))

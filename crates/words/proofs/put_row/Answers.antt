@@ -16,7 +16,7 @@ unfolding max_functions
 loop-k-init c =
     let s = c.args in
     let eight : length s.row ≡ max_functions = search rules in
-    (omega arith, refl, stored_none s.at (masks_in s.row) s.words.now (length-map s.row mask ∙ eight))
+    (refl, stored_none s.at (masks_in s.row) s.words.now (length-map s.row mask ∙ eight))
 
 pub overflow_add-at : goal.overflow_add-at
 unfolding max_functions
@@ -25,10 +25,6 @@ overflow_add-at c = search rules
 pub put_set-requires : goal.put_set-requires
 unfolding max_functions
 put_set-requires c = search rules
-
-pub loop-k-smaller : goal.loop-k-smaller
-unfolding max_functions
-loop-k-smaller c = omega arith
 
 pub loop-k-preserved : goal.loop-k-preserved
 unfolding max_functions
@@ -39,10 +35,9 @@ loop-k-preserved c =
     let eight : length c.args.row ≡ max_functions = search rules in
     let kept : length put.new.words ≡ length loop.words = search rules in
     let here = c.loop-k-test.true in (
-      omega (arith, here),
-      kept ∙ loop.invariant.1,
+      kept ∙ loop.invariant.0,
       stored_more c.args.at (masks_in row) c.args.words.now (length-map row mask ∙ eight) loop.k loop.words put.new.words
-          (omega (arith, here)) c.requires loop.invariant.2
+          (omega (arith, here)) c.requires loop.invariant.1
           (subst (λ (m : ℕ). PutWords (c.args.at + loop.k * word_count) word_count (words_of m) loop.words put.new.words)
           (masks_at row loop.k) put.ensures),
     )
@@ -54,4 +49,4 @@ returns c =
     let row = c.args.row in
     let eight : length c.args.row ≡ max_functions = search rules in
     stored_all c.args.at (masks_in row) c.args.words.now (length-map row mask ∙ eight) loop.k loop.words
-    (omega (arith, c.loop-k-test.false, loop.invariant.0)) loop.invariant.2
+    (omega arith) loop.invariant.1

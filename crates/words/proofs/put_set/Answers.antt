@@ -1,26 +1,21 @@
 -- `put_set` meets its contract.
-use Prim.Native.Nat.{◌<◌, ◌^◌}
-use native.Mathlib.Omega.{arith}
-use lib.ListN.{length-set}
-use Rattle.masks.specs.Sets.{word_nodes}
-use Rattle.words.proofs.WordLaws.{set_put}
 use borrow.Author.Rules.{rules}
+use native.Mathlib.Omega.{arith}
+use mathlib.Core.Path.{◌≡◌}
+use Prim.Native.Nat.{◌+◌, ◌-◌, ◌<◌, ◌^◌}
+use lib.ListN.{length, get_or}
+use Rattle.masks.specs.Sets.{word_count, word_nodes}
+use Rattle.words.proofs.WordLaws.{set_put}
 use Rattle.words.proofs.put_set.Goals as goal
-
-pub bounds-words-at-2 : goal.bounds-words-at-2
-bounds-words-at-2 c = simp length-set (omega (arith, c.requires))
-
-pub bounds-words-at-3 : goal.bounds-words-at-3
-bounds-words-at-3 c = simp length-set (omega (arith, c.requires))
-
-pub bounds-words-at-4 : goal.bounds-words-at-4
-bounds-words-at-4 c = simp length-set (omega (arith, c.requires))
 
 pub returns : goal.returns
 returns c =
     let s = c.args.s in
-    let a : s.w0 < 2 ^ word_nodes = search rules in
-    let b : s.w1 < 2 ^ word_nodes = search rules in
-    let d : s.w2 < 2 ^ word_nodes = search rules in
-    let e : s.w3 < 2 ^ word_nodes = search rules in
-    set_put c.args.words.now c.args.at s c.requires a b d e
+    let at = c.args.at in
+    let four : length s.words ≡ word_count = search rules in
+    let a : get_or s.words 0 0 < 2 ^ word_nodes = search rules in
+    let b : get_or s.words 1 0 < 2 ^ word_nodes = search rules in
+    let d : get_or s.words 2 0 < 2 ^ word_nodes = search rules in
+    let e : get_or s.words 3 0 < 2 ^ word_nodes = search rules in
+    let far : at + word_count - at ≡ word_count = omega arith in
+    rw (far, c.copy_from_slice.ensures.after) (set_put c.args.words.now at s four a b d e)

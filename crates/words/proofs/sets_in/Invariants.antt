@@ -1,6 +1,5 @@
 -- `sets_in` meets its contract. The loop's invariant: the masks of the first k sets are read.
 use mathlib.Core.Path.{◌≡◌}
-use Prim.Native.Nat.{◌-◌, ◌≤◌}
 use lib.ListN.{length, take}
 use Rattle.meaning.specs.Limits.{max_functions}
 use Rattle.masks.specs.Sets.{masks_in}
@@ -9,7 +8,4 @@ use Rattle.words.proofs.sets_in.Given as goal
 
 abbrev pub invariant-loop-k : goal.invariant-loop-k
 invariant-loop-k l =
-    (l.k ≤ max_functions) × (length l.sets ≡ max_functions) × (take l.k (masks_in l.sets) ≡ masks_from l.k l.words)
-
-abbrev pub decreases-loop-k : goal.decreases-loop-k
-decreases-loop-k l = max_functions - l.k
+    (length l.set-items ≡ max_functions) × (take l.k (masks_in l.set-items) ≡ masks_from l.k l.words)

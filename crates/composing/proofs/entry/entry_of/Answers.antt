@@ -13,9 +13,9 @@ returns-then-in_set c =
 pub returns-then-in_set-2 : goal.returns-then-in_set-2
 returns-then-in_set-2 c =
     entry_plain _ _ _ c.in_set.ensures c.if-in_set.false _
-    c.in_set-2.ensures _ c.if-in_set-2.true c.value_of.ensures
+    c.in_set-else-in_set.ensures _ c.if-in_set-2.true c.value_of.ensures
 
-pub returns : goal.returns
-returns c =
-    entry_absent _ _ _ c.in_set.ensures c.if-in_set.false _ c.in_set-2.ensures
+pub returns-else-in_set-2 : goal.returns-else-in_set-2
+returns-else-in_set-2 c =
+    entry_absent _ _ _ c.in_set.ensures c.if-in_set.false _ c.in_set-else-in_set.ensures
     c.if-in_set-2.false

@@ -1,7 +1,6 @@
 -- `write_copied` meets its contract: the term's bytes, then what stands before them.
-use mathlib.Core.Path.{◌∙◌}
 use native.Mathlib.Omega.{arith}
-use Rattle.composing.proofs.TextLaws.{copy_begins, copy_copies, copy_short, copy_written, kept_length, long_after, long_before}
+use Rattle.composing.proofs.TextLaws.{copy_begins, copy_copies, copy_short, copy_written, long_after, long_before}
 use Rattle.composing.proofs.text.write_copied.Goals as goal
 
 pub slice_bounds-copy-count : goal.slice_bounds-copy-count
@@ -49,11 +48,6 @@ overflow_add-result c =
       copy_short c.args.out.now c.requires c.copy-n.new.out c.copy-n.result
           c.copy-n.ensures,
     )
-
-pub shape_of-out : goal.shape_of-out
-shape_of-out c =
-    c.write_head.auto.out ∙ kept_length c.args.out.now c.requires c.copy-n.new.out
-    c.copy-n.result c.copy-n.ensures
 
 pub returns : goal.returns
 returns c = copy_written c.args.out.now c.requires _ _ c.copy-n.ensures c.write_head.ensures

@@ -1,28 +1,22 @@
 -- `write_entry` meets its contract: a law for each kind of entry.
-use Rattle.composing.proofs.TextLaws.{absent_written, body_room_lem, body_written, open_room, open_written, value_room, value_written}
+use mathlib.Core.Path.{ap, ◌∙◌}
+use Rattle.std.proofs.Common.{Some}
+use Rattle.composing.proofs.TextLaws.{open_room, value_room, value_written}
 use Rattle.composing.proofs.text.write_entry.Goals as goal
 
 pub write_open-requires : goal.write_open-requires
-write_open-requires c = open_room c.in-Open.is c.requires
+write_open-requires c =
+    let is = rw c.in-Some-Open.is at c.in-Some-Open.field-0-is in
+    open_room (c.in-Some-Open.is ∙ ap Some is) c.requires
 
 pub write_copied-requires : goal.write_copied-requires
 write_copied-requires c =
-    value_room c.none.ensures c.in-Value.is
+    let is = rw c.in-Some-Value.is at c.in-Some-Value.field-0-is in
+    value_room c.none.ensures (c.in-Some-Value.is ∙ ap Some is)
     c.requires
 
-pub write_copied-requires-in-Body : goal.write_copied-requires-in-Body
-write_copied-requires-in-Body c = body_room_lem c.in-Body.is c.requires
-
-pub returns-in-Absent : goal.returns-in-Absent
-returns-in-Absent c = absent_written c.in-Absent.is
-
-pub returns-in-Open : goal.returns-in-Open
-returns-in-Open c = open_written c.in-Open.is c.write_open.ensures
-
-pub returns-in-Value : goal.returns-in-Value
-returns-in-Value c =
-    value_written c.none.ensures c.in-Value.is
+pub returns-in-Some-Value : goal.returns-in-Some-Value
+returns-in-Some-Value c =
+    let is = rw c.in-Some-Value.is at c.in-Some-Value.field-0-is in
+    value_written c.none.ensures (c.in-Some-Value.is ∙ ap Some is)
     c.write_copied.ensures
-
-pub returns-in-Body : goal.returns-in-Body
-returns-in-Body c = body_written c.in-Body.is c.write_copied-in-Body.ensures

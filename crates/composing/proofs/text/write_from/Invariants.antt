@@ -1,11 +1,6 @@
 -- `write_from` meets its contract. The loop's invariant: the fields before k are written, and with those from k on they are all from m on.
--- The measure is the number of metavariables left.
-use Prim.Native.Nat.{◌-◌}
 use Rattle.composing.proofs.TextLaws.{Writing}
 use Rattle.composing.proofs.text.write_from.Given as goal
 
 abbrev pub invariant-loop-k : goal.invariant-loop-k
 invariant-loop-k l = Writing l.es l.plan l.m l.k l.n l.initial.out l.out
-
-abbrev pub decreases-loop-k : goal.decreases-loop-k
-decreases-loop-k l = 32 - l.k

@@ -26,19 +26,19 @@ pub slice_bounds-over_limit-end : goal.slice_bounds-over_limit-end
 slice_bounds-over_limit-end c =
     let a = c.args in
     let w = c.walk in
-    (found (flat_walk a.ps.now a.es.now) a.out.now w.new.out w.result w.ensures c.in-Faces.n
-    c.in-Faces.is).room
+    (found (flat_walk a.ps.now a.es.now) a.out.now w.new.out w.result w.ensures c.in-Some.n
+    c.in-Some.is).room
 
-pub slice_bounds-over_limit-end-in-Faces : goal.slice_bounds-over_limit-end-in-Faces
-slice_bounds-over_limit-end-in-Faces c =
+pub slice_bounds-over_limit-end-in-Some : goal.slice_bounds-over_limit-end-in-Some
+slice_bounds-over_limit-end-in-Some c =
     let a = c.args in
     let w = c.walk in
-    sym (length-take-le c.in-Faces.n w.new.out
+    sym (length-take-le c.in-Some.n w.new.out
     (found (flat_walk a.ps.now a.es.now) a.out.now w.new.out w.result w.ensures
-    c.in-Faces.n c.in-Faces.is).room)
+    c.in-Some.n c.in-Some.is).room)
 
-pub returns-in-Disagree : goal.returns-in-Disagree
-returns-in-Disagree c =
+pub returns-in-None : goal.returns-in-None
+returns-in-None c =
     let v = c.survey-found in
     let a = c.args in
     let w = c.walk in
@@ -49,7 +49,7 @@ returns-in-Disagree c =
       c.if-function_count-gt-MAX_FUNCTIONS.false,
     ))
     (sym c.both_ways.ensures
-    ∙ c.if-both_ways.false) w.result w.ensures c.in-Disagree.is
+    ∙ c.if-both_ways.false) w.result w.ensures c.in-None.is
 
 pub returns-then-over_limit : goal.returns-then-over_limit
 returns-then-over_limit c =
@@ -64,7 +64,7 @@ returns-then-over_limit c =
     ))
     (sym c.both_ways.ensures
     ∙ c.if-both_ways.false) w.result w.ensures
-    c.in-Faces.n c.in-Faces.is
+    c.in-Some.n c.in-Some.is
     c.over_limit.result c.over_limit.ensures c.if-over_limit.true
 
 pub returns-else-over_limit : goal.returns-else-over_limit
@@ -80,5 +80,5 @@ returns-else-over_limit c =
     ))
     (sym c.both_ways.ensures
     ∙ c.if-both_ways.false) w.result w.ensures
-    c.in-Faces.n c.in-Faces.is
+    c.in-Some.n c.in-Some.is
     c.over_limit.result c.over_limit.ensures c.if-over_limit.false

@@ -1,13 +1,8 @@
--- `first::first_face` meets its contract. The loop's invariant: the first face among those left is the first of all. The measure is the
--- number of faces left.
+-- `first::first_face` meets its contract. The loop's invariant: the first face among those left is the first of all.
 use mathlib.Core.Path.{◌≡◌}
-use Prim.Native.Nat.{◌-◌}
-use lib.ListN.{length, drop}
-use Rattle.faces.specs.First.{first_node}
+use lib.ListN.{drop}
+use Rattle.faces.specs.First.{first_in}
 use Rattle.faces.proofs.first.first_face.Given as goal
 
-abbrev pub invariant-loop-k : goal.invariant-loop-k
-invariant-loop-k l = first_node l.ps (drop l.k l.faces) l.f ≡ first_node l.ps l.faces l.f
-
-abbrev pub decreases-loop-k : goal.decreases-loop-k
-decreases-loop-k l = length l.faces - l.k
+abbrev pub invariant-loop-n : goal.invariant-loop-n
+invariant-loop-n l = first_in l.ps l.f (drop l.n-index l.faces) ≡ first_in l.ps l.f l.faces

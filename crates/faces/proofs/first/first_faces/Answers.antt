@@ -1,5 +1,4 @@
--- `first::first_faces` meets its contract. The loop's invariant: the functions below m have been looked up. The measure is the number of
--- metavariables left.
+-- `first::first_faces` meets its contract. The loop's invariant: the functions below m have been looked up.
 use mathlib.Core.Path.{refl}
 use native.Mathlib.Omega.{arith}
 use Rattle.faces.proofs.FirstLaws.{listing_start, listing_end, firsts_count}

@@ -1,43 +1,41 @@
--- `NodeSet::lowest`: a law for each word.
+-- `NodeSet::lowest`: the first word that is not 0 has it.
 use borrow.Author.Rules.{rules}
-use mathlib.Core.Path.{◌∙◌, ap}
+use mathlib.Core.Path.{◌≡◌, ap}
+use native.Mathlib.Numerals.{add-one}
 use native.Mathlib.Omega.{arith}
-use Prim.Native.Nat.{ℕ, ◌+◌, ◌^◌, ◌<◌}
-use Rattle.masks.proofs.Words.{few_zeros, lowest_first, lowest_second, lowest_third, lowest_fourth}
+use Prim.Native.Nat.{◌^◌, ◌<◌}
+use lib.ListN.{length, get_or}
+use Rattle.masks.specs.Mask.{first}
+use Rattle.masks.specs.Sets.{word_nodes, word_count}
+use Rattle.masks.proofs.Words.{few_zeros, nodes_array, lowest_here, lowest_later, none_left}
 use Rattle.masks.proofs.NodeSet.lowest.Goals as goal
 
-pub returns-then-self-ne0 : goal.returns-then-self-ne0
-returns-then-self-ne0 c =
+pub loop-i-init : goal.loop-i-init
+loop-i-init c =
     let s = c.args.self in
-    let small : s.w0 < 2 ^ 64 = search rules in
-    c.leading.ensures ∙ lowest_first s small c.if-self-ne0.true
+    let four : length s.words ≡ word_count = search rules in
+    omega (arith, ap first (nodes_array s four))
 
 pub overflow_add-result : goal.overflow_add-result
-overflow_add-result c = omega (arith, c.leading-then-self-ne0-2.ensures, few_zeros c.args.self.w1)
+overflow_add-result c =
+    let four : length c.args.self.words ≡ word_count = search rules in
+    omega (arith, c.leading.ensures, few_zeros)
 
-pub returns-then-self-ne0-2 : goal.returns-then-self-ne0-2
-returns-then-self-ne0-2 c =
-    let s = c.args.self in
-    let small : s.w1 < 2 ^ 64 = search rules in
-    ap (λ (n : ℕ). 64 + n) c.leading-then-self-ne0-2.ensures ∙ lowest_second s c.if-self-ne0.false small c.if-self-ne0-2.true
+pub returns-then-w-ne0 : goal.returns-then-w-ne0
+returns-then-w-ne0 c =
+    let ws = c.args.self.words in
+    let four : length ws ≡ word_count = search rules in
+    let small : get_or ws c.loop-i.i 0 < 2 ^ word_nodes = search rules in
+    omega (arith, c.loop-i.invariant, c.leading.ensures, lowest_here ws c.loop-i.i (omega arith) small c.if-w-ne0.true)
 
-pub overflow_add-result-then-self-ne0-3 : goal.overflow_add-result-then-self-ne0-3
-overflow_add-result-then-self-ne0-3 c = omega (arith, c.leading-then-self-ne0-3.ensures, few_zeros c.args.self.w2)
-
-pub returns-then-self-ne0-3 : goal.returns-then-self-ne0-3
-returns-then-self-ne0-3 c =
-    let s = c.args.self in
-    let small : s.w2 < 2 ^ 64 = search rules in
-    ap (λ (n : ℕ). 128 + n) c.leading-then-self-ne0-3.ensures
-    ∙ lowest_third s c.if-self-ne0.false c.if-self-ne0-2.false small
-    c.if-self-ne0-3.true
-
-pub overflow_add-result-2 : goal.overflow_add-result-2
-overflow_add-result-2 c = omega (arith, c.leading-2.ensures, few_zeros c.args.self.w3)
+pub loop-i-preserved : goal.loop-i-preserved
+loop-i-preserved c =
+    let ws = c.args.self.words in
+    let four : length ws ≡ word_count = search rules in
+    rw add-one (omega (arith, c.loop-i.invariant, lowest_later ws c.loop-i.i (omega arith) c.if-w-ne0.false))
 
 pub returns : goal.returns
 returns c =
-    let s = c.args.self in
-    ap (λ (n : ℕ). 192 + n) c.leading-2.ensures
-    ∙ lowest_fourth s c.if-self-ne0.false c.if-self-ne0-2.false
-    c.if-self-ne0-3.false
+    let ws = c.args.self.words in
+    let four : length ws ≡ word_count = search rules in
+    omega (arith, c.loop-i.invariant, none_left ws c.loop-i.i (omega arith))

@@ -18,8 +18,8 @@ returns-then-k-lt-ROOM c =
     set_node s.self _ s.k _ false (omega arith) c.put.ensures
     (c.word_without.ensures ∙ ap (λ (w : ℕ). set (marks word_nodes w) (s.k % 64) false) c.word.ensures)
 
-pub returns : goal.returns
+pub returns-else-k-lt-ROOM : goal.returns-else-k-lt-ROOM
 unfolding leave width
-returns c =
+returns-else-k-lt-ROOM c =
     let s = c.args in
     sym (set_out (nodes s.self) s.k false (omega (arith, length_marks width (mask s.self))))

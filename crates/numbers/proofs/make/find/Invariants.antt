@@ -1,4 +1,4 @@
--- `make::find` meets its contract. The loop's invariant: no node past `at` is alike, and `at` is in the bucket; the measure is `at`.
+-- `make::find` meets its contract. The loop's invariant: no node past `at` is alike, and `at` is in the bucket.
 use Rattle.numbers.proofs.Buckets.{Looking}
 use Rattle.numbers.proofs.make.find.Given as goal
 

@@ -1,20 +1,15 @@
--- `make::innermost` meets its contract. The loop's invariant is `Scanning`; the measure is the number of nodes left.
+-- `make::innermost` meets its contract. The loop's invariant is `Scanning`.
 use mathlib.Core.Path.{ap, ◌∙◌}
 use Prim.Native.Nat.{max}
-use native.Mathlib.Omega.{arith}
-use Rattle.numbers.proofs.Scanning.{scan_begins, scan_on, scan_stops, scan_ends}
+use Rattle.numbers.proofs.Scanning.{scan_on, scan_stops, scan_ends}
 use Rattle.numbers.proofs.make.innermost.Goals as goal
 
-pub loop-i-init : goal.loop-i-init
-loop-i-init c = scan_begins c.args.d c.args.xs.now
-
 pub returns-then-level-d : goal.returns-then-level-d
-returns-then-level-d c = scan_stops c.args.d c.args.xs.now c.loop-i.i c.loop-i.level c.loop-i.invariant c.if-level-d.true
+returns-then-level-d c = scan_stops _ _ _ _ c.loop-x.invariant c.if-level-d.true
 
-pub loop-i-preserved : goal.loop-i-preserved
-loop-i-preserved c =
-    scan_on c.args.d c.args.xs.now c.loop-i.i c.loop-i.level c.loop-i.invariant c.greater-level.result (omega arith)
-    (c.greater-level.ensures ∙ ap (max c.loop-i.level) c.level_in.ensures)
+pub loop-x-preserved : goal.loop-x-preserved
+loop-x-preserved c =
+    scan_on _ _ _ _ c.loop-x.invariant _ c.loop-x-test.true (c.max-level.ensures ∙ ap (max c.loop-x.level) c.level_in.ensures)
 
 pub returns : goal.returns
-returns c = scan_ends c.args.d c.args.xs.now c.loop-i.i c.loop-i.level c.loop-i.invariant (omega arith)
+returns c = scan_ends _ _ _ _ c.loop-x.invariant c.loop-x-test.false

@@ -1,11 +1,6 @@
--- `make::innermost` meets its contract. The loop's invariant is `Scanning`; the measure is the number of nodes left.
-use Prim.Native.Nat.{◌-◌}
-use lib.ListN.{length}
+-- `make::innermost` meets its contract. The loop's invariant is `Scanning`.
 use Rattle.numbers.proofs.Scanning.{Scanning}
 use Rattle.numbers.proofs.make.innermost.Given as goal
 
-abbrev pub invariant-loop-i : goal.invariant-loop-i
-invariant-loop-i l = Scanning l.d l.xs l.i l.level
-
-abbrev pub decreases-loop-i : goal.decreases-loop-i
-decreases-loop-i l = length l.xs - l.i
+abbrev pub invariant-loop-x : goal.invariant-loop-x
+invariant-loop-x l = Scanning l.d l.xs l.x-index l.level

@@ -1,20 +1,18 @@
 -- `make::weight` meets its contract.
 use mathlib.Core.Path.{sym, ap, ◌∙◌}
+use mathlib.Core.Logic.{inl, inr}
 use native.Mathlib.Omega.{arith}
+use borrow.Author.Rules.{rules}
 use Rattle.numbers.specs.Alike.{spread}
 use Rattle.numbers.proofs.Sums.{mixed_small, weight_inside, weight_outside, weight_other}
 use Rattle.numbers.proofs.make.weight.Goals as goal
 
-pub returns-then-kind-eq258 : goal.returns-then-kind-eq258
-returns-then-kind-eq258 c = sym (weight_inside c.args.key c.if-kind-eq258.true)
-
-pub returns-then-kind-eq514 : goal.returns-then-kind-eq514
-returns-then-kind-eq514 c = sym (weight_outside c.args.key c.if-kind-eq514.true)
+pub returns-in-258 : goal.returns-in-258
+returns-in-258 c = elim c.in-258.is [ inl e ↦ sym (weight_inside c.args.key e) | inr e ↦ sym (weight_outside c.args.key e) ]
 
 pub spread-requires : goal.spread-requires
 spread-requires c = omega (arith, c.mix.ensures, mixed_small c.args.key 0)
 
-pub returns : goal.returns
-returns c =
-    c.spread.ensures ∙ ap spread c.mix.ensures
-    ∙ sym (weight_other c.args.key c.if-kind-eq258.false c.if-kind-eq514.false)
+pub returns-in_default : goal.returns-in_default
+returns-in_default c =
+    c.spread.ensures ∙ ap spread c.mix.ensures ∙ sym (weight_other c.args.key (λ e. search rules) (λ e. search rules))

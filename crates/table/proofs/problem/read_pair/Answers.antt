@@ -1,34 +1,25 @@
 -- `table::problem::read_pair` meets its contract: the pattern is read into its table, and the expression after it into the other.
-use Rattle.std.proofs.Common.{◌≡◌, ℕ, ◌≤◌, List, [], length, subst}
-use Rattle.meaning.specs.Basics.{Bytes}
-use Rattle.meaning.specs.Limits.{max_depth}
-use Rattle.meaning.specs.Read.{read_term, in_pattern}
-use Rattle.terms.specs.Reading.{TermDone}
-use Rattle.terms.specs.declared.term.Term.{Term}
-use Rattle.terms.specs.declared.term.Term.TheVariants as terms
+use Rattle.std.proofs.lemmas.Result.{err_from_is_err_and}
 use Rattle.terms.proofs.Bounds.{term_fine}
 use Rattle.terms.proofs.TermLaws.{took_fits}
-use Rattle.table.proofs.ProblemLaws.{pair_refused, pair_paired}
+use Rattle.table.proofs.ProblemLaws.{pattern_refused, expression_refused, pair_done, pair_over}
 use Rattle.table.proofs.problem.read_pair.Goals as goal
 
--- The pattern lies inside the bytes
-pattern_within : (s : Bytes) (out x : List ℕ) (r : Term) (k nodes : ℕ)
-    → TermDone [] s (read_term max_depth in_pattern s) out x r → r ≡ terms.Took k nodes → k ≤ length s
-pattern_within s out x r k nodes d e =
-    (took_fits _ (term_fine _ _) _ _ _ _ (subst (TermDone [] s (read_term max_depth in_pattern s) out x) e d)).within
+pub returns-in_err-pattern : goal.returns-in_err-pattern
+returns-in_err-pattern c =
+    let p = err_from_is_err_and c.from_residual.result c.from_residual.ensures.1 in
+    rw (p.1, p.2) (pattern_refused _ _ _ c.in_err-pattern.ensures)
 
-pub overflow_sub-due : goal.overflow_sub-due
-overflow_sub-due c = pattern_within _ _ _ _ _ _ c.read_pattern.ensures c.in-Took.is
+pub slice_bounds-rest-start : goal.slice_bounds-rest-start
+slice_bounds-rest-start c = (took_fits _ (term_fine _ _) _ _ _ _ c.in_ok-pattern.ensures).within
 
-pub slice_bounds-read_expression-count : goal.slice_bounds-read_expression-count
-slice_bounds-read_expression-count c = pattern_within _ _ _ _ _ _ c.read_pattern.ensures c.in-Took.is
+pub returns-in_err-expression : goal.returns-in_err-expression
+returns-in_err-expression c =
+    let p = err_from_is_err_and c.from_residual-in_err-expression.result c.from_residual-in_err-expression.ensures.1 in
+    rw (p.1, p.2) (expression_refused _ _ _ c.in_ok-pattern.ensures c.in_err-expression.ensures)
 
-pub slice_bounds-read_expression-start : goal.slice_bounds-read_expression-start
-slice_bounds-read_expression-start c = pattern_within _ _ _ _ _ _ c.read_pattern.ensures c.in-Took.is
+pub returns-then-expression-rest : goal.returns-then-expression-rest
+returns-then-expression-rest c = pair_done _ _ _ c.in_ok-pattern.ensures c.in_ok-expression.ensures c.if-expression-rest.true
 
-pub returns-in-Refused : goal.returns-in-Refused
-returns-in-Refused c = pair_refused _ _ _ _ _ _ (rw c.in-Refused.is at c.read_pattern.ensures)
-
-pub returns-in-Took : goal.returns-in-Took
-returns-in-Took c =
-    pair_paired _ _ _ _ _ _ _ (rw c.in-Took.is at c.read_pattern.ensures) c.read_expression.ensures c.paired.ensures
+pub returns-else-expression-rest : goal.returns-else-expression-rest
+returns-else-expression-rest c = pair_over _ _ _ c.in_ok-pattern.ensures c.in_ok-expression.ensures c.if-expression-rest.false

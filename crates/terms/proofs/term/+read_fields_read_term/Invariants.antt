@@ -13,10 +13,10 @@ decreases-read_fields l = 2 * l.site.levels + 1
 abbrev pub decreases-read_term : goal.decreases-read_term
 decreases-read_term l = 2 * l.site.levels
 
-abbrev pub invariant-read_fields-loop-r : goal.invariant-read_fields-loop-r
-invariant-read_fields-loop-r l =
+abbrev pub invariant-read_fields-loop-later : goal.invariant-read_fields-loop-later
+invariant-read_fields-loop-later l =
     Reading (read_term l.site.levels (site_context l.site)) (site_scope l.site) l.initial.left l.s l.initial.out l.out l.left l.nodes l.count
     l.at
 
-abbrev pub decreases-read_fields-loop-r : goal.decreases-read_fields-loop-r
-decreases-read_fields-loop-r l = length l.s - l.at
+abbrev pub decreases-read_fields-loop-later : goal.decreases-read_fields-loop-later
+decreases-read_fields-loop-later l = length l.s - l.at

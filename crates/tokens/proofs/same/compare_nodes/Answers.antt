@@ -1,36 +1,15 @@
--- `same::compare_nodes` meets its contract. The loop's invariant: all pairs before k agree, so that the nodes from k on tell whether the lists
--- are alike, and the pairs compared there are those that are missing. The measure is the number of pairs left.
-use mathlib.Core.Path.{refl, ◌∙◌}
-use native.Mathlib.Omega.{arith}
-use Rattle.tokens.specs.Key.{agree_under}
-use Rattle.tokens.proofs.same.Laws.{compared_is, compare_goes_on, compare_stops, compare_ends}
-use borrow.Author.Rules.{rules}
+-- `same::compare_nodes` meets its contract: a pair that agrees, one that does not, and the end of one of the lists.
+use mathlib.Core.Logic.{inl, inr}
+use Rattle.tokens.proofs.same.Laws.{compare_goes_on, compare_stops, compare_ends}
 use Rattle.tokens.proofs.same.compare_nodes.Goals as goal
 
-pub loop-k-init : goal.loop-k-init
-loop-k-init c = (c.least-n.ensures, search rules, refl, omega arith)
+pub loop-x-preserved : goal.loop-x-preserved
+loop-x-preserved c =
+    compare_goes_on (rw (c.in-Some.ensures.steps.0, c.in-Some.ensures.steps.1) at c.loop-x.invariant) cc
 
 pub returns-then-not-agree : goal.returns-then-not-agree
 returns-then-not-agree c =
-    let l = c.loop-k in
-    let r =
-    compare_stops (agree_under c.args.s c.args.d c.args.e) c.args.xs.now c.args.ys.now l.k (omega arith) (omega arith)
-    c.agree.result c.agree.ensures c.if-not-agree.true-raw in
-    compared_is (agree_under c.args.s c.args.d c.args.e) c.args.xs.now c.args.ys.now _ _
-    (r.0 ∙ l.invariant.2) (r.1 ∙ l.invariant.3)
-
-pub loop-k-preserved : goal.loop-k-preserved
-loop-k-preserved c =
-    let l = c.loop-k in
-    let r =
-    compare_goes_on (agree_under c.args.s c.args.d c.args.e) c.args.xs.now c.args.ys.now l.k (omega arith) (omega arith)
-    c.agree.result c.agree.ensures c.if-not-agree.false-raw in
-    (l.invariant.0, search rules, r.0 ∙ l.invariant.2, r.1 ∙ l.invariant.3)
+    compare_stops (rw (c.in-Some.ensures.steps.0, c.in-Some.ensures.steps.1) at c.loop-x.invariant) cc
 
 pub returns : goal.returns
-returns c =
-    let l = c.loop-k in
-    let r =
-    compare_ends (agree_under c.args.s c.args.d c.args.e) c.args.xs.now c.args.ys.now l.k (omega arith) in
-    compared_is (agree_under c.args.s c.args.d c.args.e) c.args.xs.now c.args.ys.now _ _
-    (r.0 ∙ l.invariant.2) (r.1 ∙ l.invariant.3)
+returns c = compare_ends _ _ c.loop-x.invariant (elim c.in-None.ensures.steps [ inl e ↦ inl e.1.0 | inr e ↦ inr e.1.0 ])

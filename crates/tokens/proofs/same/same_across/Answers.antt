@@ -4,5 +4,5 @@ use Rattle.tokens.proofs.same.same_across.Goals as goal
 
 pub returns : goal.returns
 returns c =
-    same_judged c.args.t.now c.args.a c.args.u.now c.args.b c.depth.result c.compare_across-compared.result
-    c.depth.ensures c.compare_across-compared.ensures
+    same_judged c.args.t.now c.args.a c.args.u.now c.args.b c.depth.result c.compare_across.result
+    c.depth.ensures c.compare_across.ensures

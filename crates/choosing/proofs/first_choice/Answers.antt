@@ -1,8 +1,0 @@
--- `first_choice`: filling from the first node on.
-use Rattle.choosing.proofs.FillLaws.{first_is}
-use Rattle.choosing.proofs.first_choice.Goals as goal
-
-pub returns : goal.returns
-returns c =
-    let s = c.args in
-    first_is s.ns.now s.es.now s.root _ _ _ c.none.ensures c.begun.ensures c.fill.ensures

@@ -1,2 +1,0 @@
--- What reading a part of a line promises.
-pub mod Parts

@@ -1,2 +1,0 @@
--- What was read lies in the buffer.
-pub mod InputLaws

@@ -1,0 +1,2 @@
+-- The refusals by document 01's numbers.
+pub mod Number
