@@ -160,7 +160,7 @@ fn in_rattle(path: &str, name: &str) -> usize {
 fn the_proved_library_has_the_same_numbers() {
     let here: BTreeMap<String, usize> = [tags(), limits(), answers(), refusals()].concat().into_iter().collect();
     let sources: [(&str, &[&str]); 7] = [
-        ("tivagyesz/src/codes.rt", &["FOUND", "PAUSED", "END", "YES", "NO"]),
+        ("tivagyesz/src/codes.rt", &["OK", "FOUND", "PAUSED", "END", "YES", "NO"]),
         ("table/src/limit.rt", &["LARGEST_PROBLEM", "MAX_CONSTRAINTS"]),
         ("items/src/lib.rt", &["LARGEST_TEXT"]),
         ("listing/src/lib.rt", &["LARGEST_WRITTEN"]),

@@ -9,7 +9,7 @@ ghost use Rattle.tivagyesz.specs.Exported.{check_code, write_code};
 use checking::Verdict;
 use refusal::Refusal;
 
-pub const DONE: u32 = 0;
+pub const OK: u32 = 0;
 
 pub const FOUND: u32 = 256;
 
@@ -32,7 +32,7 @@ pub fn write_code(answer: Result<usize, Refusal>) -> u32
     ensures { result ≡ write_code (answer_of answer) }
 {
     match answer {
-        Ok(_) => DONE,
+        Ok(_) => OK,
         Err(refusal) => refusal_code(refusal),
     }
 }

@@ -14,7 +14,7 @@ ghost use Rattle.tivagyesz.specs.Exported.{place_into, Told, RowTold, Given, len
 ghost use Rattle.tivagyesz.specs.Exported.{StartExport, SearchExport, WriteExport, LongestExport, CheckExport};
 
 use checking::check;
-use codes::{DONE, END, FOUND, PAUSED, check_code, refusal_code, write_code};
+use codes::{END, FOUND, OK, PAUSED, check_code, refusal_code, write_code};
 use longest::write_longest;
 use places::Place;
 use refusal::Refusal;
@@ -31,7 +31,7 @@ fn give_start(words: &mut [u64], first: Place) -> u32
         refusal_code(Refusal::BufferTooShort)
     } else {
         put_place(words, first);
-        DONE
+        OK
     }
 }
 
