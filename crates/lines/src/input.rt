@@ -1,6 +1,6 @@
 // Lines of input that hold bytes as digits: a letter, and after it parts with one space between, and a label. A part is 0 or more bytes, each of
 // two upper-case hexadecimal digits.
-ghost use Rattle.std.specs.Prelude.{◌≤◌, IfSome};
+ghost use Rattle.std.specs.Prelude.{◌≡◌, ◌+◌, ◌*◌, ◌≤◌, length, IfSome};
 ghost use Rattle.io.specs.Counts.{IsPrefixLen};
 
 use crate::output::bad;
@@ -18,22 +18,19 @@ struct Asked<'a> {
     label: &'a [u8],
 }
 
-// Shows each line of standard input, which is read into the buffer; one that fills it may have been cut off.
-pub fn for_each_line<F: Fn(&[u8]) -> Result<()>>(
-    rt: &impl Print,
-    buffer: &mut [u8],
-    show: F,
-) -> Result<()>
+// Shows each line of standard input, which is read into the buffer; one that fills it may have been cut off. A line that can't be written is
+// given up, and the next one tried: the program that runs the examples has nobody to tell.
+pub fn for_each_line<F: Fn(&[u8]) -> Result<()>>(rt: &impl Print, buffer: &mut [u8], show: F)
     requires { F.IsAlwaysCallable show }
 {
     let n = io::read_full(0, buffer);
     if n == buffer.len() {
-        return bad(rt, b"the input is too long");
+        let _ = bad(rt, b"the input is too long");
+        return;
     }
     for line in buffer[..n].split_inclusive(|byte| *byte == b'\n') {
-        show(line.strip_suffix(b"\n").unwrap_or(line))?;
+        let _ = show(line.strip_suffix(b"\n").unwrap_or(line));
     }
-    Ok(())
 }
 
 // The letter that a line begins with, which is not 0, and what stands after the space that follows it.
@@ -57,7 +54,7 @@ fn value(digit: u8) -> Option<u8>
 
 // The part that stands first, up to a space: how many bytes it has, which are put at the front of the buffer, and what stands after the space.
 pub fn read_part<'a>(line: &'a [u8], bytes: &mut [u8]) -> Option<(usize, &'a [u8])>
-    ensures { IfSome result (λ part. IsPrefixLen part.0 bytes.new) }
+    ensures { IfSome result (λ part. (2 * part.0 + 1 + length part.1.now ≡ length line.now) × IsPrefixLen part.0 bytes.new) }
 {
     let end = line.iter().position(|byte| *byte == b' ')?;
     let n = end / 2;

@@ -15,12 +15,11 @@ mod pair;
 
 use line::show;
 use lines::input::for_each_line;
-use std::io::Result;
 
 // The input may have one byte fewer, so that none is cut off.
 const ROOM: usize = 262144;
 
-fn main(rt: HostRuntime) -> Result<()> {
+fn main(rt: HostRuntime) {
     let mut input = [0u8; ROOM];
-    for_each_line(&rt, &mut input, |line| show(&rt, line))
+    for_each_line(&rt, &mut input, |line| show(&rt, line));
 }
