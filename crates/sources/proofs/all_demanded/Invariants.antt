@@ -7,5 +7,4 @@ use Rattle.sources.proofs.all_demanded.Given as goal
 
 abbrev pub invariant-loop-face : goal.invariant-loop-face
 invariant-loop-face l =
-    Going l.patterns l.nodes.numbers.now l.faces (kept_after (told l.nodes.numbers.now) l.initial.kept.nodes (demands_in l.patterns l.faces))
-    l.face-index l.kept.nodes
+    Going l.patterns l.ns l.faces (kept_after (told l.ns) l.initial.sources.nodes (demands_in l.patterns l.faces)) l.face-index l.sources.nodes
