@@ -221,23 +221,23 @@ module _ (ps es ns : List ℕ) (functions : ℕ) (nodes row faces : List ℕ) (e
     unfolding faces_kept next
     goes = sym (ap (λ (ms : List ℕ). faces_kept (told ns) ps es functions nodes row ms kept) rest) ∙ g.leads
 
-    module _ (r : std.Option Sources) (a : Answers (face_kept (told ns) ps es functions nodes row (at faces k) kept) r) where
-      pub going_fails : r ≡ None → Answers end None
-      unfolding next
-      going_fails e =
-          let q = answer_none (face_kept (told ns) ps es functions nodes row (at faces k) kept) r a e in
-          ap sources_of (sym (ap next q) ∙ goes)
+    pub going_fails : Answers (face_kept (told ns) ps es functions nodes row (at faces k) kept) None → Answers end None
+    unfolding next
+    going_fails a =
+        let q = answer_none (face_kept (told ns) ps es functions nodes row (at faces k) kept) None a refl in
+        ap sources_of (sym (ap next q) ∙ goes)
 
-      pub going_on : (t : Sources) → r ≡ Some t → Going ps es ns functions nodes row faces end (k + 1) t.nodes
-      unfolding next
-      going_on t e =
-          let q = answer_some (face_kept (told ns) ps es functions nodes row (at faces k) kept) r a t e in
-          let z : k + 1 ≡ suc k = omega arith in
-          rw z (record {
-            inside = face_stays ps es ns functions nodes row (at faces k) kept t.nodes both.0 g.inside q;
-            slots = both.1;
-            leads = sym (ap next q) ∙ goes;
-          })
+    pub going_on : (t : Sources) → Answers (face_kept (told ns) ps es functions nodes row (at faces k) kept) (Some t)
+        → Going ps es ns functions nodes row faces end (k + 1) t.nodes
+    unfolding next
+    going_on t a =
+        let q = answer_some (face_kept (told ns) ps es functions nodes row (at faces k) kept) (Some t) a t refl in
+        let z : k + 1 ≡ suc k = omega arith in
+        rw z (record {
+          inside = face_stays ps es ns functions nodes row (at faces k) kept t.nodes both.0 g.inside q;
+          slots = both.1;
+          leads = sym (ap next q) ∙ goes;
+        })
 
 -- ---- the plain faces, and then the applications
 
@@ -246,17 +246,17 @@ pub none_kept_lem : (ns : List ℕ) → Kept ns none_kept
 unfolding metavariable_count
 none_kept_lem ns = record { long = refl; inside = λ m h node e. let q : first_of none_kept m ≡ None = get_or-replicate 32 m None None h in never (cc) }
 
-module _ (ps es ns faces : List ℕ) (functions : ℕ) (firsts : Firsts) (row : List ℕ) (r : std.Option Sources)
-    (a : Answers (kept_after (told ns) none_kept (demands_in ps faces)) r) where
-  pub plain_fails : r ≡ None → Answers (demanded_at (told ns) ps es faces functions firsts row) None
+module _ (ps es ns faces : List ℕ) (functions : ℕ) (firsts : Firsts) (row : List ℕ) where
+  pub plain_fails : Answers (kept_after (told ns) none_kept (demands_in ps faces)) None
+      → Answers (demanded_at (told ns) ps es faces functions firsts row) None
   unfolding demanded_at
-  plain_fails e =
-      let q = answer_none (kept_after (told ns) none_kept (demands_in ps faces)) r a e in
+  plain_fails a =
+      let q = answer_none (kept_after (told ns) none_kept (demands_in ps faces)) None a refl in
       rw q refl
 
-  module _ (t : Sources) (e : r ≡ Some t) where
+  module _ (t : Sources) (a : Answers (kept_after (told ns) none_kept (demands_in ps faces)) (Some t)) where
     plain_some : kept_after (told ns) none_kept (demands_in ps faces) ≡ some t.nodes
-    plain_some = answer_some (kept_after (told ns) none_kept (demands_in ps faces)) r a t e
+    plain_some = answer_some (kept_after (told ns) none_kept (demands_in ps faces)) (Some t) a t refl
 
     pub plain_stays : All (Demandable ps ns) faces → Kept ns t.nodes
     plain_stays s =
@@ -288,7 +288,5 @@ pub ruleset applying = (application_unsuited, application_open, application_fill
 pub ruleset facing = (masks_at, face_plain, face_applies)
 
 pub ruleset going = (going_slots, going_fails, going_ends)
-
-pub ruleset plain = (plain_fails, plain_stays)
 
 pub ruleset judging = (judges_open, judges_closed)

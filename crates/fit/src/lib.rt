@@ -5,6 +5,7 @@
 mod tables;
 
 ghost use Rattle.std.specs.Prelude.{◌≡◌, true};
+ghost use Rattle.std.specs.Bool.{then_some};
 ghost use Rattle.masks.specs.Sets.{mask, masks_in};
 ghost use Rattle.meaning.specs.Basics.{All};
 ghost use Rattle.sources.specs.Kept.{Answers};
@@ -22,9 +23,9 @@ use tokens::token::{depth, payload, size, tag};
 impl Tables<'_> {
     // Whether the body of each function is closed.
     #[tactic(auto, using(crate::proofs::CodeLaws::closing), unfolding(meaning::specs::Limits::max_functions))]
-    fn bodies_closed(&self, row: [NodeSet; MAX_FUNCTIONS]) -> bool
-        requires { BodiesIn self.now (masks_in row) }
-        ensures { result ≡ closed_in self.now (masks_in row) }
+    fn bodies_closed(&self, row: &[NodeSet; MAX_FUNCTIONS]) -> bool
+        requires { BodiesIn self.now (masks_in row.now) }
+        ensures { result ≡ closed_in self.now (masks_in row.now) }
     {
         for k in 0..self.firsts.count {
             if !body_closed(self.nodes.tokens, self.firsts.nodes[k], row[k]) {
@@ -58,17 +59,19 @@ impl Tables<'_> {
         &self,
         face: u64,
         set: NodeSet,
-        kept: Sources,
+        kept: &mut Sources,
         scratch: &mut [u64],
-    ) -> Option<Sources>
+    ) -> bool
         requires room { Room self.now scratch.old }
         requires walks { WalkableIn self.now face (mask set) }
-        requires kept { KeptIn self.now kept.nodes }
-        ensures { Answers (argument_in self.now face (mask set) kept.nodes) result }
+        requires kept { KeptIn self.now kept.old.nodes }
+        ensures { Answers (argument_in self.now face (mask set) kept.old.nodes) (then_some result kept.new) }
     {
         let span = self.argument_span(face, set);
-        let n = walk_at(self.patterns, self.nodes.tokens, span, scratch)?;
-        all_demanded(self.patterns, self.nodes, &scratch[..n], kept)
+        match walk_at(self.patterns, self.nodes.tokens, span, scratch) {
+            Some(n) => all_demanded(self.patterns, self.nodes.numbers, &scratch[..n], kept),
+            None => false,
+        }
     }
 
     // One application, by the face and the set of its function: the body has to suit what is faced, and without a hole the argument demands
@@ -79,19 +82,19 @@ impl Tables<'_> {
         face: u64,
         node: usize,
         set: NodeSet,
-        kept: Sources,
+        kept: &mut Sources,
         scratch: &mut [u64],
-    ) -> Option<Sources>
+    ) -> bool
         requires room { Room self.now scratch.old }
         requires applies { ApplicableIn self.now face node (mask set) }
-        requires kept { KeptIn self.now kept.nodes }
-        ensures { Answers (application_in self.now face node (mask set) kept.nodes) result }
+        requires kept { KeptIn self.now kept.old.nodes }
+        ensures { Answers (application_in self.now face node (mask set) kept.old.nodes) (then_some result kept.new) }
     {
         if !suits(self.nodes, node, (face / 65536) as usize, set) {
-            return None;
+            return false;
         }
         if set.is_empty() {
-            return Some(kept);
+            return true;
         }
         self.argument_demanded(face, set, kept, scratch)
     }
@@ -101,18 +104,18 @@ impl Tables<'_> {
     fn face_demanded(
         &self,
         face: u64,
-        row: [NodeSet; MAX_FUNCTIONS],
-        kept: Sources,
+        row: &[NodeSet; MAX_FUNCTIONS],
+        kept: &mut Sources,
         scratch: &mut [u64],
-    ) -> Option<Sources>
+    ) -> bool
         requires room { Room self.now scratch.old }
-        requires slots { SlotsIn self.now (masks_in row) face }
-        requires kept { KeptIn self.now kept.nodes }
-        ensures { Answers (face_in self.now (masks_in row) face kept.nodes) result }
+        requires slots { SlotsIn self.now (masks_in row.now) face }
+        requires kept { KeptIn self.now kept.old.nodes }
+        ensures { Answers (face_in self.now (masks_in row.now) face kept.old.nodes) (then_some result kept.new) }
     {
         let x = self.patterns[(face % 65536) as usize];
         if tag(x) != 6 {
-            return Some(kept);
+            return true;
         }
         let k = rank(self.functions, payload(x) as u32);
         self.application_demanded(face, self.firsts.nodes[k], row[k], kept, scratch)
@@ -122,35 +125,38 @@ impl Tables<'_> {
     #[tactic(auto, using(crate::proofs::CodeLaws::going))]
     fn faces_demanded(
         &self,
-        row: [NodeSet; MAX_FUNCTIONS],
-        sources: Sources,
+        row: &[NodeSet; MAX_FUNCTIONS],
+        kept: &mut Sources,
         scratch: &mut [u64],
-    ) -> Option<Sources>
+    ) -> bool
         requires room { Room self.now scratch.old }
-        requires slots { All (SlotsIn self.now (masks_in row)) self.now.faces.now }
-        requires kept { KeptIn self.now sources.nodes }
-        ensures { Answers (faces_in self.now (masks_in row) sources.nodes) result }
+        requires slots { All (SlotsIn self.now (masks_in row.now)) self.now.faces.now }
+        requires kept { KeptIn self.now kept.old.nodes }
+        ensures { Answers (faces_in self.now (masks_in row.now) kept.old.nodes) (then_some result kept.new) }
     {
-        let mut kept = sources;
         for face in self.faces {
-            kept = self.face_demanded(*face, row, kept, scratch)?;
+            if !self.face_demanded(*face, row, kept, scratch) {
+                return false;
+            }
         }
-        Some(kept)
+        true
     }
 
     // What the plain faces demand, and then the applications: "A value comes from the metavariable's first occurrence outside arguments, else
     // from the first application whose function has a hole".
-    #[tactic(auto, using(crate::proofs::CodeLaws::plain))]
-    fn all_faces(&self, row: [NodeSet; MAX_FUNCTIONS], scratch: &mut [u64]) -> Option<Sources>
-        requires ready { ReadyIn self.now (masks_in row) scratch.old }
-        requires closed { closed_in self.now (masks_in row) ≡ true }
-        ensures { Answers (demanded_in self.now (masks_in row)) result }
+    #[tactic(auto, using(crate::proofs::CodeLaws::plain_fails))]
+    fn all_faces(&self, row: &[NodeSet; MAX_FUNCTIONS], scratch: &mut [u64]) -> Option<Sources>
+        requires ready { ReadyIn self.now (masks_in row.now) scratch.old }
+        requires closed { closed_in self.now (masks_in row.now) ≡ true }
+        ensures { Answers (demanded_in self.now (masks_in row.now)) result }
     {
-        let none = Sources {
+        let mut kept = Sources {
             nodes: [None; METAVARIABLES as usize],
         };
-        let kept = all_demanded(self.patterns, self.nodes, self.faces, none)?;
-        self.faces_demanded(row, kept, scratch)
+        if !all_demanded(self.patterns, self.nodes.numbers, self.faces, &mut kept) {
+            return None;
+        }
+        self.faces_demanded(row, &mut kept, scratch).then_some(kept)
     }
 }
 
@@ -161,8 +167,8 @@ pub fn judge(tables: &Tables, row: [NodeSet; MAX_FUNCTIONS], scratch: &mut [u64]
     requires { ReadyIn tables.now (masks_in row) scratch.old }
     ensures { Answers (judged_in tables.now (masks_in row)) result }
 {
-    if !tables.bodies_closed(row) {
+    if !tables.bodies_closed(&row) {
         return None;
     }
-    tables.all_faces(row, scratch)
+    tables.all_faces(&row, scratch)
 }

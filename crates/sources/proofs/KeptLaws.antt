@@ -156,28 +156,28 @@ module _ (ps ns faces : List ℕ) (end : Option Nodes) (k : ℕ) (kept : Nodes) 
         sym (kept_append (told ns) kept (demand_at ps (at faces k)) (demands_in ps (drop (suc k) faces)))
         ∙ sym (ap (λ (fs : List ℕ). kept_after (told ns) kept (demands_in ps fs)) rest) ∙ g.leads
 
-    module _ (r : std.Option Sources) (a : Answers (kept_after (told ns) kept (demand_at ps (at faces k))) r) where
-      after : Option Nodes → Option Nodes
-      after o = and_then o (λ ms. kept_after (told ns) ms (demands_in ps (drop (suc k) faces)))
+    after : Option Nodes → Option Nodes
+    after o = and_then o (λ ms. kept_after (told ns) ms (demands_in ps (drop (suc k) faces)))
 
-      pub going_on : (next : Sources) → r ≡ Some next → Going ps ns faces end (k + 1) next.nodes
-      unfolding after
-      going_on next e =
-          let q = answer_some (kept_after (told ns) kept (demand_at ps (at faces k))) r a next e in
-          let z : k + 1 ≡ suc k = omega arith in
-          rw z
-          (record {
-            nodes = kept_stays (told ns) ns kept (demand_at ps (at faces k)) next.nodes g.nodes both.0.asks q;
-            reads = both.1;
-            leads = sym (ap after q) ∙ goes;
-          })
+    pub going_on : (next : Sources) → Answers (kept_after (told ns) kept (demand_at ps (at faces k))) (Some next)
+        → Going ps ns faces end (k + 1) next.nodes
+    unfolding after
+    going_on next a =
+        let q = answer_some (kept_after (told ns) kept (demand_at ps (at faces k))) (Some next) a next refl in
+        let z : k + 1 ≡ suc k = omega arith in
+        rw z
+        (record {
+          nodes = kept_stays (told ns) ns kept (demand_at ps (at faces k)) next.nodes g.nodes both.0.asks q;
+          reads = both.1;
+          leads = sym (ap after q) ∙ goes;
+        })
 
-      pub going_fails : r ≡ None → Answers end None
-      unfolding after
-      going_fails e =
-          let q = answer_none (kept_after (told ns) kept (demand_at ps (at faces k))) r a e in
-          let w : none ≡ end = sym (ap after q) ∙ goes in
-          ap sources_of w
+    pub going_fails : Answers (kept_after (told ns) kept (demand_at ps (at faces k))) None → Answers end None
+    unfolding after
+    going_fails a =
+        let q = answer_none (kept_after (told ns) kept (demand_at ps (at faces k))) None a refl in
+        let w : none ≡ end = sym (ap after q) ∙ goes in
+        ap sources_of w
 
   pub going_ends : length faces ≤ k → Answers end (Some (record { nodes = kept }))
   going_ends h =

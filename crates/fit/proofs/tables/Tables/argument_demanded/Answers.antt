@@ -18,16 +18,16 @@ slice_bounds-all_demanded-end c =
     let s = c.argument_span-span in
     let w = c.walk_at in
     argument_room t.patterns.now t.nodes.tokens.now t.nodes.numbers.now c.args.face (mask c.args.set) s.result s.ensures
-    c.args.scratch.now w.new.out w.result w.ensures c.in_ok-n.n c.in_ok-n.was
+    c.args.scratch.now w.new.out w.result w.ensures c.in-Some.n c.in-Some.is
 
-pub slice_bounds-all_demanded-end-2 : goal.slice_bounds-all_demanded-end-2
-slice_bounds-all_demanded-end-2 c =
+pub slice_bounds-all_demanded-end-in-Some : goal.slice_bounds-all_demanded-end-in-Some
+slice_bounds-all_demanded-end-in-Some c =
     let t = c.args.self.now in
     let s = c.argument_span-span in
     let w = c.walk_at in
-    sym (length-take-le c.in_ok-n.n w.new.out
+    sym (length-take-le c.in-Some.n w.new.out
     (argument_room t.patterns.now t.nodes.tokens.now t.nodes.numbers.now c.args.face (mask c.args.set) s.result s.ensures
-    c.args.scratch.now w.new.out w.result w.ensures c.in_ok-n.n c.in_ok-n.was))
+    c.args.scratch.now w.new.out w.result w.ensures c.in-Some.n c.in-Some.is))
 
 pub all_demanded-requires : goal.all_demanded-requires
 all_demanded-requires c =
@@ -36,14 +36,14 @@ all_demanded-requires c =
     let w = c.walk_at in (
       c.requires.kept,
       argument_reads t.patterns.now t.nodes.tokens.now t.nodes.numbers.now c.args.face (mask c.args.set) s.result s.ensures
-          c.args.scratch.now w.new.out w.result w.ensures c.in_ok-n.n c.in_ok-n.was c.requires.walks,
+          c.args.scratch.now w.new.out w.result w.ensures c.in-Some.n c.in-Some.is c.requires.walks,
     )
 
-pub returns : goal.returns
-returns c =
+pub returns-in-Some : goal.returns-in-Some
+returns-in-Some c =
     let t = c.args.self.now in
     let s = c.argument_span-span in
     let w = c.walk_at in
     argument_demands t.patterns.now t.nodes.tokens.now t.nodes.numbers.now c.args.face (mask c.args.set) s.result s.ensures
-    c.args.scratch.now w.new.out w.result w.ensures c.in_ok-n.n c.in_ok-n.was
-    c.args.kept.nodes c.all_demanded.result c.all_demanded.ensures
+    c.args.scratch.now w.new.out w.result w.ensures c.in-Some.n c.in-Some.is
+    c.args.kept.now.nodes _ c.all_demanded.ensures

@@ -10,7 +10,6 @@ loop-face-preserved c =
     let l = c.loop-face in
     let n = c.face_demanded in (
       n.auto.scratch ∙ l.invariant.0,
-      going_on t.patterns.now t.nodes.tokens.now t.nodes.numbers.now t.functions t.firsts.nodes (masks_in c.args.row) t.faces.now _
-          l.face-index l.kept.nodes l.invariant.1 c.loop-face-test.true
-          n.result n.ensures c.in_ok-kept.kept c.in_ok-kept.was,
+      going_on t.patterns.now t.nodes.tokens.now t.nodes.numbers.now t.functions t.firsts.nodes (masks_in c.args.row.now) t.faces.now _
+          l.face-index l.kept.nodes l.invariant.1 c.loop-face-test.true n.new.kept c.if-not-face_demanded.ensures,
     )
