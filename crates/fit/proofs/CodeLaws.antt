@@ -242,21 +242,28 @@ module _ (ps es ns : List ℕ) (functions : ℕ) (nodes row faces : List ℕ) (e
 -- ---- the plain faces, and then the applications
 
 -- Before any demand
-pub none_kept_lem : (ns : List ℕ) → Kept ns none_kept
+none_kept_lem : (ns : List ℕ) → Kept ns none_kept
 unfolding metavariable_count
 none_kept_lem ns = record { long = refl; inside = λ m h node e. let q : first_of none_kept m ≡ None = get_or-replicate 32 m None None h in never (cc) }
 
-module _ (ps es ns faces : List ℕ) (functions : ℕ) (firsts : Firsts) (row : List ℕ) where
-  pub plain_fails : Answers (kept_after (told ns) none_kept (demands_in ps faces)) None
+module _ (ps es ns faces : List ℕ) (functions : ℕ) (firsts : Firsts) (row : List ℕ) (kept : Nodes) (fresh : kept ≡ none_kept) where
+  pub plain_begins : Kept ns kept
+  plain_begins = subst (Kept ns) (sym fresh) (none_kept_lem ns)
+
+  begun : (r : std.Option Sources) → Answers (kept_after (told ns) kept (demands_in ps faces)) r
+      → Answers (kept_after (told ns) none_kept (demands_in ps faces)) r
+  begun r a = subst (λ (k : Nodes). Answers (kept_after (told ns) k (demands_in ps faces)) r) fresh a
+
+  pub plain_fails : Answers (kept_after (told ns) kept (demands_in ps faces)) None
       → Answers (demanded_at (told ns) ps es faces functions firsts row) None
   unfolding demanded_at
   plain_fails a =
-      let q = answer_none (kept_after (told ns) none_kept (demands_in ps faces)) None a refl in
+      let q = answer_none (kept_after (told ns) none_kept (demands_in ps faces)) None (begun None a) refl in
       rw q refl
 
-  module _ (t : Sources) (a : Answers (kept_after (told ns) none_kept (demands_in ps faces)) (Some t)) where
+  module _ (t : Sources) (a : Answers (kept_after (told ns) kept (demands_in ps faces)) (Some t)) where
     plain_some : kept_after (told ns) none_kept (demands_in ps faces) ≡ some t.nodes
-    plain_some = answer_some (kept_after (told ns) none_kept (demands_in ps faces)) (Some t) a t refl
+    plain_some = answer_some (kept_after (told ns) none_kept (demands_in ps faces)) (Some t) (begun (Some t) a) t refl
 
     pub plain_stays : All (Demandable ps ns) faces → Kept ns t.nodes
     plain_stays s =
@@ -288,5 +295,7 @@ pub ruleset applying = (application_unsuited, application_open, application_fill
 pub ruleset facing = (masks_at, face_plain, face_applies)
 
 pub ruleset going = (going_slots, going_fails, going_ends)
+
+pub ruleset plain = (plain_begins, plain_fails)
 
 pub ruleset judging = (judges_open, judges_closed)

@@ -9,6 +9,7 @@ ghost use Rattle.std.specs.Bool.{then_some};
 ghost use Rattle.masks.specs.Sets.{mask, masks_in};
 ghost use Rattle.meaning.specs.Basics.{All};
 ghost use Rattle.sources.specs.Kept.{Answers};
+ghost use Rattle.fit.specs.Judging.{none_kept};
 ghost use Rattle.fit.specs.Tables.{Room, KeptIn, BodiesIn, WalkableIn, ApplicableIn, SlotsIn, ReadyIn};
 ghost use Rattle.fit.specs.Tables.{closed_in, span_in, argument_in, application_in, face_in, faces_in, demanded_in, judged_in};
 
@@ -144,19 +145,22 @@ impl Tables<'_> {
 
     // What the plain faces demand, and then the applications: "A value comes from the metavariable's first occurrence outside arguments, else
     // from the first application whose function has a hole".
-    #[tactic(auto, using(crate::proofs::CodeLaws::plain_fails))]
-    fn all_faces(&self, row: &[NodeSet; MAX_FUNCTIONS], scratch: &mut [u64]) -> Option<Sources>
+    #[tactic(auto, using(crate::proofs::CodeLaws::plain))]
+    fn all_faces(
+        &self,
+        row: &[NodeSet; MAX_FUNCTIONS],
+        kept: &mut Sources,
+        scratch: &mut [u64],
+    ) -> bool
         requires ready { ReadyIn self.now (masks_in row.now) scratch.old }
         requires closed { closed_in self.now (masks_in row.now) ≡ true }
-        ensures { Answers (demanded_in self.now (masks_in row.now)) result }
+        requires none { kept.old.nodes ≡ none_kept }
+        ensures { Answers (demanded_in self.now (masks_in row.now)) (then_some result kept.new) }
     {
-        let mut kept = Sources {
-            nodes: [None; METAVARIABLES as usize],
-        };
-        if !all_demanded(self.patterns, self.nodes.numbers, self.faces, &mut kept) {
-            return None;
+        if !all_demanded(self.patterns, self.nodes.numbers, self.faces, kept) {
+            return false;
         }
-        self.faces_demanded(row, &mut kept, scratch).then_some(kept)
+        self.faces_demanded(row, kept, scratch)
     }
 }
 
@@ -170,5 +174,11 @@ pub fn judge(tables: &Tables, row: [NodeSet; MAX_FUNCTIONS], scratch: &mut [u64]
     if !tables.bodies_closed(&row) {
         return None;
     }
-    tables.all_faces(&row, scratch)
+    let mut kept = Sources {
+        nodes: [None; METAVARIABLES as usize],
+    };
+    if !tables.all_faces(&row, &mut kept, scratch) {
+        return None;
+    }
+    Some(kept)
 }
