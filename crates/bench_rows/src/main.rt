@@ -7,7 +7,7 @@
 
 use prepare::prepare;
 use refusal::Refusal;
-use rows::Functions;
+use rows::{Functions, begin_again, last_function, stepping};
 use table::TABLE_ROOM;
 
 // The descriptor of standard output.
@@ -22,17 +22,18 @@ const TIMES: usize = 20000;
 fn count(functions: &Functions) -> u64 {
     // Lent for the stepping.
     let first = functions.first_row();
-    let last = functions.last();
+    let firsts = functions.firsts;
+    let last = last_function(firsts);
     let mut reached = first;
     for n in 1..MOST {
-        let mut k = functions.firsts.count;
+        let mut k = firsts.count;
         // As in `seeking::Fixed::seek`.
         if reached[last].is_empty() {
-            k = functions.stepping(reached);
+            k = stepping(firsts, reached);
             if k == 0 {
                 return n;
             }
-            reached = functions.begin_again(first, k, reached);
+            reached = begin_again(firsts, first, k, reached);
         }
         reached[k - 1] = functions.next_of(k - 1, reached[k - 1]);
     }

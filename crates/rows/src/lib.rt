@@ -14,6 +14,7 @@ ghost use Rattle.rows.specs.Rows.{StepsAt, StepsTo, begun};
 ghost use Rattle.rows.specs.Functions.{choices_in, first_in, numbers_in, rows_in, tokens_in};
 
 use choosing::Face;
+use faces::first::Firsts;
 pub use functions::Functions;
 use masks::NodeSet;
 
@@ -93,44 +94,6 @@ impl Functions<'_> {
         row
     }
 
-    // How many functions there are up to the one that steps, which is the last with a choice left; 0 at the last row. What is then to do is
-    // `begin_again` for the later functions and `next_of` for that one (`next_row`): who goes through many rows keeps one array and writes
-    // that into it, since a row is 256 bytes and a step changes few of them.
-    pub fn stepping(&self, row: [NodeSet; MAX_FUNCTIONS]) -> usize
-        ensures { StepsAt self.now.firsts.count (masks_in row) result }
-    {
-        for k in (0..self.firsts.count).rev() {
-            if !row[k].is_empty() {
-                return k + 1;
-            }
-        }
-        0
-    }
-
-    // The last function, which steps most often; where there is none, number 0, whose set is empty.
-    pub fn last(&self) -> usize
-        ensures { result ≡ self.now.firsts.count - 1 }
-    {
-        self.firsts.count.saturating_sub(1)
-    }
-
-    // The row with the functions from k on at their first choices again. The first row is lent: a call that makes many steps computes it once
-    // for itself. It is never kept with a place, since what a host hands in may be any bytes.
-    pub fn begin_again(
-        &self,
-        first: [NodeSet; MAX_FUNCTIONS],
-        k: usize,
-        row: [NodeSet; MAX_FUNCTIONS],
-    ) -> [NodeSet; MAX_FUNCTIONS]
-        requires { k ≤ self.now.firsts.count }
-        ensures { masks_in result ≡ begun self.now.firsts.count (masks_in first) k (masks_in row) }
-    {
-        let mut next = row;
-        let end = self.firsts.count;
-        next[k..end].copy_from_slice(&first[k..end]);
-        next
-    }
-
     // The row after `row`, if there is one.
     pub fn next_row(
         &self,
@@ -141,12 +104,52 @@ impl Functions<'_> {
         requires first_row { place_of (rows_in self.now) ≡ at (masks_in first) }
         ensures { StepsTo (tokens_in self.now) (numbers_in self.now) self.now.firsts (masks_in row) result }
     {
-        let k = self.stepping(row);
+        let k = stepping(self.firsts, row);
         if k == 0 {
             return None;
         }
-        let mut next = self.begin_again(first, k, row);
+        let mut next = begin_again(self.firsts, first, k, row);
         next[k - 1] = self.next_of(k - 1, next[k - 1]);
         Some(next)
     }
+}
+
+// How many functions there are up to the one that steps, which is the last with a choice left; 0 at the last row. What is then to do is
+// `begin_again` for the later functions and `next_of` for that one (`next_row`): who goes through many rows keeps one array and writes that
+// into it, since a row is 256 bytes and a step changes few of them.
+pub fn stepping(firsts: Firsts, row: [NodeSet; MAX_FUNCTIONS]) -> usize
+    requires { firsts.count ≤ max_functions }
+    ensures { StepsAt firsts.count (masks_in row) result }
+{
+    for k in (0..firsts.count).rev() {
+        if !row[k].is_empty() {
+            return k + 1;
+        }
+    }
+    0
+}
+
+// The last function, which steps most often; where there is none, number 0, whose set is empty.
+pub fn last_function(firsts: Firsts) -> usize
+    ensures { result ≡ firsts.count - 1 }
+{
+    firsts.count.saturating_sub(1)
+}
+
+// The row with the functions from k on at their first choices again. The first row is lent: a call that makes many steps computes it once for
+// itself. It is never kept with a place, since what a host hands in may be any bytes.
+pub fn begin_again(
+    firsts: Firsts,
+    first: [NodeSet; MAX_FUNCTIONS],
+    k: usize,
+    row: [NodeSet; MAX_FUNCTIONS],
+) -> [NodeSet; MAX_FUNCTIONS]
+    requires there { k ≤ firsts.count }
+    requires few { firsts.count ≤ max_functions }
+    ensures { masks_in result ≡ begun firsts.count (masks_in first) k (masks_in row) }
+{
+    let mut next = row;
+    let end = firsts.count;
+    next[k..end].copy_from_slice(&first[k..end]);
+    next
 }

@@ -13,6 +13,7 @@ use fit::judge;
 pub use fixed::Fixed;
 use masks::NodeSet;
 use places::Place;
+use rows::{begin_again, last_function, stepping};
 
 #[derive(Clone, Copy)]
 pub enum Answer {
@@ -76,20 +77,21 @@ impl Fixed<'_> {
         requires room { Room self.now.tables scratch.old }
         ensures { Seeks self.now (masks_in row) n result }
     {
-        let last = self.functions.last();
+        let firsts = self.functions.firsts;
+        let last = last_function(firsts);
         let mut at = row;
         for _ in 0..n {
             if judge(&self.tables, at, scratch).is_some() {
                 return self.found_at(at);
             }
-            let mut k = self.functions.firsts.count;
+            let mut k = firsts.count;
             // Most steps are the last function's: then no row is handed over, which would copy it.
             if at[last].is_empty() {
-                k = self.functions.stepping(at);
+                k = stepping(firsts, at);
                 if k == 0 {
                     return ended();
                 }
-                at = self.functions.begin_again(self.first, k, at);
+                at = begin_again(firsts, self.first, k, at);
             }
             at[k - 1] = self.functions.next_of(k - 1, at[k - 1]);
         }

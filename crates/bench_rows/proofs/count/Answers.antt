@@ -27,7 +27,7 @@ moving c =
       | else-is_empty w ↦
           subst₂ about (sym w.reached-is) (sym w.k-is)
           (last_moves _ _ _ f.faced first.result row first.ensures c.loop-n.invariant
-          (subst (λ (i : ℕ). 0 < mask (get_or row i nothing)) c.last-last.ensures
+          (subst (λ (i : ℕ). 0 < mask (get_or row i nothing)) c.last_function-last.ensures
           (above_zero _ (sym c.is_empty.ensures ∙ w.if-is_empty.false))))
     ]
 
@@ -44,11 +44,11 @@ loop-n-init c = place_mem _ _ c.first_row-first.ensures
 
 pub offset_bounds-reached-last : goal.offset_bounds-reached-last
 unfolding max_functions
-offset_bounds-reached-last c = omega (arith, c.last-last.ensures, c.args.functions.now.faced.faces.few)
+offset_bounds-reached-last c = omega (arith, c.last_function-last.ensures, c.args.functions.now.faced.faces.few)
 
 pub bounds-reached-last : goal.bounds-reached-last
 unfolding max_functions
-bounds-reached-last c = omega (arith, c.last-last.ensures, c.args.functions.now.faced.faces.few)
+bounds-reached-last c = omega (arith, c.last_function-last.ensures, c.args.functions.now.faced.faces.few)
 
 pub overflow_sub-k : goal.overflow_sub-k
 overflow_sub-k c = (moving c).some

@@ -4,13 +4,20 @@ use Rattle.meaning.specs.Limits.{max_functions}
 use Rattle.rows.proofs.RowLaws.{moved, moving_choice, steps_none}
 use Rattle.rows.proofs.functions.Functions.next_row.Goals as goal
 
+pub stepping-k-requires : goal.stepping-k-requires
+stepping-k-requires c = c.args.self.now.faced.faces.few
+
 pub returns-then-k-eq0 : goal.returns-then-k-eq0
 returns-then-k-eq0 c =
     let step = c.stepping-k in
     λ next. steps_none _ _ _ c.args.self.now.faced c.args.first c.args.row c.requires.first_row c.requires.row step.result next step.ensures c.if-k-eq0.true
 
 pub begin_again-next-requires : goal.begin_again-next-requires
-begin_again-next-requires c = c.stepping-k.ensures.few
+begin_again-next-requires c =
+    record {
+      there = c.stepping-k.ensures.few;
+      few = c.args.self.now.faced.faces.few;
+    }
 
 pub offset_bounds-next-k : goal.offset_bounds-next-k
 unfolding max_functions

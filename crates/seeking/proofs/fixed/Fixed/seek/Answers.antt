@@ -24,7 +24,7 @@ moving c =
       | else-is_empty w ↦
           subst₂ about (sym w.at-is) (sym w.k-is)
           (last_moves _ _ _ self.functions.faced self.first at self.begins c.loop.invariant.is_row
-          (subst (λ (i : ℕ). 0 < mask (get_or at i nothing)) c.last-last.ensures
+          (subst (λ (i : ℕ). 0 < mask (get_or at i nothing)) c.last_function-last.ensures
           (above_zero _ (sym c.is_empty.ensures ∙ w.if-is_empty.false))))
     ]
 
@@ -45,11 +45,11 @@ returns-then-is_some c =
 
 pub offset_bounds-at-last : goal.offset_bounds-at-last
 unfolding max_functions
-offset_bounds-at-last c = omega (arith, c.last-last.ensures, c.args.self.now.functions.faced.faces.few)
+offset_bounds-at-last c = omega (arith, c.last_function-last.ensures, c.args.self.now.functions.faced.faces.few)
 
 pub bounds-at-last : goal.bounds-at-last
 unfolding max_functions
-bounds-at-last c = omega (arith, c.last-last.ensures, c.args.self.now.functions.faced.faces.few)
+bounds-at-last c = omega (arith, c.last_function-last.ensures, c.args.self.now.functions.faced.faces.few)
 
 pub returns-then-k-eq0 : goal.returns-then-k-eq0
 returns-then-k-eq0 c =

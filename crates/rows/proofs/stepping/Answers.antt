@@ -1,4 +1,4 @@
--- `Functions::stepping`. The loop's invariant: the sets from k on are empty.
+-- `stepping`. The loop's invariant: the sets from k on are empty.
 use borrow.Author.Rules.{rules}
 use native.Mathlib.Omega.{arith}
 use Prim.Native.Nat.{ℕ, ◌+◌, ◌-◌, ◌<◌}
@@ -11,7 +11,7 @@ use Rattle.meaning.specs.Limits.{max_functions}
 use Rattle.masks.specs.Sets.{masks_in}
 use Rattle.masks.proofs.Words.{masks_at}
 use Rattle.rows.proofs.RowLaws.{above_zero}
-use Rattle.rows.proofs.functions.Functions.stepping.Goals as goal
+use Rattle.rows.proofs.stepping.Goals as goal
 
 pub offset_bounds-row-k : goal.offset_bounds-row-k
 unfolding max_functions

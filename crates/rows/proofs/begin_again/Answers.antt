@@ -1,11 +1,11 @@
--- `Functions::begin_again`: the sets from function k on are the first row's.
+-- `begin_again`: the sets from function k on are the first row's.
 use borrow.Author.Rules.{rules}
 use native.Mathlib.Omega.{arith}
 use mathlib.Core.Path.{◌≡◌}
 use lib.ListN.{length}
 use Rattle.meaning.specs.Limits.{max_functions}
 use Rattle.rows.proofs.RowLaws.{again_put}
-use Rattle.rows.proofs.functions.Functions.begin_again.Goals as goal
+use Rattle.rows.proofs.begin_again.Goals as goal
 
 pub offset_bounds-next-k : goal.offset_bounds-next-k
 unfolding max_functions
@@ -28,5 +28,4 @@ unfolding max_functions
 returns c =
     let n : length c.args.row ≡ 8 = search rules in
     let m : length c.args.first ≡ 8 = search rules in
-    let few = c.args.self.now.faced.faces.few in
-    rw c.copy_from_slice.ensures.after (again_put c.args.self.now.firsts.count c.args.first c.args.row c.args.k c.requires (omega arith) (omega arith))
+    rw c.copy_from_slice.ensures.after (again_put c.args.firsts.count c.args.first c.args.row c.args.k c.requires.there (omega arith) (omega arith))
