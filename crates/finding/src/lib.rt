@@ -23,10 +23,13 @@ pub fn find(problem: &[u8], place: Place, n: u32, text: &mut [u8]) -> Result<Fin
     ensures { Finds problem.now place n text.old text.new result }
 {
     let searched = search(problem, place, n)?;
-    let length = match searched.answer {
-        // There is room for any text, and the row of a Found is not refused.
-        Answer::Found(row) => write(problem, Place::at(row), text)?,
-        Answer::End | Answer::Paused => 0,
+    let Answer::Found(row) = searched.answer else {
+        return Ok(Finding {
+            searched,
+            length: 0,
+        });
     };
+    // There is room for any text, and the row of a Found is not refused.
+    let length = write(problem, Place::at(row), text)?;
     Ok(Finding { searched, length })
 }
