@@ -13,5 +13,5 @@ unfolding max_functions
 returns c =
     let long : length c.args.sets ≡ max_functions = search rules in
     let answer : c.all.result ≡ list_all (λ s. eqb (mask s) 0) c.args.sets =
-    all_from_yields_List _ _ _ _ c.all.ensures.ran (YieldsList-from_slice c.args.sets cc) (λ x b q k. search (rules, tests)) in
+    all_from_yields_List _ _ _ _ c.all.ensures.ran (YieldsList-from_slice c.args.sets c.iter.ensures.rest) (λ x b q k. search (rules, tests)) in
     rw answer (empty_masks c.args.sets max_functions long)
