@@ -142,13 +142,12 @@ fn read_field(s: &[u8], table: &mut [u64]) -> Option<Item>
     read_content(s, parts.tag, 3 + parts.length, table)
 }
 
-// What a field says of its metavariable.
-fn noted(mut said: Said, m: Metavariable, field: Field) -> Said
-    requires { NoteRoom said m.0 }
-    ensures { result ≡ noted_of said m.0 field }
+// What a field says of its metavariable, noted in place.
+fn noted(said: &mut Said, m: Metavariable, field: Field)
+    requires { NoteRoom said.old m.0 }
+    ensures { said.new ≡ noted_of said.old m.0 field }
 {
     said.fields[usize::from(m.0)] = Some(field);
-    said
 }
 
 // The order of the fields with one more at their end.
@@ -186,7 +185,7 @@ fn read_fields(text: &[u8], table: &mut [u64]) -> Result<Fields, Refusal>
         let Some(item) = read_field(&text[at..], &mut table[used..]) else {
             return Err(Refusal::TextMalformed);
         };
-        said = noted(said, item.m, item.rule.field(used));
+        noted(&mut said, item.m, item.rule.field(used));
         order = followed(order, item.m);
         used += item.nodes;
         at += item.bytes;

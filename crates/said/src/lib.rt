@@ -14,6 +14,7 @@ pub enum Field {
     Open,
 }
 
+// 768 bytes, so that it is written in place and lent.
 #[derive(Clone, Copy)]
 pub struct Said {
     pub fields: [Option<Field>; METAVARIABLES as usize],

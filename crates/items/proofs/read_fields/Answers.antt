@@ -17,8 +17,8 @@ returns-in_default c =
     reading_refused _ _ _ _ _ _ c.loop-at.invariant.1 c.loop-at-test.true c.read_field.new.table
     (all_bytes _ c.type_inv.text) c.in_default.ensures
 
-pub noted-said-requires : goal.noted-said-requires
-noted-said-requires c =
+pub noted-requires : goal.noted-requires
+noted-requires c =
     reading_noted _ _ _ _ _ _ c.loop-at.invariant.1 c.loop-at-test.true c.read_field.new.table _
     (all_bytes _ c.type_inv.text) c.in-Some.ensures
 
@@ -43,7 +43,7 @@ pub loop-at-preserved : goal.loop-at-preserved
 loop-at-preserved c =
     let l = c.loop-at in (
       same_len_mid l.used (length l.table - l.used) l.table c.read_field.new.table c.read_field.auto.table ∙ l.invariant.0,
-      rw (c.noted-said.ensures, c.field.ensures, c.followed-order.ensures)
+      rw (c.noted.ensures, c.field.ensures, c.followed-order.ensures)
           (reading_goes _ _ _ _ _ _ l.invariant.1 c.loop-at-test.true c.read_field.new.table _ (all_bytes _ c.type_inv.text) c.in-Some.ensures
           c.read_field.auto.table),
     )
