@@ -24,18 +24,18 @@ pub enum Verdict {
 
 // "an open metavariable stands only in arguments of functions whose body has no hole", and "a metavariable that stands only in such
 // arguments is open".
-fn open_right(a: Standing, ts: &[u64], said: Said) -> bool
-    requires { SomeTold a ts.now said }
-    ensures { OpenJudged a.entry ts.now said result }
+fn open_right(a: Standing, ts: &[u64], said: &Said) -> bool
+    requires { SomeTold a ts.now said.now }
+    ensures { OpenJudged a.entry ts.now said.now result }
 {
     let need = needed(a.patterns, holed(ts, said));
     open_unneeded(said, need) && unneeded_open(said, a.occurring.plain, need)
 }
 
 // Whether the text has just the fields that the problem calls for.
-fn fields_right(a: Standing, ts: &[u64], said: Said) -> bool
-    requires { SomeTold a ts.now said }
-    ensures { FieldsJudged a.entry ts.now said result }
+fn fields_right(a: Standing, ts: &[u64], said: &Said) -> bool
+    requires { SomeTold a ts.now said.now }
+    ensures { FieldsJudged a.entry ts.now said.now result }
 {
     known(said, a.occurring) && kinds(said, a.occurring) && open_right(a, ts, said)
 }
@@ -45,12 +45,12 @@ fn fields_right(a: Standing, ts: &[u64], said: Said) -> bool
 fn constraints_met(
     a: Standing,
     ts: &[u64],
-    said: Said,
+    said: &Said,
     holes: &mut [u64],
     scratch: &mut [u64],
 ) -> bool
-    requires { Decidable a ts.now said holes.old scratch.old }
-    ensures { Met a.entry ts.now said result }
+    requires { Decidable a ts.now said.now holes.old scratch.old }
+    ensures { Met a.entry ts.now said.now result }
 {
     let Some(faces) = a.faces else {
         return false;
@@ -58,9 +58,9 @@ fn constraints_met(
     filled(a.patterns, a.expressions, faces, ts, said, holes, scratch)
 }
 
-fn passes(a: Standing, ts: &[u64], said: Said, holes: &mut [u64], scratch: &mut [u64]) -> bool
-    requires { Decidable a ts.now said holes.old scratch.old }
-    ensures { Passed a.entry ts.now said result }
+fn passes(a: Standing, ts: &[u64], said: &Said, holes: &mut [u64], scratch: &mut [u64]) -> bool
+    requires { Decidable a ts.now said.now holes.old scratch.old }
+    ensures { Passed a.entry ts.now said.now result }
 {
     fields_right(a, ts, said) && constraints_met(a, ts, said, holes, scratch)
 }
@@ -74,7 +74,7 @@ fn check_text(a: Standing, text: &[u8]) -> Result<Verdict, Refusal>
     let mut holes = [0u64; TEXT_ROOM];
     let mut scratch = [0u64; TABLE_ROOM];
     let read = read_text(text, &mut ts)?;
-    if passes(a, &ts[..read.used], read.said, &mut holes, &mut scratch) {
+    if passes(a, &ts[..read.used], &read.said, &mut holes, &mut scratch) {
         Ok(Verdict::Yes)
     } else {
         Ok(Verdict::No)

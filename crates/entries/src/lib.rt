@@ -63,9 +63,9 @@ fn says_open(field: Option<Field>) -> bool
 }
 
 // The metavariables whose field passes a test: where its answers are those of a test q of the metavariables, the set of those that pass q.
-fn having<F: Fn(Option<Field>) -> bool>(said: Said, test: F) -> u32
-    requires { (m : ℕ) → m < metavariable_count → F.pre test (field_of said m) }
-    ensures { (q : ℕ → Bool) → ((m : ℕ) (yes : Bool) → m < metavariable_count → F.post test (field_of said m) yes → yes ≡ q m) → SetOf q result }
+fn having<F: Fn(Option<Field>) -> bool>(said: &Said, test: F) -> u32
+    requires { (m : ℕ) → m < metavariable_count → F.pre test (field_of said.now m) }
+    ensures { (q : ℕ → Bool) → ((m : ℕ) (yes : Bool) → m < metavariable_count → F.post test (field_of said.now m) yes → yes ≡ q m) → SetOf q result }
 {
     let mut set = 0u32;
     for (m, field) in said.fields.iter().enumerate() {
@@ -75,8 +75,8 @@ fn having<F: Fn(Option<Field>) -> bool>(said: Said, test: F) -> u32
 }
 
 // Whether each metavariable that has a field occurs.
-pub fn known(said: Said, occurring: Occurring) -> bool
-    ensures { result ≡ known_at said occurring }
+pub fn known(said: &Said, occurring: Occurring) -> bool
+    ensures { result ≡ known_at said.now occurring }
 {
     within(
         ALL,
@@ -85,8 +85,8 @@ pub fn known(said: Said, occurring: Occurring) -> bool
 }
 
 // Whether each function has a body, and each other metavariable a value or nothing.
-pub fn kinds(said: Said, occurring: Occurring) -> bool
-    ensures { result ≡ kinds_at said occurring }
+pub fn kinds(said: &Said, occurring: Occurring) -> bool
+    ensures { result ≡ kinds_at said.now occurring }
 {
     within(occurring.functions, having(said, says_body))
         && within(occurring.plain, having(said, says_value_or_open))
@@ -120,9 +120,9 @@ fn body_holed(ts: &[u64], field: Option<Field>) -> bool
 }
 
 // The functions whose body has a hole.
-pub fn holed(ts: &[u64], said: Said) -> u32
-    requires { Bodied ts.now said }
-    ensures { SetOf (holed_at ts.now said) result }
+pub fn holed(ts: &[u64], said: &Said) -> u32
+    requires { Bodied ts.now said.now }
+    ensures { SetOf (holed_at ts.now said.now) result }
 {
     having(said, |field| body_holed(ts, field))
 }
@@ -155,15 +155,15 @@ pub fn needed(ps: &[u64], holed: u32) -> u32
 }
 
 // Whether no metavariable that is open needs a value.
-pub fn open_unneeded(said: Said, needed: u32) -> bool
-    ensures { result ≡ open_unneeded_at said needed }
+pub fn open_unneeded(said: &Said, needed: u32) -> bool
+    ensures { result ≡ open_unneeded_at said.now needed }
 {
     having(said, says_open) & needed == 0
 }
 
 // Whether each metavariable that is no function and needs no value is open.
-pub fn unneeded_open(said: Said, plain: u32, needed: u32) -> bool
-    ensures { result ≡ unneeded_open_at said plain needed }
+pub fn unneeded_open(said: &Said, plain: u32, needed: u32) -> bool
+    ensures { result ≡ unneeded_open_at said.now plain needed }
 {
     within(plain, having(said, says_open) | needed)
 }

@@ -40,7 +40,7 @@ struct Filling<'a> {
     ps: &'a [u64],
     es: &'a [u64],
     ts: &'a [u64],
-    said: Said,
+    said: &'a Said,
     ghost patterns: { Table ps.now },
     ghost expressions: { Table es.now },
     ghost text: { Table ts.now },
@@ -49,9 +49,9 @@ struct Filling<'a> {
 impl<'a> Filling<'a> {
     // Whether the text gives metavariable m a value, and it is what stands at a node.
     #[tactic(auto, unfolding(meaning::specs::Limits::metavariable_count, crate::specs::Filled::value_at))]
-    fn value_is(self, m: usize, node: usize) -> bool
-        requires { SaidOf self.ts.now self.said m × Inside self.es.now node }
-        ensures { result ≡ value_at self.entry.ts.now self.entry.said self.entry.es.now m node }
+    fn value_is(&self, m: usize, node: usize) -> bool
+        requires { SaidOf self.now.ts.now self.now.said.now m × Inside self.now.es.now node }
+        ensures { result ≡ value_at self.now.ts.now self.now.said.now self.now.es.now m node }
     {
         let Some(Field::Value(at)) = self.said.fields[m] else {
             return false;
@@ -60,18 +60,18 @@ impl<'a> Filling<'a> {
     }
 
     // The same of the metavariable and the node of a recorded face.
-    fn faced_value_is(self, face: u64) -> bool
-        requires { Faced self.ps.now self.es.now self.ts.now self.said face }
-        ensures { result ≡ faced_value_at self.entry.ps.now self.entry.es.now self.entry.ts.now self.entry.said face }
+    fn faced_value_is(&self, face: u64) -> bool
+        requires { Faced self.now.ps.now self.now.es.now self.now.ts.now self.now.said.now face }
+        ensures { result ≡ faced_value_at self.now.ps.now self.now.es.now self.now.ts.now self.now.said.now face }
     {
         let x = self.ps[(face % 65536) as usize];
         self.value_is(payload(x) as usize, (face / 65536) as usize)
     }
 
     // All recorded faces of an argument.
-    fn values_are(self, faces: &[u64]) -> bool
-        requires { All (Faced self.ps.now self.es.now self.ts.now self.said) faces.now }
-        ensures { result ≡ every (faced_value_at self.entry.ps.now self.entry.es.now self.entry.ts.now self.entry.said) faces.now }
+    fn values_are(&self, faces: &[u64]) -> bool
+        requires { All (Faced self.now.ps.now self.now.es.now self.now.ts.now self.now.said.now) faces.now }
+        ensures { result ≡ every (faced_value_at self.now.ps.now self.now.es.now self.now.ts.now self.now.said.now) faces.now }
     {
         for face in faces {
             if !self.faced_value_is(*face) {
@@ -82,9 +82,9 @@ impl<'a> Filling<'a> {
     }
 
     // Whether the argument at node i, its metavariables filled, is what stands at a node.
-    fn argument_is(self, i: usize, node: usize, scratch: &mut [u64]) -> bool
-        requires { (length self.ps.now ≤ length scratch.old) × Argued self.ps.now self.es.now self.ts.now self.said i node }
-        ensures { result ≡ argument_at self.entry.ps.now self.entry.es.now self.entry.ts.now self.entry.said i node }
+    fn argument_is(&self, i: usize, node: usize, scratch: &mut [u64]) -> bool
+        requires { (length self.now.ps.now ≤ length scratch.old) × Argued self.now.ps.now self.now.es.now self.now.ts.now self.now.said.now i node }
+        ensures { result ≡ argument_at self.now.ps.now self.now.es.now self.now.ts.now self.now.said.now i node }
     {
         match walk_across(self.ps, i, self.es, node, scratch) {
             None => false,
@@ -93,9 +93,9 @@ impl<'a> Filling<'a> {
     }
 
     // Whether it is what stands across each hole of a body.
-    fn arguments_are(self, i: usize, holes: &[u64], scratch: &mut [u64]) -> bool
-        requires { (length self.ps.now ≤ length scratch.old) × All (ArguedAt self.ps.now self.es.now self.ts.now self.said i) holes.now }
-        ensures { result ≡ every (hole_at self.entry.ps.now self.entry.es.now self.entry.ts.now self.entry.said i) holes.now }
+    fn arguments_are(&self, i: usize, holes: &[u64], scratch: &mut [u64]) -> bool
+        requires { (length self.now.ps.now ≤ length scratch.old) × All (ArguedAt self.now.ps.now self.now.es.now self.now.ts.now self.now.said.now i) holes.now }
+        ensures { result ≡ every (hole_at self.now.ps.now self.now.es.now self.now.ts.now self.now.said.now i) holes.now }
     {
         for hole in holes {
             let node = (*hole / 65536) as usize;
@@ -108,15 +108,15 @@ impl<'a> Filling<'a> {
 
     // Whether the body at node b of the text, with the filled argument at node i in each hole, is what stands at a node.
     fn body_is(
-        self,
+        &self,
         b: usize,
         i: usize,
         node: usize,
         holes: &mut [u64],
         scratch: &mut [u64],
     ) -> bool
-        requires { Rooms self.ps.now self.ts.now holes.old scratch.old × Bodied self.ps.now self.es.now self.ts.now self.said b i node }
-        ensures { result ≡ body_at self.entry.ps.now self.entry.es.now self.entry.ts.now self.entry.said b i node }
+        requires { Rooms self.now.ps.now self.now.ts.now holes.old scratch.old × Bodied self.now.ps.now self.now.es.now self.now.ts.now self.now.said.now b i node }
+        ensures { result ≡ body_at self.now.ps.now self.now.es.now self.now.ts.now self.now.said.now b i node }
     {
         match walk_across(self.ts, b, self.es, node, holes) {
             None => false,
@@ -125,9 +125,9 @@ impl<'a> Filling<'a> {
     }
 
     // Whether the text gives the function of a recorded application a body, and with the application's argument it is what is faced.
-    fn application_is(self, face: u64, holes: &mut [u64], scratch: &mut [u64]) -> bool
-        requires { Rooms self.ps.now self.ts.now holes.old scratch.old × Applied self.ps.now self.es.now self.ts.now self.said face }
-        ensures { result ≡ application_at self.entry.ps.now self.entry.es.now self.entry.ts.now self.entry.said face }
+    fn application_is(&self, face: u64, holes: &mut [u64], scratch: &mut [u64]) -> bool
+        requires { Rooms self.now.ps.now self.now.ts.now holes.old scratch.old × Applied self.now.ps.now self.now.es.now self.now.ts.now self.now.said.now face }
+        ensures { result ≡ application_at self.now.ps.now self.now.es.now self.now.ts.now self.now.said.now face }
     {
         let i = (face % 65536) as usize;
         let f = payload(self.ps[i]) as usize;
@@ -139,9 +139,9 @@ impl<'a> Filling<'a> {
     }
 
     // One recorded face of the problem: that of an application, or of a metavariable.
-    fn face_is(self, face: u64, holes: &mut [u64], scratch: &mut [u64]) -> bool
-        requires { Rooms self.ps.now self.ts.now holes.old scratch.old × Slotted self.ps.now self.es.now self.ts.now self.said face }
-        ensures { result ≡ face_at self.entry.ps.now self.entry.es.now self.entry.ts.now self.entry.said face }
+    fn face_is(&self, face: u64, holes: &mut [u64], scratch: &mut [u64]) -> bool
+        requires { Rooms self.now.ps.now self.now.ts.now holes.old scratch.old × Slotted self.now.ps.now self.now.es.now self.now.ts.now self.now.said.now face }
+        ensures { result ≡ face_at self.now.ps.now self.now.es.now self.now.ts.now self.now.said.now face }
     {
         if tag(self.ps[(face % 65536) as usize]) != 6 {
             return self.faced_value_is(face);
@@ -157,12 +157,12 @@ pub fn filled(
     es: &[u64],
     faces: &[u64],
     ts: &[u64],
-    said: Said,
+    said: &Said,
     holes: &mut [u64],
     scratch: &mut [u64],
 ) -> bool
-    requires { Grounded ps.now es.now faces.now ts.now said holes.old scratch.old }
-    ensures { result ≡ filled_at ps.now es.now faces.now ts.now said }
+    requires { Grounded ps.now es.now faces.now ts.now said.now holes.old scratch.old }
+    ensures { result ≡ filled_at ps.now es.now faces.now ts.now said.now }
 {
     let filling = Filling { ps, es, ts, said };
     for face in faces {

@@ -8,5 +8,5 @@ use Rattle.entries.proofs.having.Given as goal
 abbrev pub invariant-loop-m : goal.invariant-loop-m
 invariant-loop-m g l =
     (q : ℕ → Bool)
-    → ((m : ℕ) (yes : Bool) → m < metavariable_count → goal.F-post g l.test (field_of l.fn.said m) yes → yes ≡ q m)
+    → ((m : ℕ) (yes : Bool) → m < metavariable_count → goal.F-post g l.test (field_of l.said m) yes → yes ≡ q m)
     → Gathered q l.m l.set

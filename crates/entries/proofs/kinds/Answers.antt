@@ -6,11 +6,11 @@ use Rattle.entries.proofs.kinds.Goals as goal
 pub returns-then-within : goal.returns-then-within
 returns-then-within c =
     let a = c.args in
-    kinds_returns a.said a.occurring c.having.result c.within.result (c.having.ensures _ (λ m yes h p. p.1)) c.within.ensures
+    kinds_returns a.said.now a.occurring c.having.result c.within.result (c.having.ensures _ (λ m yes h p. p.1)) c.within.ensures
     c.if-within.true c.having-then-within.result c.within-then-within.result (c.having-then-within.ensures _ (λ m yes h p. p.1))
     c.within-then-within.ensures
 
 pub returns-else-within : goal.returns-else-within
 returns-else-within c =
     let a = c.args in
-    c.if-within.false ∙ kinds_refused a.said a.occurring c.having.result c.within.result (c.having.ensures _ (λ m yes h p. p.1)) c.within.ensures c.if-within.false
+    c.if-within.false ∙ kinds_refused a.said.now a.occurring c.having.result c.within.result (c.having.ensures _ (λ m yes h p. p.1)) c.within.ensures c.if-within.false

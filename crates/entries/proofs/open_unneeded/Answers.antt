@@ -4,4 +4,4 @@ use borrow.Author.Rules.{rules}
 use Rattle.entries.proofs.open_unneeded.Goals as goal
 
 pub returns : goal.returns
-returns c = open_returns c.args.said c.args.needed c.having.result (c.having.ensures _ (λ m yes h p. p.1)) (search rules) c.ranges.needed.fits
+returns c = open_returns c.args.said.now c.args.needed c.having.result (c.having.ensures _ (λ m yes h p. p.1)) (search rules) c.ranges.needed.fits

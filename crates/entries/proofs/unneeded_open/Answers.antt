@@ -5,5 +5,5 @@ use Rattle.entries.proofs.unneeded_open.Goals as goal
 pub returns : goal.returns
 returns c =
     let a = c.args in
-    unneeded_returns a.said a.needed c.having.result (c.having.ensures _ (λ m yes h p. p.1)) a.plain c.within.result
+    unneeded_returns a.said.now a.needed c.having.result (c.having.ensures _ (λ m yes h p. p.1)) a.plain c.within.result
     c.within.ensures

@@ -9,8 +9,8 @@ pub invariant_of-filling : goal.invariant_of-filling
 invariant_of-filling c =
     let a = c.args in
     record {
-      patterns = grounded_patterns a.ps.now a.es.now a.faces.now a.ts.now a.said a.holes.now a.scratch.now c.requires;
-      expressions = grounded_expressions a.ps.now a.es.now a.faces.now a.ts.now a.said a.holes.now a.scratch.now c.requires;
+      patterns = grounded_patterns a.ps.now a.es.now a.faces.now a.ts.now a.said.now a.holes.now a.scratch.now c.requires;
+      expressions = grounded_expressions a.ps.now a.es.now a.faces.now a.ts.now a.said.now a.holes.now a.scratch.now c.requires;
       text = c.requires.says.is_table;
     }
 
@@ -20,7 +20,7 @@ loop-face-init c =
       refl,
       refl,
       record {
-        left = grounded_slots a.ps.now a.es.now a.faces.now a.ts.now a.said a.holes.now a.scratch.now c.requires;
+        left = grounded_slots a.ps.now a.es.now a.faces.now a.ts.now a.said.now a.holes.now a.scratch.now c.requires;
         leads = refl;
       },
     )
@@ -30,7 +30,7 @@ face_is-requires c =
     let a = c.args in
     let l = c.loop-face in (
       rooms_again a.ps.now a.ts.now a.holes.now a.scratch.now l.holes l.scratch
-          (grounded_rooms a.ps.now a.es.now a.faces.now a.ts.now a.said a.holes.now a.scratch.now c.requires)
+          (grounded_rooms a.ps.now a.es.now a.faces.now a.ts.now a.said.now a.holes.now a.scratch.now c.requires)
           l.invariant.0 l.invariant.1,
       testing_ready l.invariant.2 c.loop-face-test.true,
     )

@@ -8,4 +8,4 @@ use Rattle.filled.proofs.filled.Given as goal
 
 abbrev pub invariant-loop-face : goal.invariant-loop-face
 invariant-loop-face l =
-    (length l.holes ≡ length l.initial.holes) × (length l.scratch ≡ length l.initial.scratch) × Testing (Slotted l.ps l.es l.ts l.fn.said) (face_at l.ps l.es l.ts l.fn.said) l.faces l.face-index
+    (length l.holes ≡ length l.initial.holes) × (length l.scratch ≡ length l.initial.scratch) × Testing (Slotted l.ps l.es l.ts l.said) (face_at l.ps l.es l.ts l.said) l.faces l.face-index

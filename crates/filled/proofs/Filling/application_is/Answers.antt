@@ -15,6 +15,14 @@ pub bounds : goal.bounds
 unfolding metavariable_count
 bounds c = application_number _ _ _ _ _ _ c.payload-f.ensures c.requires.1
 
+pub bounds-in-Some-1 : goal.bounds-in-Some-1
+unfolding metavariable_count
+bounds-in-Some-1 c = application_number _ _ _ _ _ _ c.payload-f.ensures c.requires.1
+
+pub bounds-self-f-in-Body-1 : goal.bounds-self-f-in-Body-1
+unfolding metavariable_count
+bounds-self-f-in-Body-1 c = application_number _ _ _ _ _ _ c.payload-f.ensures c.requires.1
+
 pub returns-in_default : goal.returns-in_default
 returns-in_default c = application_says _ _ _ _ _ _ c.payload-f.ensures _ c.in_default.is _ (search rules)
 

@@ -15,16 +15,16 @@ slice_bounds-values_are-end-in-Some c =
 pub values_are-requires : goal.values_are-requires
 values_are-requires c =
     let a = c.args in
-    argument_faces a.self.ps.now a.self.es.now a.self.ts.now a.self.said a.i a.node _ c.in-Some.n
+    argument_faces a.self.now.ps.now a.self.now.es.now a.self.now.ts.now a.self.now.said.now a.i a.node _ c.in-Some.n
     (found _ _ _ _ c.walk_across.ensures c.in-Some.n c.in-Some.is) c.requires.1
 
 pub returns-in-None : goal.returns-in-None
 returns-in-None c =
     let a = c.args in
-    argument_fails a.self.ps.now a.self.es.now a.self.ts.now a.self.said a.i a.node (disagreed _ _ _ _ c.walk_across.ensures c.in-None.is)
+    argument_fails a.self.now.ps.now a.self.now.es.now a.self.now.ts.now a.self.now.said.now a.i a.node (disagreed _ _ _ _ c.walk_across.ensures c.in-None.is)
 
 pub returns-in-Some : goal.returns-in-Some
 returns-in-Some c =
     let a = c.args in
-    argument_found a.self.ps.now a.self.es.now a.self.ts.now a.self.said a.i a.node _ c.in-Some.n
+    argument_found a.self.now.ps.now a.self.now.es.now a.self.now.ts.now a.self.now.said.now a.i a.node _ c.in-Some.n
     (found _ _ _ _ c.walk_across.ensures c.in-Some.n c.in-Some.is) c.values_are.result c.values_are.ensures

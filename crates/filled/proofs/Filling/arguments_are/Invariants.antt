@@ -8,4 +8,4 @@ use Rattle.filled.proofs.Filling.arguments_are.Given as goal
 
 abbrev pub invariant-loop-hole : goal.invariant-loop-hole
 invariant-loop-hole l =
-    (length l.scratch ≡ length l.initial.scratch) × Testing (ArguedAt l.self.ps.now l.self.es.now l.self.ts.now l.self.said l.i) (hole_at l.self.ps.now l.self.es.now l.self.ts.now l.self.said l.i) l.holes l.hole-index
+    (length l.scratch ≡ length l.initial.scratch) × Testing (ArguedAt l.self.ps.now l.self.es.now l.self.ts.now l.self.said.now l.i) (hole_at l.self.ps.now l.self.es.now l.self.ts.now l.self.said.now l.i) l.holes l.hole-index

@@ -16,17 +16,17 @@ pub arguments_are-requires : goal.arguments_are-requires
 arguments_are-requires c =
     let a = c.args in (
       c.requires.0.arguments,
-      body_holes a.self.ps.now a.self.es.now a.self.ts.now a.self.said a.b a.i a.node _ c.in-Some.n
+      body_holes a.self.now.ps.now a.self.now.es.now a.self.now.ts.now a.self.now.said.now a.b a.i a.node _ c.in-Some.n
           (found _ _ _ _ c.walk_across.ensures c.in-Some.n c.in-Some.is) c.requires.1,
     )
 
 pub returns-in-None : goal.returns-in-None
 returns-in-None c =
     let a = c.args in
-    body_fails a.self.ps.now a.self.es.now a.self.ts.now a.self.said a.b a.i a.node (disagreed _ _ _ _ c.walk_across.ensures c.in-None.is)
+    body_fails a.self.now.ps.now a.self.now.es.now a.self.now.ts.now a.self.now.said.now a.b a.i a.node (disagreed _ _ _ _ c.walk_across.ensures c.in-None.is)
 
 pub returns-in-Some : goal.returns-in-Some
 returns-in-Some c =
     let a = c.args in
-    body_found a.self.ps.now a.self.es.now a.self.ts.now a.self.said a.b a.i a.node _ c.in-Some.n
+    body_found a.self.now.ps.now a.self.now.es.now a.self.now.ts.now a.self.now.said.now a.b a.i a.node _ c.in-Some.n
     (found _ _ _ _ c.walk_across.ensures c.in-Some.n c.in-Some.is) c.arguments_are.result c.arguments_are.ensures

@@ -6,7 +6,7 @@ use Rattle.filled.proofs.Filling.face_is.Goals as goal
 pub returns-then-tag-ne6 : goal.returns-then-tag-ne6
 returns-then-tag-ne6 c =
     let a = c.args in
-    face_plain a.self.ps.now a.self.es.now a.self.ts.now a.self.said a.face c.tag.result c.tag.ensures c.if-tag-ne6.true
+    face_plain a.self.now.ps.now a.self.now.es.now a.self.now.ts.now a.self.now.said.now a.face c.tag.result c.tag.ensures c.if-tag-ne6.true
     c.faced_value_is.result c.faced_value_is.ensures
 
 pub application_is-requires : goal.application_is-requires
@@ -15,5 +15,5 @@ application_is-requires c = (c.requires.0, c.requires.1.applied (sym c.tag.ensur
 pub returns : goal.returns
 returns c =
     let a = c.args in
-    face_applies a.self.ps.now a.self.es.now a.self.ts.now a.self.said a.face c.tag.result c.tag.ensures c.if-tag-ne6.false
+    face_applies a.self.now.ps.now a.self.now.es.now a.self.now.ts.now a.self.now.said.now a.face c.tag.result c.tag.ensures c.if-tag-ne6.false
     c.application_is.result c.application_is.ensures

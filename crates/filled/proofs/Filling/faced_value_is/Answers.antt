@@ -5,10 +5,10 @@ use Rattle.filled.proofs.Filling.faced_value_is.Goals as goal
 pub value_is-requires : goal.value_is-requires
 value_is-requires c =
     let a = c.args in
-    faced_asks a.self.ps.now a.self.es.now a.self.ts.now a.self.said a.face c.payload.result c.payload.ensures c.requires
+    faced_asks a.self.now.ps.now a.self.now.es.now a.self.now.ts.now a.self.now.said.now a.face c.payload.result c.payload.ensures c.requires
 
 pub returns : goal.returns
 returns c =
     let a = c.args in
-    faced_answer a.self.ps.now a.self.es.now a.self.ts.now a.self.said a.face c.payload.result c.payload.ensures
+    faced_answer a.self.now.ps.now a.self.now.es.now a.self.now.ts.now a.self.now.said.now a.face c.payload.result c.payload.ensures
     c.value_is.result c.value_is.ensures
