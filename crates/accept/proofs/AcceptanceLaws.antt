@@ -31,7 +31,7 @@ use Rattle.faces.proofs.CheckMeaning.{check_means, check_answer_lem}
 use Rattle.table.specs.Whole.{table_room, ProblemDone}
 use Rattle.table.specs.declared.answer.Read.{Read}
 use Rattle.table.proofs.ProblemLaws.{TablesOf, read_refused, read_accepted}
-use Rattle.accept.specs.Acceptance.{Checks, FacesFound, FacesAt, Kept, Fills, Stands, Accepts}
+use Rattle.accept.specs.Acceptance.{Checks, FacesFound, FacesAt, Kept, Accepts, Stands, AcceptsLent}
 use Rattle.accept.specs.declared.Filled.{Filled}
 use Rattle.accept.specs.declared.Standing.{Standing}
 use Rattle.refusal.specs.Number.{number}
@@ -124,13 +124,13 @@ counted ns n xs p r l = let m = length_recorded _ _ _ (take n ns) xs r in let k 
 faces_at : (q : Problem) (new : List ℕ) (o : std.Option ℕ) → Says q new (Ok o) → FacesAt q new o
 faces_at q new None h = h.1
 faces_at q new (Some n) h =
-    (counted new n h.found q h.recorded h.count, record { found = h.found; agree = h.agree; recorded = h.recorded })
+    (counted new n h.found q h.recorded h.count, record { found = h.found; agree = h.agree; recorded = h.recorded }, h.count)
 
--- The returns of `fill`
-pub fills_refused : (s o p x y new : List ℕ) {r : Refusal} → ProblemDone (read_problem s) o p x y (Err r)
-    → Fills (accept s) o p x y new (Err r)
-unfolding accept Fills
-fills_refused s o p x y new d = rw (read_refused s o p x y d)
+-- The returns of `accept`
+pub accepts_refused : (s o p x y new : List ℕ) {r : Refusal} → ProblemDone (read_problem s) o p x y (Err r)
+    → Accepts (accept s) o p x y new (Err r)
+unfolding accept Accepts
+accepts_refused s o p x y new d = rw (read_refused s o p x y d)
 
 module _ (s o p x y : List ℕ) (b : AreBytes s) (n : Read) (d : ProblemDone (read_problem s) o p x y (Ok n)) (old new : List ℕ) where
   answered : (c : Checked) → CheckedBy (take n.patterns p) (take n.expressions y) old new c → accept s ≡ answer_of (tables s o p x y b n d).problem c
@@ -138,10 +138,10 @@ module _ (s o p x y : List ℕ) (b : AreBytes s) (n : Read) (d : ProblemDone (re
       reading_checking s o p x y b (Ok n) d old new c (λ m e. let same : n ≡ m = cc in rw (← same) h)
       ∙ rw (tables s o p x y b n d).reads
 
-  pub fills_checked : (r : Result Filled Refusal) → Checks (take n.patterns p) (take n.expressions y) old new r → Fills (accept s) o p x y new r
-  unfolding Fills
-  fills_checked (Err r) h = answered (Err r) h
-  fills_checked (Ok a) h =
+  pub accepts_checked : (r : Result Filled Refusal) → Checks (take n.patterns p) (take n.expressions y) old new r → Accepts (accept s) o p x y new r
+  unfolding Accepts
+  accepts_checked (Err r) h = answered (Err r) h
+  accepts_checked (Ok a) h =
       let t = tables s o p x y b n d in
       let front = rw (pattern_front s o p x y b n d, expression_front s o p x y b n d) at h in
       let says = check_means t.problem (within s o p x y b n d) old new (Ok a.faces) front.check in
@@ -161,7 +161,7 @@ module _ (s o p x y : List ℕ) (b : AreBytes s) (n : Read) (d : ProblemDone (re
         },
       )
 
--- What `fill` leaves is what `accept` lends
+-- What `accept` leaves is what `accept_lent` lends
 front : (xs later ys : List ℕ) (n : ℕ) → n ≡ length xs → ys ≡ xs ++ later → (take n ys ≡ xs) × (n ≤ length ys)
 front xs later ys n l e = (ap (take n) e ∙ take_at xs later n (sym l), omega (arith, ap length e, length-append xs later))
 
@@ -174,20 +174,29 @@ lent_faces : (p : Problem) (fs : List ℕ) (o : std.Option ℕ) (r : std.Option 
 lent_faces p fs o None h e = subst (FacesAt p fs) e h
 lent_faces p fs o (Some lent) h (n, e, l) = let at = subst (FacesAt p fs) e h in rw l at.1
 
+-- What the answer tells a caller: a refusal is document 01's,
 module _ (x : Answer Problem) (ps ps' es es' fs' : List ℕ) where
-  pub filled_refused : (r : Refusal) → Fills x ps ps' es es' fs' (Err r) → Accepts x (Err r)
-  unfolding Fills Accepts
-  filled_refused r h = h
+  pub verdict_refused : (r : Refusal) → Accepts x ps ps' es es' fs' (Err r) → x ≡ refused (number r)
+  unfolding Accepts
+  verdict_refused r h = h
 
-  module _ (a : Filled) (h : Fills x ps ps' es es' fs' (Ok a)) where
-    kept : (p : Problem) × (x ≡ got p) × Kept p ps ps' es es' fs' a
-    unfolding Fills
-    kept = h
+  pub filled_refused : (r : Refusal) → Accepts x ps ps' es es' fs' (Err r) → AcceptsLent x (Err r)
+  unfolding AcceptsLent
+  filled_refused r h = verdict_refused r h
 
-    patterns_front : (take a.patterns ps' ≡ pattern_tokens kept.0) × (a.patterns ≤ length ps')
+  -- ... and otherwise the problem that document 01 accepts stands in the tables, with no entry after it changed
+  pub verdict_accepted : (a : Filled) → Accepts x ps ps' es es' fs' (Ok a) → (p : Problem) × (x ≡ got p) × Kept p ps ps' es es' fs' a
+  unfolding Accepts
+  verdict_accepted a h = h
+
+  module _ (a : Filled) (h : Accepts x ps ps' es es' fs' (Ok a)) where
+    abbrev pub kept : (p : Problem) × (x ≡ got p) × Kept p ps ps' es es' fs' a
+    kept = verdict_accepted a h
+
+    pub patterns_front : (take a.patterns ps' ≡ pattern_tokens kept.0) × (a.patterns ≤ length ps')
     patterns_front = front (pattern_tokens kept.0) (drop a.patterns ps) ps' a.patterns kept.2.patterns kept.2.pattern_table
 
-    expressions_front : (take a.expressions es' ≡ expression_tokens kept.0) × (a.expressions ≤ length es')
+    pub expressions_front : (take a.expressions es' ≡ expression_tokens kept.0) × (a.expressions ≤ length es')
     expressions_front =
         front (expression_tokens kept.0) (drop a.expressions es) es' a.expressions kept.2.expressions kept.2.expression_table
 
@@ -203,8 +212,8 @@ module _ (x : Answer Problem) (ps ps' es es' fs' : List ℕ) where
 
     -- ... and the problem, where they are lent
     pub filled_lent : (r : Standing) → r.patterns.now ≡ take a.patterns ps' → r.expressions.now ≡ take a.expressions es'
-        → r.occurring ≡ a.occurring → FrontOf fs' a.faces r.faces → Accepts x (Ok r)
-    unfolding Accepts
+        → r.occurring ≡ a.occurring → FrontOf fs' a.faces r.faces → AcceptsLent x (Ok r)
+    unfolding AcceptsLent
     filled_lent r e f o g = (
       kept.0,
       kept.1,
@@ -217,15 +226,14 @@ module _ (x : Answer Problem) (ps ps' es es' fs' : List ℕ) where
       },
     )
 
--- What the answer tells a caller: a refusal is document 01's,
-pub verdict_refused : (x : Answer Problem) (r : Refusal) → Accepts x (Err r) → x ≡ refused (number r)
-unfolding Accepts
-verdict_refused x r h = h
+-- What the answer that is lent tells a caller
+pub lent_refused : (x : Answer Problem) (r : Refusal) → AcceptsLent x (Err r) → x ≡ refused (number r)
+unfolding AcceptsLent
+lent_refused x r h = h
 
--- ... and otherwise the problem that document 01 accepts is lent
-pub verdict_accepted : (x : Answer Problem) (a : Standing) → Accepts x (Ok a) → (p : Problem) × (x ≡ got p) × Stands p a
-unfolding Accepts
-verdict_accepted x a h = h
+pub lent_accepted : (x : Answer Problem) (a : Standing) → AcceptsLent x (Ok a) → (p : Problem) × (x ≡ got p) × Stands p a
+unfolding AcceptsLent
+lent_accepted x a h = h
 
 -- ... in tables with room for every problem
 pub patterns_few : (p : Problem) → WithinLimits p → (t : List ℕ) → t ≡ pattern_tokens p → length t ≤ table_room

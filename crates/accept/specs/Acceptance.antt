@@ -2,10 +2,9 @@
 --   Passed    the tables of a problem passed the checks, and what is known of them
 --   FacesAt   its faces are recorded at the front of a table, so many; or it has no rows
 --   Kept      the same of the problem: it stands at the fronts of the two tables, and its faces are recorded
---   Fills     the answer for any bytes, in tables that are lent
---   FacesIn   its faces, as a slice that is lent
---   Stands    the problem as it is lent
 --   Accepts   the answer for any bytes
+--   Stands    the problem as it is lent
+--   AcceptsLent   the answer for any bytes, as it is lent
 use Rattle.std.specs.Prelude.{◌≡◌, ℕ, ◌≤◌, List, ◌++◌, length, take, drop, Result, Ok, Err, Some, None, MatchOption}
 use Rattle.std.specs.Prelude as std
 use Rattle.std.proofs.Math.Option.{none, some}
@@ -46,7 +45,7 @@ pub record FacesFound (p : Problem) (fs : List ℕ) : Type 0 where
 
 abbrev pub FacesAt : Problem → List ℕ → std.Option ℕ → Type 0
 FacesAt p fs None = faces p ≡ none
-FacesAt p fs (Some n) = (n ≤ length fs) × FacesFound p (take n fs)
+FacesAt p fs (Some n) = (n ≤ length fs) × (f : FacesFound p (take n fs)) × (length f.found ≡ n)
 
 -- The tables hold the problem, with no entry after its tokens changed, and its faces are recorded
 pub record Kept (p : Problem) (ps ps' es es' fs' : List ℕ) (a : Filled) : Type 0 where
@@ -59,9 +58,9 @@ pub record Kept (p : Problem) (ps ps' es es' fs' : List ℕ) (a : Filled) : Type
   pub faces : FacesAt p fs' a.faces
 
 -- A refusal is document 01's, with its number; any other answer is of the problem that document 01 accepts
-unfoldable pub Fills : Answer Problem → List ℕ → List ℕ → List ℕ → List ℕ → List ℕ → Result Filled Refusal → Type 0
-Fills x ps ps' es es' fs' (Err r) = x ≡ refused (number r)
-Fills x ps ps' es es' fs' (Ok a) = (p : Problem) × (x ≡ got p) × Kept p ps ps' es es' fs' a
+unfoldable pub Accepts : Answer Problem → List ℕ → List ℕ → List ℕ → List ℕ → List ℕ → Result Filled Refusal → Type 0
+Accepts x ps ps' es es' fs' (Err r) = x ≡ refused (number r)
+Accepts x ps ps' es es' fs' (Ok a) = (p : Problem) × (x ≡ got p) × Kept p ps ps' es es' fs' a
 
 -- The problem and its faces, in slices
 pub record Stands (p : Problem) (a : Standing) : Type 0 where
@@ -72,6 +71,6 @@ pub record Stands (p : Problem) (a : Standing) : Type 0 where
   pub faces : MatchOption a.faces (faces p ≡ none) (λ fs. FacesFound p fs.now)
 
 -- The same of the answer that is lent
-unfoldable pub Accepts : Answer Problem → Result Standing Refusal → Type 0
-Accepts x (Err r) = x ≡ refused (number r)
-Accepts x (Ok a) = (p : Problem) × (x ≡ got p) × Stands p a
+unfoldable pub AcceptsLent : Answer Problem → Result Standing Refusal → Type 0
+AcceptsLent x (Err r) = x ≡ refused (number r)
+AcceptsLent x (Ok a) = (p : Problem) × (x ≡ got p) × Stands p a

@@ -4,13 +4,13 @@
 ghost use Rattle.std.specs.Prelude.{◌≤◌, length};
 ghost use Rattle.meaning.specs.Accept.{accept};
 ghost use Rattle.tokens.specs.Token.{Table};
-ghost use Rattle.accept.specs.Acceptance.{Checks, Rooms, Fills, Accepts};
+ghost use Rattle.accept.specs.Acceptance.{Checks, Rooms, Accepts, AcceptsLent};
 
 use faces::check::check;
 use metavariables::{Occurring, survey};
 use refusal::Refusal;
 
-// An accepted problem: the tokens of its patterns and of its expressions, the sets of its metavariables, and its faces.
+// An accepted problem, as it is lent: the tokens of its patterns and of its expressions, the sets of its metavariables, and its faces.
 #[derive(Clone, Copy)]
 pub struct Standing<'a> {
     pub patterns: &'a [u64],
@@ -47,32 +47,32 @@ fn checked(ps: &[u64], es: &[u64], faces: &mut [u64]) -> Result<Filled, Refusal>
 
 // Any bytes: document 01's refusal, or the problem's tokens at the front of the two tables, with no entry after them changed, and its faces at
 // the front of the third. After a refusal the tables may hold anything.
-pub fn fill(
+pub fn accept(
     problem: &[u8],
     ps: &mut [u64],
     es: &mut [u64],
     faces: &mut [u64],
 ) -> Result<Filled, Refusal>
     requires { Rooms ps.old es.old faces.old }
-    ensures { Fills (accept problem.now) ps.old ps.new es.old es.new
+    ensures { Accepts (accept problem.now) ps.old ps.new es.old es.new
         faces.new result }
 {
     let read = table::read(problem, ps, es)?;
     checked(&ps[..read.patterns], &es[..read.expressions], faces)
 }
 
-// Any bytes: document 01's refusal, or the accepted problem, in the tables that are lent. What is after it in them, which `fill` leaves as it
-// was, is not reached through the answer.
-pub fn accept<'a>(
+// The same, where the problem alone is asked for: document 01's refusal, or the accepted problem in slices of the tables. While these are lent
+// no clause can say what the tables hold, as that of `accept` does.
+pub fn accept_lent<'a>(
     problem: &[u8],
     ps: &'a mut [u64],
     es: &'a mut [u64],
     faces: &'a mut [u64],
 ) -> Result<Standing<'a>, Refusal>
     requires { Rooms ps.old es.old faces.old }
-    ensures { Accepts (accept problem.now) result }
+    ensures { AcceptsLent (accept problem.now) result }
 {
-    let filled = fill(problem, ps, es, faces)?;
+    let filled = accept(problem, ps, es, faces)?;
     Ok(Standing {
         patterns: &ps[..filled.patterns],
         expressions: &es[..filled.expressions],

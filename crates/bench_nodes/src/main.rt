@@ -11,7 +11,7 @@ ghost use Rattle.table.specs.Whole.{table_room};
 ghost use Rattle.numbers.specs.Numbering.{Numerable, Rooms};
 ghost use Rattle.comparing.specs.Comparing.{Nested};
 
-use accept::accept;
+use accept::accept_lent;
 use comparing::compare;
 use numbers::make::number;
 use table::TABLE_ROOM;
@@ -64,7 +64,7 @@ fn pairs_of(problem: &[u8]) -> usize {
     let mut patterns = [0u64; TABLE_ROOM];
     let mut expressions = [0u64; TABLE_ROOM];
     let mut faces = [0u64; TABLE_ROOM];
-    match accept(problem, &mut patterns, &mut expressions, &mut faces) {
+    match accept_lent(problem, &mut patterns, &mut expressions, &mut faces) {
         Err(_) => 0,
         Ok(standing) => measure(standing.expressions),
     }
@@ -101,7 +101,7 @@ fn numbers_of(problem: &[u8], times: usize) -> usize {
     let mut patterns = [0u64; TABLE_ROOM];
     let mut expressions = [0u64; TABLE_ROOM];
     let mut faces = [0u64; TABLE_ROOM];
-    match accept(problem, &mut patterns, &mut expressions, &mut faces) {
+    match accept_lent(problem, &mut patterns, &mut expressions, &mut faces) {
         Err(_) => 0,
         Ok(standing) => measure_numbers(standing.expressions, times),
     }
@@ -113,7 +113,7 @@ fn read_again(problem: &[u8]) -> usize {
     let mut faces = [0u64; TABLE_ROOM];
     let mut nodes = 0;
     for _ in 0..TIMES {
-        nodes = match accept(problem, &mut patterns, &mut expressions, &mut faces) {
+        nodes = match accept_lent(problem, &mut patterns, &mut expressions, &mut faces) {
             Err(_) => 0,
             Ok(standing) => standing.expressions.len(),
         };

@@ -5,7 +5,7 @@
 // every set of symbols that is not empty: 2^19 + 1 rows.
 #![tactic(auto)]
 
-use prepare::prepare;
+use prepare::prepare_lent;
 use refusal::Refusal;
 use rows::{Functions, begin_again, last_function, stepping};
 use table::TABLE_ROOM;
@@ -45,7 +45,7 @@ fn rows_of(problem: &[u8]) -> Result<u64, Refusal> {
     let mut es = [0u64; TABLE_ROOM];
     let mut ns = [0u64; TABLE_ROOM];
     let mut fs = [0u64; TABLE_ROOM];
-    let prepared = prepare(problem, &mut ps, &mut es, &mut ns, &mut fs)?;
+    let prepared = prepare_lent(problem, &mut ps, &mut es, &mut ns, &mut fs)?;
     Ok(match prepared.functions {
         Some(functions) => count(&functions),
         None => 0,
@@ -60,7 +60,7 @@ fn prepare_again(problem: &[u8]) -> usize {
     let mut fs = [0u64; TABLE_ROOM];
     let mut functions = 0;
     for _ in 0..TIMES {
-        if let Ok(prepared) = prepare(problem, &mut ps, &mut es, &mut ns, &mut fs) {
+        if let Ok(prepared) = prepare_lent(problem, &mut ps, &mut es, &mut ns, &mut fs) {
             functions = prepared.tables.firsts.count;
         }
     }

@@ -21,9 +21,9 @@ use Rattle.meaning.proofs.OneWay.{faces_one_way, faces_walk, walk_faces}
 use Rattle.tokens.specs.Token.{Table}
 use Rattle.tokens.proofs.ProblemTokens.{pattern_table_lem}
 use Rattle.table.specs.Whole.{table_room}
-use Rattle.accept.specs.Acceptance.{Accepts, FacesFound, Stands}
+use Rattle.accept.specs.Acceptance.{AcceptsLent, FacesFound, Stands}
 use Rattle.accept.specs.declared.Standing.{Standing}
-use Rattle.accept.proofs.AcceptanceLaws.{patterns_few, verdict_accepted, verdict_refused}
+use Rattle.accept.proofs.AcceptanceLaws.{patterns_few, lent_accepted, lent_refused}
 use Rattle.said.specs.declared.Said.{Said}
 use Rattle.entries.specs.Sets.{SetOf}
 use Rattle.entries.specs.Fields.{kinds_at, known_at, open_unneeded_at, unneeded_open_at}
@@ -209,16 +209,16 @@ module _ (text : Bytes) (a : Standing) where
     }
 
 -- What `check_text` requires
-pub accepted_ground : (x : Answer Problem) (a : Standing) → Accepts x (Ok a) → Ground a
-accepted_ground x a h = let (p, e, stands) = verdict_accepted x a h in (p, stands)
+pub accepted_ground : (x : Answer Problem) (a : Standing) → AcceptsLent x (Ok a) → Ground a
+accepted_ground x a h = let (p, e, stands) = lent_accepted x a h in (p, stands)
 
 -- The problem, accepted or not
 module _ (s text : Bytes) where
-  pub check_refused : (e : Refusal) → Accepts (accept s) (Err e) → answer_of (Err e) ≡ check_call s text
+  pub check_refused : (e : Refusal) → AcceptsLent (accept s) (Err e) → answer_of (Err e) ≡ check_call s text
   unfolding check_call
-  check_refused e h = rw (verdict_refused (accept s) e h)
+  check_refused e h = rw (lent_refused (accept s) e h)
 
-  pub check_accepted : (a : Standing) → Accepts (accept s) (Ok a) → (r : Result Verdict Refusal) → CheckedText a text r
+  pub check_accepted : (a : Standing) → AcceptsLent (accept s) (Ok a) → (r : Result Verdict Refusal) → CheckedText a text r
       → answer_of r ≡ check_call s text
   unfolding check_call
-  check_accepted a h r t = let (p, e, stands) = verdict_accepted (accept s) a h in rw e (t.answer p stands)
+  check_accepted a h r t = let (p, e, stands) = lent_accepted (accept s) a h in rw e (t.answer p stands)

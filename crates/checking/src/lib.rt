@@ -7,7 +7,7 @@ ghost use Rattle.std.specs.Prelude.{◌≡◌};
 ghost use Rattle.meaning.specs.Entry.{check_call};
 ghost use Rattle.checking.specs.Checking.{SomeTold, OpenJudged, FieldsJudged, Ground, Decidable, Met, Passed, CheckedText, answer_of};
 
-use accept::{Standing, accept};
+use accept::{Standing, accept_lent};
 use entries::{holed, kinds, known, needed, open_unneeded, unneeded_open};
 use filled::filled;
 use items::{TEXT_ROOM, read_text};
@@ -88,6 +88,6 @@ pub fn check(problem: &[u8], text: &[u8]) -> Result<Verdict, Refusal>
     let mut patterns = [0u64; TABLE_ROOM];
     let mut expressions = [0u64; TABLE_ROOM];
     let mut faces = [0u64; TABLE_ROOM];
-    let standing = accept(problem, &mut patterns, &mut expressions, &mut faces)?;
+    let standing = accept_lent(problem, &mut patterns, &mut expressions, &mut faces)?;
     check_text(standing, text)
 }

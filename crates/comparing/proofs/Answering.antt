@@ -12,9 +12,9 @@ use Rattle.meaning.specs.Readable.{WithinLimits}
 use Rattle.table.specs.Whole.{table_room}
 use Rattle.numbers.specs.Numbering.{Numbered, Numerable}
 use Rattle.numbers.proofs.ProblemTable.{table_numerable, table_short}
-use Rattle.accept.specs.Acceptance.{Accepts, Stands}
+use Rattle.accept.specs.Acceptance.{AcceptsLent, Stands}
 use Rattle.accept.specs.declared.Standing.{Standing}
-use Rattle.accept.proofs.AcceptanceLaws.{verdict_refused, verdict_accepted}
+use Rattle.accept.proofs.AcceptanceLaws.{lent_refused, lent_accepted}
 use Rattle.comparing.specs.Comparing.{Nested, Present, Compares}
 use Rattle.comparing.specs.NumberedNodes.{NumbersNodes}
 use Rattle.tokens.specs.declared.same.Compared.{Compared}
@@ -24,18 +24,18 @@ use Rattle.comparing.proofs.NumberMeaning.{front_means}
 
 -- x is the answer to the bytes
 module _ (x : Answer Problem) where
-  module _ (r : Refusal) (done : Accepts x (Err r)) where
+  module _ (r : Refusal) (done : AcceptsLent x (Err r)) where
     pub answers_refused : (a b : ℕ) → Compares x a b (Err r)
     unfolding Compares
-    answers_refused a b = verdict_refused x r done
+    answers_refused a b = lent_refused x r done
 
     pub numbers_refused : (ns : List ℕ) → NumbersNodes x ns (Err r)
     unfolding NumbersNodes
-    numbers_refused ns = verdict_refused x r done
+    numbers_refused ns = lent_refused x r done
 
-  module _ (st : Standing) (done : Accepts x (Ok st)) where
+  module _ (st : Standing) (done : AcceptsLent x (Ok st)) where
     accepted : (p : Problem) × (x ≡ got p) × Stands p st
-    accepted = verdict_accepted x st done
+    accepted = lent_accepted x st done
 
     within : WithinLimits accepted.0
     within = accepted.2.accepted.within

@@ -8,7 +8,7 @@ ghost use Rattle.table.specs.Whole.{table_room};
 ghost use Rattle.comparing.specs.Comparing.{Nested, Shared, ComparedIn, Present, Compares};
 ghost use Rattle.comparing.specs.NumberedNodes.{NumbersNodes};
 
-use accept::accept;
+use accept::accept_lent;
 use numbers::make::number;
 use refusal::Refusal;
 use table::TABLE_ROOM;
@@ -82,7 +82,7 @@ pub fn compare_in(problem: &[u8], a: usize, b: usize) -> Result<Option<Compared>
     let mut patterns = [0u64; TABLE_ROOM];
     let mut expressions = [0u64; TABLE_ROOM];
     let mut faces = [0u64; TABLE_ROOM];
-    let standing = accept(problem, &mut patterns, &mut expressions, &mut faces)?;
+    let standing = accept_lent(problem, &mut patterns, &mut expressions, &mut faces)?;
     Ok(compare_present(standing.expressions, a, b))
 }
 
@@ -95,7 +95,7 @@ pub fn number_in(problem: &[u8], ns: &mut [u64]) -> Result<usize, Refusal>
     let mut expressions = [0u64; TABLE_ROOM];
     let mut faces = [0u64; TABLE_ROOM];
     let mut links = [0u64; TABLE_ROOM];
-    let lent = accept(problem, &mut patterns, &mut expressions, &mut faces)?;
+    let lent = accept_lent(problem, &mut patterns, &mut expressions, &mut faces)?;
     number(lent.expressions, ns, &mut links);
     Ok(lent.expressions.len())
 }

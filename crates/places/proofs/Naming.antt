@@ -28,9 +28,9 @@ use Rattle.rows.specs.Rows.{rows_of}
 use Rattle.rows.specs.declared.functions.Functions.{Functions}
 use Rattle.refusal.specs.Number.{number}
 use Rattle.refusal.specs.declared.Refusal.{Refusal}
-use Rattle.prepare.specs.Prepared.{Prepares, Ready}
+use Rattle.prepare.specs.Prepared.{PreparesLent, Ready}
 use Rattle.prepare.specs.declared.Prepared.{Prepared}
-use Rattle.prepare.proofs.PreparedLaws.{prepared_refused, prepared_accepted, ready_none, ready_rows}
+use Rattle.prepare.proofs.PreparedLaws.{prepared_lent_refused, prepared_lent_accepted, ready_none, ready_rows}
 use Rattle.places.specs.Places.{value_of, AtPast, IsRowOf, Begins}
 use Rattle.places.specs.declared.Place as code
 
@@ -125,13 +125,13 @@ pub ready_functions : (x : Answer Problem) (r : Prepared) (ready : Ready x r) �
 ready_functions x r ready = record { none = ready_none x r ready; listed = ready_rows x r ready }
 
 -- The answers of `start`
-pub starts_refused : (s : List ℕ) (e : Refusal) → Prepares (accept s) (Err e) → start_call s ≡ refused (number e)
+pub starts_refused : (s : List ℕ) (e : Refusal) → PreparesLent (accept s) (Err e) → start_call s ≡ refused (number e)
 unfolding start_call
-starts_refused s e h = rw (prepared_refused (accept s) e h)
+starts_refused s e h = rw (prepared_lent_refused (accept s) e h)
 
-pub starts_begins : (s : List ℕ) (r : Prepared) → Prepares (accept s) (Ok r) → (v : code.Place) → Begins r.functions v
+pub starts_begins : (s : List ℕ) (r : Prepared) → PreparesLent (accept s) (Ok r) → (v : code.Place) → Begins r.functions v
     → start_call s ≡ got (value_of v)
 unfolding start_call
 starts_begins s r h v b =
-    let ready = prepared_accepted (accept s) r h in
+    let ready = prepared_lent_accepted (accept s) r h in
     rw ready.answer (ap got (sym (begins_start ready.problem r.functions (ready_functions (accept s) r ready) v b)))

@@ -9,7 +9,7 @@ ghost use Rattle.masks.specs.Sets.{masks_in};
 ghost use Rattle.places.specs.Places.{AtRow, AtPast, Tells, Begins, Starts};
 
 use masks::NodeSet;
-use prepare::prepare;
+use prepare::prepare_lent;
 use refusal::Refusal;
 use rows::Functions;
 use table::TABLE_ROOM;
@@ -79,7 +79,7 @@ impl Place {
         let mut es = [0u64; TABLE_ROOM];
         let mut ns = [0u64; TABLE_ROOM];
         let mut fs = [0u64; TABLE_ROOM];
-        let prepared = prepare(problem, &mut ps, &mut es, &mut ns, &mut fs)?;
+        let prepared = prepare_lent(problem, &mut ps, &mut es, &mut ns, &mut fs)?;
         Ok(Place::first(prepared.functions))
     }
 }

@@ -37,9 +37,9 @@ use Rattle.fit.specs.Tables.{asked, judged_in}
 use Rattle.fit.specs.declared.tables.Tables.{Tables}
 use Rattle.fit.proofs.Meaning.{answers_some, judge_means}
 use Rattle.table.specs.Whole.{table_room}
-use Rattle.prepare.specs.Prepared.{Prepares, Ready}
+use Rattle.prepare.specs.Prepared.{PreparesLent, Ready}
 use Rattle.prepare.specs.declared.Prepared.{Prepared}
-use Rattle.prepare.proofs.PreparedLaws.{prepared_accepted, prepared_refused, ready_few, ready_laid, ready_rows}
+use Rattle.prepare.proofs.PreparedLaws.{prepared_lent_accepted, prepared_lent_refused, ready_few, ready_laid, ready_rows}
 use Rattle.places.specs.Places.{value_of, AtPast, IsNoPlace}
 use Rattle.places.specs.declared.Place as code
 use Rattle.places.proofs.Naming.{FunctionsIn, row_value_lem, past_value_lem, same_value, row_named, past_named, nothing_named, ready_functions}
@@ -220,20 +220,20 @@ module _ (prepared : Prepared) (place : code.Place) (n : ℕ) where
 
 -- What `search` learns of a prepared problem
 module _ (s : Bytes) where
-  pub prepared_callable : (prepared : Prepared) → Prepares (accept s) (Ok prepared) → (scratch : List ℕ) → table_room ≤ length scratch
+  pub prepared_callable : (prepared : Prepared) → PreparesLent (accept s) (Ok prepared) → (scratch : List ℕ) → table_room ≤ length scratch
       → Callable prepared scratch
   prepared_callable prepared h scratch l =
-      let ready = prepared_accepted (accept s) prepared h in
+      let ready = prepared_lent_accepted (accept s) prepared h in
       record { bytes = s; ready = ready; room = omega (arith, ready_few (accept s) prepared ready) }
 
   module _ (place : code.Place) (n : ℕ) where
-    pub search_refused : (e : Refusal) → Prepares (accept s) (Err e) → Answers s place n (Err e)
-    search_refused e h = answers_refused s place n e (prepared_refused (accept s) e h)
+    pub search_refused : (e : Refusal) → PreparesLent (accept s) (Err e) → Answers s place n (Err e)
+    search_refused e h = answers_refused s place n e (prepared_lent_refused (accept s) e h)
 
-    pub search_accepted : (prepared : Prepared) (r : Result Searched Refusal) → Prepares (accept s) (Ok prepared) → Placed prepared place n r
+    pub search_accepted : (prepared : Prepared) (r : Result Searched Refusal) → PreparesLent (accept s) (Ok prepared) → Placed prepared place n r
         → Answers s place n r
     unfolding Placed
-    search_accepted prepared r h q = q s (prepared_accepted (accept s) prepared h)
+    search_accepted prepared r h q = q s (prepared_lent_accepted (accept s) prepared h)
 
 -- What the call of `seek` requires
 pub callable_grounded : (prepared : Prepared) (scratch : List ℕ) → Callable prepared scratch → (f : Functions) → prepared.functions ≡ Some f

@@ -3,7 +3,7 @@ ghost use Rattle.masks.specs.Sets.{masks_in};
 ghost use Rattle.search.specs.Calling.{Callable, RowThere, Sought, Placed, Answers};
 
 use places::{Named, Place, named_by};
-use prepare::{Prepared, prepare};
+use prepare::{Prepared, prepare_lent};
 use refusal::Refusal;
 use rows::Functions;
 use seeking::{Fixed, Searched, ended};
@@ -60,6 +60,6 @@ pub fn search(problem: &[u8], place: Place, n: u32) -> Result<Searched, Refusal>
     let mut ns = [0u64; TABLE_ROOM];
     let mut fs = [0u64; TABLE_ROOM];
     let mut scratch = [0u64; TABLE_ROOM];
-    let prepared = prepare(problem, &mut ps, &mut es, &mut ns, &mut fs)?;
+    let prepared = prepare_lent(problem, &mut ps, &mut es, &mut ns, &mut fs)?;
     from_place(&prepared, place, n, &mut scratch)
 }

@@ -2,7 +2,7 @@
 ghost use Rattle.std.specs.Prelude.{◌≤◌, length};
 ghost use Rattle.terms.specs.Reading.{Space};
 
-use accept::accept;
+use accept::accept_lent;
 use refusal::Refusal;
 use std::io::Result as Written;
 use table::TABLE_ROOM;
@@ -20,7 +20,7 @@ pub fn show_problem(rt: &impl Print, label: &[u8], bytes: &[u8]) -> Written<()> 
     let mut expressions = [0u64; TABLE_ROOM];
     let mut faces = [0u64; TABLE_ROOM];
     rt.write_all(label)?;
-    match accept(bytes, &mut patterns, &mut expressions, &mut faces) {
+    match accept_lent(bytes, &mut patterns, &mut expressions, &mut faces) {
         Err(refusal) => print_refused(rt, refusal),
         Ok(a) => {
             let rows = if a.faces.is_some() { "rows" } else { "no rows" };

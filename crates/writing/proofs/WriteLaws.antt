@@ -28,9 +28,9 @@ use Rattle.masks.specs.Sets.{masks_in}
 use Rattle.tokens.specs.Token.{Table}
 use Rattle.tokens.proofs.ProblemTokens.{expression_table_lem}
 use Rattle.rows.specs.declared.functions.Functions.{Functions}
-use Rattle.prepare.specs.Prepared.{Prepares, Ready}
+use Rattle.prepare.specs.Prepared.{PreparesLent, Ready}
 use Rattle.prepare.specs.declared.Prepared.{Prepared}
-use Rattle.prepare.proofs.PreparedLaws.{prepared_accepted, prepared_refused, ready_laid}
+use Rattle.prepare.proofs.PreparedLaws.{prepared_lent_accepted, prepared_lent_refused, ready_laid}
 use Rattle.places.specs.Places.{value_of, Tells}
 use Rattle.places.specs.declared.Named.TheVariants as named
 use Rattle.places.specs.declared.Place.{Place}
@@ -213,9 +213,9 @@ module _ {a : Prepared} {row : Place} where
 
 -- The returns of `write`
 module _ (s : Bytes) (row : Place) {before : Bytes} where
-  pub write_refused : (e : Refusal) → Prepares (accept s) (Err e) → Writes s row before before (Err e)
-  write_refused e h = not_accepted (number e) (prepared_refused (accept s) e h)
+  pub write_refused : (e : Refusal) → PreparesLent (accept s) (Err e) → Writes s row before before (Err e)
+  write_refused e h = not_accepted (number e) (prepared_lent_refused (accept s) e h)
 
-  module _ (a : Prepared) (h : Prepares (accept s) (Ok a)) where
+  module _ (a : Prepared) (h : PreparesLent (accept s) (Ok a)) where
     pub write_accepted : {after : Bytes} {r : Result ℕ Refusal} → NamedWritten a row before after r → Writes s row before after r
-    write_accepted w = w.answer s (prepared_accepted (accept s) a h)
+    write_accepted w = w.answer s (prepared_lent_accepted (accept s) a h)

@@ -7,7 +7,7 @@ use composing::entry::Plan;
 use composing::text::{text_length, write_from};
 use fit::judge;
 use places::{Named, Place, named_by};
-use prepare::{Prepared, prepare};
+use prepare::{Prepared, prepare_lent};
 use refusal::Refusal;
 use table::TABLE_ROOM;
 
@@ -72,6 +72,6 @@ pub fn write(problem: &[u8], row: Place, out: &mut [u8]) -> Result<usize, Refusa
     let mut ns = [0u64; TABLE_ROOM];
     let mut fs = [0u64; TABLE_ROOM];
     let mut scratch = [0u64; TABLE_ROOM];
-    let prepared = prepare(problem, &mut ps, &mut es, &mut ns, &mut fs)?;
+    let prepared = prepare_lent(problem, &mut ps, &mut es, &mut ns, &mut fs)?;
     write_named(&prepared, row, &mut scratch, out)
 }

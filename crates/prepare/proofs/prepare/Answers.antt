@@ -1,22 +1,15 @@
--- `prepare` meets its contract: what `accept` lends is what the tables are made from.
-use native.Mathlib.Omega.{arith}
+-- `prepare` meets its contract: what `accept` leaves is what the tables are made from.
 use Rattle.std.proofs.lemmas.Result.{err_from_is_err_and}
-use Rattle.prepare.proofs.PreparedLaws.{prepares_refused, accepted_numerable, accepted_few, accepted_ground, prepares_accepted}
+use Rattle.prepare.proofs.PreparedLaws.{prepares_refused, accepts_ground, prepares_accepted}
 use Rattle.prepare.proofs.prepare.Goals as goal
 
-pub returns-in_err-standing : goal.returns-in_err-standing
-returns-in_err-standing c =
+pub returns-in_err-filled : goal.returns-in_err-filled
+returns-in_err-filled c =
     let p = err_from_is_err_and c.from_residual.result c.from_residual.ensures.1 in
-    rw (p.1, p.2) (prepares_refused _ _ c.in_err-standing.ensures)
+    rw (p.1, p.2) (prepares_refused _ _ _ _ _ _ _ _ c.in_err-filled.ensures)
 
-pub numbered-nodes-requires : goal.numbered-nodes-requires
-numbered-nodes-requires c =
-    let few = accepted_few _ _ c.in_ok-standing.ensures in
-    (accepted_numerable _ _ c.in_ok-standing.ensures, few, omega (arith, c.requires.room))
-
-pub looked_up-requires : goal.looked_up-requires
-looked_up-requires c =
-    accepted_ground _ _ c.in_ok-standing.ensures _ c.numbered-nodes.ensures.0 c.numbered-nodes.ensures.1
+pub with_numbers-requires-clause-ground : goal.with_numbers-requires-clause-ground
+with_numbers-requires-clause-ground c = accepts_ground _ _ _ _ _ _ _ c.in_ok-filled.ensures
 
 pub returns : goal.returns
-returns c = prepares_accepted _ _ c.in_ok-standing.ensures _ _ c.looked_up.ensures
+returns c = prepares_accepted _ _ _ _ _ _ _ c.in_ok-filled.ensures _ _ c.with_numbers.ensures
