@@ -1,10 +1,11 @@
 -- What reading and checking promises: `meaning`'s acceptance, and of an accepted problem its tables, metavariables and faces.
---   Passed    the tables of a problem passed the checks, and what is known of them
---   FacesAt   its faces are recorded at the front of a table, so many; or it has no rows
---   Kept      the same of the problem: it stands at the fronts of the two tables, and its faces are recorded
---   Accepts   the answer for any bytes
---   Stands    the problem as it is lent
---   AcceptsLent   the answer for any bytes, as it is lent
+--   Passed       the tables of a problem passed the checks, and what is known of them
+--   FacesFound   its faces are those that are recorded
+--   FacesAt      its faces are recorded at the front of a table, so many; or it has no rows
+--   Kept         the same of the problem: it stands at the fronts of the two tables, and its faces are recorded
+--   Accepts      the answer for any bytes
+--   Stands       the problem as it is lent
+--   AcceptsLent  the answer for any bytes, as it is lent
 use Rattle.std.specs.Prelude.{◌≡◌, ℕ, ◌≤◌, List, ◌++◌, length, take, drop, Result, Ok, Err, Some, None, MatchOption}
 use Rattle.std.specs.Prelude as std
 use Rattle.std.proofs.Math.Option.{none, some}
