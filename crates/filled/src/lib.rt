@@ -125,6 +125,7 @@ impl<'a> Filling<'a> {
     }
 
     // Whether the text gives the function of a recorded application a body, and with the application's argument it is what is faced.
+    #[tactic(auto, using(crate::proofs::CodeLaws::application_number), unfolding(meaning::specs::Limits::metavariable_count))]
     fn application_is(&self, face: u64, holes: &mut [u64], scratch: &mut [u64]) -> bool
         requires { Rooms self.now.ps.now self.now.ts.now holes.old scratch.old × Applied self.now.ps.now self.now.es.now self.now.ts.now self.now.said.now face }
         ensures { result ≡ application_at self.now.ps.now self.now.es.now self.now.ts.now self.now.said.now face }

@@ -2,26 +2,9 @@
 use mathlib.Core.Path.{◌∙◌, ap}
 use borrow.Author.Rules.{rules}
 use Rattle.std.specs.Prelude.{Some}
-use Rattle.meaning.specs.Limits.{metavariable_count}
 use Rattle.said.specs.declared.Field.{Field}
-use Rattle.filled.proofs.CodeLaws.{application_number, application_says, application_bodied}
+use Rattle.filled.proofs.CodeLaws.{application_says, application_bodied}
 use Rattle.filled.proofs.Filling.application_is.Goals as goal
-
-pub bounds-self-f : goal.bounds-self-f
-unfolding metavariable_count
-bounds-self-f c = application_number _ _ _ _ _ _ c.payload-f.ensures c.requires.1
-
-pub bounds : goal.bounds
-unfolding metavariable_count
-bounds c = application_number _ _ _ _ _ _ c.payload-f.ensures c.requires.1
-
-pub bounds-in-Some-1 : goal.bounds-in-Some-1
-unfolding metavariable_count
-bounds-in-Some-1 c = application_number _ _ _ _ _ _ c.payload-f.ensures c.requires.1
-
-pub bounds-self-f-in-Body-1 : goal.bounds-self-f-in-Body-1
-unfolding metavariable_count
-bounds-self-f-in-Body-1 c = application_number _ _ _ _ _ _ c.payload-f.ensures c.requires.1
 
 pub returns-in_default : goal.returns-in_default
 returns-in_default c = application_says _ _ _ _ _ _ c.payload-f.ensures _ c.in_default.is _ (search rules)
