@@ -27,8 +27,8 @@ pub struct Fronts {
     pub firsts: Firsts,
 }
 
-// The same as it is lent: its tables, with the nodes of its functions' faces, the sets of its metavariables, and its functions. None where it has no
-// rows: then the tables have no faces.
+// The same as it is lent: its tables, with the nodes of its functions' faces, the sets of its metavariables, and its functions. None where it
+// has no rows: then the tables have no faces.
 #[derive(Clone, Copy)]
 pub struct Prepared<'a> {
     pub tables: Tables<'a>,
@@ -92,32 +92,24 @@ fn lent<'a>(a: Fronts, ps: &'a [u64], nodes: Nodes<'a>, fs: &'a [u64]) -> Prepar
     ensures { Made ps.now nodes.entry fs.now a result }
 {
     let Fronts { filled, firsts } = a;
-    let patterns = &ps[..filled.patterns];
-    let occurring = filled.occurring;
-    let functions = occurring.functions;
-    match filled.faces {
-        Some(n) => Prepared {
-            tables: Tables {
-                patterns,
-                nodes,
-                faces: &fs[..n],
-                functions,
-                firsts,
-            },
-            occurring,
-            functions: Some(Functions { nodes, firsts }),
-        },
-        None => Prepared {
-            tables: Tables {
-                patterns,
-                nodes,
-                faces: &[],
-                functions,
-                firsts,
-            },
-            occurring,
-            functions: None,
-        },
+    let (faces, functions) = match filled.faces {
+        Some(n) => {
+            let functions = Functions { nodes, firsts };
+            (&fs[..n], Some(functions))
+        }
+        None => (&fs[..0], None),
+    };
+    let tables = Tables {
+        patterns: &ps[..filled.patterns],
+        nodes,
+        faces,
+        functions: filled.occurring.functions,
+        firsts,
+    };
+    Prepared {
+        tables,
+        occurring: filled.occurring,
+        functions,
     }
 }
 
