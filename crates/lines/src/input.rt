@@ -18,19 +18,33 @@ struct Asked<'a> {
     label: &'a [u8],
 }
 
-// Shows each line of standard input, which is read into the buffer; one that fills it may have been cut off. A line that can't be written is
-// given up, and the next one tried: the program that runs the examples has nobody to tell.
-pub fn for_each_line<F: Fn(&[u8]) -> Result<()>>(rt: &impl Print, buffer: &mut [u8], show: F)
+// Shows each line of standard input, which is read into the buffer; one that fills it may have been cut off. The first line that can't be
+// written is the last one tried.
+pub fn for_each_line<F: Fn(&[u8]) -> Result<()>>(
+    rt: &impl Print,
+    buffer: &mut [u8],
+    show: F,
+) -> Result<()>
     requires { F.IsAlwaysCallable show }
 {
     let n = io::read_full(0, buffer);
     if n == buffer.len() {
-        let _ = bad(rt, b"the input is too long");
-        return;
+        return bad(rt, b"the input is too long");
     }
     for line in buffer[..n].split_inclusive(|byte| *byte == b'\n') {
-        let _ = show(line.strip_suffix(b"\n").unwrap_or(line));
+        show(line.strip_suffix(b"\n").unwrap_or(line))?;
     }
+    Ok(())
+}
+
+// The same for a program that has nobody to tell: a line that can't be written is given up, and the next one tried.
+pub fn show_all<F: Fn(&[u8]) -> Result<()>>(rt: &impl Print, buffer: &mut [u8], show: F)
+    requires { F.IsAlwaysCallable show }
+{
+    let _ = for_each_line(rt, buffer, |line| {
+        let _ = show(line);
+        Ok(())
+    });
 }
 
 // The letter that a line begins with, which is not 0, and what stands after the space that follows it.

@@ -9,12 +9,12 @@ mod answer;
 mod line;
 
 use line::show;
-use lines::input::for_each_line;
+use lines::input::show_all;
 
 // The input may have one byte fewer, so that none is cut off.
 const ROOM: usize = 65536;
 
 fn main(rt: HostRuntime) {
     let mut input = [0u8; ROOM];
-    for_each_line(&rt, &mut input, |line| show(&rt, line));
+    show_all(&rt, &mut input, |line| show(&rt, line));
 }

@@ -13,12 +13,12 @@ mod line;
 mod written;
 
 use line::show;
-use lines::input::for_each_line;
+use lines::input::show_all;
 
 // The input may have one byte fewer, so that none is cut off.
 const ROOM: usize = 262144;
 
 fn main(rt: HostRuntime) {
     let mut input = [0u8; ROOM];
-    for_each_line(&rt, &mut input, |line| show(&rt, line));
+    show_all(&rt, &mut input, |line| show(&rt, line));
 }
