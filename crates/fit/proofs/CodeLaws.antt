@@ -242,7 +242,7 @@ module _ (ps es ns : List ℕ) (functions : ℕ) (nodes row faces : List ℕ) (e
 -- ---- the plain faces, and then the applications
 
 -- Before any demand
-none_kept_lem : (ns : List ℕ) → Kept ns none_kept
+pub none_kept_lem : (ns : List ℕ) → Kept ns none_kept
 unfolding metavariable_count
 none_kept_lem ns = record { long = refl; inside = λ m h node e. let q : first_of none_kept m ≡ None = get_or-replicate 32 m None None h in never (cc) }
 

@@ -40,8 +40,9 @@ use Rattle.rows.specs.Rows.{Faced, rows_of}
 use Rattle.fit.specs.Laid as fit
 use Rattle.fit.specs.declared.tables.Tables.{Tables}
 use Rattle.table.specs.Whole.{table_room}
-use Rattle.accept.specs.Acceptance.{FacesFound, FacesAt, Accepts}
+use Rattle.accept.specs.Acceptance.{FacesFound, FacesAt, Accepts, Stands}
 use Rattle.accept.specs.declared.Filled.{Filled}
+use Rattle.accept.specs.declared.Standing.{Standing}
 use Rattle.accept.proofs.AcceptanceLaws.{verdict_refused, verdict_accepted, patterns_front, expressions_front, patterns_few, expressions_few}
 use Rattle.refusal.specs.Number.{number}
 use Rattle.refusal.specs.declared.Refusal.{Refusal}
@@ -50,14 +51,37 @@ use Rattle.prepare.specs.Prepared.{FacesLaid, FunctionsOf, FacesMade, Made, Read
 use Rattle.prepare.specs.declared.Fronts.{Fronts}
 use Rattle.prepare.specs.declared.Prepared.{Prepared}
 
--- What the calls require, and the types, of an accepted problem
-module _ (p : Problem) (ps es fs : List ℕ) (a : Filled) (h : FrontsLaid p ps es fs a) where
+functions_within : (p : Problem) → Accepted p → (o : Occurring) → Surveyed (pattern_tokens p) o → count metavariable_count o.functions ≤ 8
+unfolding max_functions
+functions_within p accepted o survey =
+    let n = function_count_means p accepted.within o survey in
+    let m : length (functions p) ≤ 8 = few_functions p accepted in
+    omega arith
+
+-- What the calls require, and the types, of an accepted problem, as it is lent:
+module _ (p : Problem) (a : Standing) (h : Stands p a) where
   pub functions_few : count metavariable_count a.occurring.functions ≤ 8
-  unfolding max_functions
-  functions_few =
-      let n = function_count_means p h.accepted.within a.occurring h.survey in
-      let m : length (functions p) ≤ 8 = few_functions p h.accepted in
-      omega arith
+  functions_few = functions_within p h.accepted a.occurring h.survey
+
+  pub stands_numerable : Numerable a.expressions.now
+  stands_numerable = subst Numerable (sym h.expressions) (table_numerable p h.accepted.within)
+
+  pub stands_patterns : Table a.patterns.now
+  stands_patterns = subst Table (sym h.patterns) (pattern_table_lem p h.accepted.within)
+
+  pub stands_expressions : Table a.expressions.now
+  stands_expressions = subst Table (sym h.expressions) (expression_table_lem p h.accepted.within)
+
+  pub stands_nested : Nested a.expressions.now
+  stands_nested = stands_numerable.inside
+
+  pub stands_expressions_few : length a.expressions.now < table_room
+  stands_expressions_few = expressions_few p h.accepted.within a.expressions.now h.expressions
+
+-- ... and in the tables
+module _ (p : Problem) (ps es fs : List ℕ) (a : Filled) (h : FrontsLaid p ps es fs a) where
+  pub front_functions : count metavariable_count a.occurring.functions ≤ 8
+  front_functions = functions_within p h.accepted a.occurring h.survey
 
   pub table_numbers : Numerable (take a.expressions es)
   table_numbers = subst Numerable (sym h.expressions) (table_numerable p h.accepted.within)

@@ -3,12 +3,12 @@ use mathlib.Core.Path.{refl}
 use native.Mathlib.Omega.{arith}
 use lib.Seq.{length-take-le}
 use Rattle.numbers.proofs.AlikeLaws.{numbers_front}
-use Rattle.prepare.proofs.PreparedLaws.{functions_few, table_numbers, table_few}
+use Rattle.prepare.proofs.PreparedLaws.{front_functions, table_numbers, table_few}
 use Rattle.prepare.proofs.with_numbers.Goals as goal
 use Rattle.prepare.proofs.with_numbers.Goals.{in-Some, in-None}
 
 pub first_faces-firsts-requires : goal.first_faces-firsts-requires
-first_faces-firsts-requires c = functions_few _ _ _ _ _ c.requires.ground.1
+first_faces-firsts-requires c = front_functions _ _ _ _ _ c.requires.ground.1
 
 pub number_nodes-requires : goal.number_nodes-requires
 number_nodes-requires c =
