@@ -19,7 +19,7 @@ struct Asked<'a> {
 }
 
 // Shows each line of standard input, which is read into the buffer; one that fills it may have been cut off. The first line that can't be
-// written is the last one tried.
+// written is the last one tried, and its failure the answer.
 pub fn for_each_line<F: Fn(&[u8]) -> Result<()>>(
     rt: &impl Print,
     buffer: &mut [u8],

@@ -51,6 +51,7 @@ use Rattle.prepare.specs.Prepared.{FacesLaid, FunctionsOf, FacesMade, Made, Read
 use Rattle.prepare.specs.declared.Fronts.{Fronts}
 use Rattle.prepare.specs.declared.Prepared.{Prepared}
 
+-- A problem has few functions: its survey counts no more than a row has sets for
 functions_within : (p : Problem) → Accepted p → (o : Occurring) → Surveyed (pattern_tokens p) o → count metavariable_count o.functions ≤ 8
 unfolding max_functions
 functions_within p accepted o survey =
@@ -58,7 +59,7 @@ functions_within p accepted o survey =
     let m : length (functions p) ≤ 8 = few_functions p accepted in
     omega arith
 
--- What the calls require, and the types, of an accepted problem, as it is lent:
+-- What is known of an accepted problem as `accept_lent` lends it: for who goes on with its slices, which nothing here does
 module _ (p : Problem) (a : Standing) (h : Stands p a) where
   pub functions_few : count metavariable_count a.occurring.functions ≤ 8
   functions_few = functions_within p h.accepted a.occurring h.survey
@@ -78,7 +79,7 @@ module _ (p : Problem) (a : Standing) (h : Stands p a) where
   pub stands_expressions_few : length a.expressions.now < table_room
   stands_expressions_few = expressions_few p h.accepted.within a.expressions.now h.expressions
 
--- ... and in the tables
+-- What the calls require, and the types, of an accepted problem in the tables
 module _ (p : Problem) (ps es fs : List ℕ) (a : Filled) (h : FrontsLaid p ps es fs a) where
   pub front_functions : count metavariable_count a.occurring.functions ≤ 8
   front_functions = functions_within p h.accepted a.occurring h.survey
