@@ -59,7 +59,7 @@ functions_within p accepted o survey =
     let m : length (functions p) ≤ 8 = few_functions p accepted in
     omega arith
 
--- What is known of an accepted problem as `accept_lent` lends it: for who goes on with its slices, which nothing here does
+-- What is known of an accepted problem as `accept_lent` lends it: for who goes on with its slices, which nothing in this crate does
 module _ (p : Problem) (a : Standing) (h : Stands p a) where
   pub functions_few : count metavariable_count a.occurring.functions ≤ 8
   functions_few = functions_within p h.accepted a.occurring h.survey
